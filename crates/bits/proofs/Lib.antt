@@ -1,0 +1,5 @@
+pub mod Tests
+pub mod Spelling
+pub mod Padding
+pub mod OneBit
+pub mod Fields
