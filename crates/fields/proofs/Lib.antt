@@ -1,0 +1,5 @@
+pub mod Digits
+pub mod Lookup
+pub mod Judging
+pub mod Lawful
+pub mod Cases

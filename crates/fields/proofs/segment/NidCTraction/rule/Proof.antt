@@ -1,0 +1,22 @@
+-- `fields::segment::NidCTraction::rule` meets its contract.
+use Rattle.fields.proofs.Judging.{traction-other}
+use Rattle.fields.specs.Kind.{upTo}
+use mathlib.Core.Path.{ap, _∙_}
+use borrow.Author.Needs.{needs}
+use Rattle.fields.proofs.segment.NidCTraction.rule.Statement.{statement}
+use Rattle.fields.proofs.segment.NidCTraction.rule.Tie as tie
+
+up-to-requires : tie.Need-up-to-requires
+up-to-requires c κs = search needs
+
+up-to-requires-2 : tie.Need-up-to-requires-2
+up-to-requires-2 c κs = search needs
+
+returns : tie.Need-returns
+returns c = rw (c .before .if1 .taken) (c .up-to .ensures)
+
+returns-2 : tie.Need-returns-2
+returns-2 c = c .up-to2 .ensures ∙ ap (upTo 10) (traction-other (c .before .before .args .voltage) (c .before .if1 .left))
+
+pub rule-spec : {M : Type 1} → statement M
+rule-spec = tie.close (tie.spec up-to-requires up-to-requires-2 returns returns-2)

@@ -1,0 +1,21 @@
+-- `fields::segment::class_at` meets its contract.
+use Rattle.fields.proofs.Judging.{class-other}
+use mathlib.Core.Path.{_∙_}
+use borrow.Author.Needs.{needs}
+use Rattle.fields.proofs.segment.class_at.Statement.{statement}
+use Rattle.fields.proofs.segment.class_at.Tie as tie
+
+rule-requires : tie.Need-rule-requires
+rule-requires c κs = search needs
+
+rule-requires-2 : tie.Need-rule-requires-2
+rule-requires-2 c κs = search needs
+
+returns : tie.Need-returns
+returns c = rw (c .before .if1 .taken) (c .rule .ensures .kind)
+
+returns-2 : tie.Need-returns-2
+returns-2 c = c .rule2 .ensures .kind ∙ class-other (c .before .before .args .q-diff) (c .before .if1 .left)
+
+pub class-at-spec : {M : Type 1} → statement M
+class-at-spec = tie.close (tie.spec rule-requires rule-requires-2 returns returns-2)

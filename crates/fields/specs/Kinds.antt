@@ -1,0 +1,116 @@
+-- The field kinds of the header and the segment, in the order of the packet.
+-- Assumes nothing.
+use mathlib.Core.Bool.{Bool, true, false, cond, _&&_, _||_}
+use mathlib.Core.Option.{Option, none, some}
+use Prim.Native.Nat.{ℕ, zero, suc, _+_, _*_, _-_, _/_, _%_}
+use lib.Dec.{eqb, ltb, leb}
+use Rattle.fields.specs.Kind.{Kind, when, same, range, upTo}
+use Rattle.fields.specs.Tables.{cantFigures, volts, entryOf}
+
+-- ---- "Header, 120 bits"
+
+-- "6 on our link", refused with 2
+abbrev pub nidPacketAto : Kind
+nidPacketAto = range 8 6 6 2
+
+abbrev pub lPacketAto : Kind
+lPacketAto = upTo 16 65535
+
+-- "0 to 9 or F"
+abbrev pub digit : ℕ → Bool
+digit d = leb d 9 || eqb d 15
+
+-- "Each four-bit digit of NID_OPERATIONAL is 0 to 9 or F": n digits, and no more
+unfoldable pub digits : ℕ → ℕ → Bool
+digits zero v = eqb v 0
+digits (suc n) v = digit (v % 16) && digits n (v / 16)
+
+abbrev pub nidOperational : Kind
+nidOperational = same 32 4294967295 4 (digits 8)
+
+abbrev pub nidEngine : Kind
+nidEngine = upTo 24 16777215
+
+abbrev pub tTimestampDate : Kind
+tTimestampDate = upTo 15 32767
+
+abbrev pub tTimestampSeconds : Kind
+tTimestampSeconds = upTo 17 86399
+
+abbrev pub nPacketCounter : Kind
+nPacketCounter = upTo 8 255
+
+-- ---- "Body, in order"
+
+abbrev pub nidC : Kind
+nidC = upTo 10 1023
+
+abbrev pub nidSp : Kind
+nidSp = upTo 32 4294967295
+
+-- "version 8 + 8"
+abbrev pub mSpVersion : Kind
+mSpVersion = upTo 8 255
+
+abbrev pub lSp : Kind
+lSp = range 24 1 16777215 4
+
+abbrev pub dEoAOffset : Kind
+dEoAOffset = upTo 24 16777215
+
+abbrev pub qUtcOffset : Kind
+qUtcOffset = upTo 7 112
+
+-- "sent with 100,000 added", and so in the sheet
+abbrev pub mSpAltitude : Kind
+mSpAltitude = upTo 20 1048575
+
+-- "km/h, 0 to 604", "whole part of speed / 5"; "Back from the packet, speeds are times 5"
+abbrev pub speed : Kind
+speed = record { width = 7; largest = 120; allowed = λ v. leb v 120; refusal = 4; lower = λ a. when (leb a 604) (a / 5); raise = λ v. v * 5 }
+
+abbrev pub qFront : Kind
+qFront = upTo 1 1
+
+abbrev pub nIter : ℕ → Kind
+nIter most = upTo 5 most
+
+abbrev pub qDiff : Kind
+qDiff = upTo 2 2
+
+abbrev pub ncCdDiff : Kind
+ncCdDiff = entryOf 4 cantFigures
+
+abbrev pub ncDiff : Kind
+ncDiff = upTo 4 2
+
+-- "The class is NC_CDDIFF 0 to 10 where Q_DIFF is 0, else NC_DIFF 0 to 2"
+abbrev pub class : ℕ → Kind
+class zero = ncCdDiff
+class (suc q) = ncDiff
+
+-- "a change's location that does not rise, is 0, or is at or past L_SP, however large" is refused with 5
+abbrev pub dLocation : ℕ → ℕ → Kind
+dLocation last lsp = same 24 16777215 5 (λ x. ltb last x && ltb x lsp)
+
+abbrev pub mVoltage : Kind
+mVoltage = entryOf 4 volts
+
+-- "NID_CTRACTION is always sent and is 0 where the voltage is 0"
+abbrev pub mostTraction : ℕ → ℕ
+mostTraction zero = 0
+mostTraction (suc u) = 1023
+
+abbrev pub nidCTraction : ℕ → Kind
+nidCTraction u = upTo 10 (mostTraction u)
+
+-- "0 for no limit, else amperes + 1, amperes 0 to 10,009"; "1,023 for no limit, else whole part of amperes / 10"
+abbrev pub mCurrent : Kind
+mCurrent = record {
+  width = 10;
+  largest = 1023;
+  allowed = λ v. leb v 1000 || eqb v 1023;
+  refusal = 4;
+  lower = λ a. cond (eqb a 0) (some 1023) (when (leb (a - 1) 10009) ((a - 1) / 10));
+  raise = λ v. cond (eqb v 1023) 0 (v * 10 + 1);
+}

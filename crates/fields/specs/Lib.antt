@@ -1,0 +1,4 @@
+pub mod Kind
+pub mod Tables
+pub mod Kinds
+pub mod Judged

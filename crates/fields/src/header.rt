@@ -1,0 +1,113 @@
+// The field kinds of a packet's header, in its order.
+ghost use mathlib.Core.Path.{_≡_};
+ghost use Rattle.fields.specs.Kinds.{nidPacketAto, lPacketAto, nidOperational, nidEngine, tTimestampDate, tTimestampSeconds, nPacketCounter};
+ghost use Rattle.fields.specs.Judged.{Keeps};
+use crate::PACKET_NUMBER;
+use crate::Rule;
+use crate::up_to;
+
+// 6 on our link.
+pub struct NidPacketAto;
+
+impl NidPacketAto {
+    pub const WIDTH: u32 = 8;
+
+    pub const LARGEST: u32 = 6;
+
+    pub fn rule() -> Rule
+        ensures { λ r. do ⌜ Keeps nidPacketAto (← ⟦NidPacketAto::WIDTH⟧ .entry) (← ⟦NidPacketAto::LARGEST⟧ .entry) r ⌝ }
+    {
+        Rule::Range {
+            width: Self::WIDTH,
+            least: Self::LARGEST,
+            largest: Self::LARGEST,
+            refusal: PACKET_NUMBER,
+        }
+    }
+}
+
+// The body's bits, without header and padding.
+pub struct LPacketAto;
+
+impl LPacketAto {
+    pub const WIDTH: u32 = 16;
+
+    pub const LARGEST: u32 = 65535;
+
+    pub fn rule() -> Rule
+        ensures { λ r. do ⌜ Keeps lPacketAto (← ⟦LPacketAto::WIDTH⟧ .entry) (← ⟦LPacketAto::LARGEST⟧ .entry) r ⌝ }
+    {
+        up_to(Self::WIDTH, Self::LARGEST)
+    }
+}
+
+// Eight digits of four bits.
+pub struct NidOperational;
+
+impl NidOperational {
+    pub const WIDTH: u32 = 32;
+
+    pub const LARGEST: u32 = 4294967295;
+
+    pub fn rule() -> Rule
+        ensures { λ r. do ⌜ Keeps nidOperational (← ⟦NidOperational::WIDTH⟧ .entry) (← ⟦NidOperational::LARGEST⟧ .entry) r ⌝ }
+    {
+        Rule::Operational
+    }
+}
+
+pub struct NidEngine;
+
+impl NidEngine {
+    pub const WIDTH: u32 = 24;
+
+    pub const LARGEST: u32 = 16777215;
+
+    pub fn rule() -> Rule
+        ensures { λ r. do ⌜ Keeps nidEngine (← ⟦NidEngine::WIDTH⟧ .entry) (← ⟦NidEngine::LARGEST⟧ .entry) r ⌝ }
+    {
+        up_to(Self::WIDTH, Self::LARGEST)
+    }
+}
+
+pub struct TTimestampDate;
+
+impl TTimestampDate {
+    pub const WIDTH: u32 = 15;
+
+    pub const LARGEST: u32 = 32767;
+
+    pub fn rule() -> Rule
+        ensures { λ r. do ⌜ Keeps tTimestampDate (← ⟦TTimestampDate::WIDTH⟧ .entry) (← ⟦TTimestampDate::LARGEST⟧ .entry) r ⌝ }
+    {
+        up_to(Self::WIDTH, Self::LARGEST)
+    }
+}
+
+pub struct TTimestampSeconds;
+
+impl TTimestampSeconds {
+    pub const WIDTH: u32 = 17;
+
+    pub const LARGEST: u32 = 86399;
+
+    pub fn rule() -> Rule
+        ensures { λ r. do ⌜ Keeps tTimestampSeconds (← ⟦TTimestampSeconds::WIDTH⟧ .entry) (← ⟦TTimestampSeconds::LARGEST⟧ .entry) r ⌝ }
+    {
+        up_to(Self::WIDTH, Self::LARGEST)
+    }
+}
+
+pub struct NPacketCounter;
+
+impl NPacketCounter {
+    pub const WIDTH: u32 = 8;
+
+    pub const LARGEST: u32 = 255;
+
+    pub fn rule() -> Rule
+        ensures { λ r. do ⌜ Keeps nPacketCounter (← ⟦NPacketCounter::WIDTH⟧ .entry) (← ⟦NPacketCounter::LARGEST⟧ .entry) r ⌝ }
+    {
+        up_to(Self::WIDTH, Self::LARGEST)
+    }
+}

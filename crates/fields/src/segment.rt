@@ -1,0 +1,285 @@
+// The field kinds of a segment, in the order of a packet's body.
+ghost use mathlib.Core.Path.{_≡_};
+ghost use Rattle.fields.specs.Kinds.{nidC, nidSp, mSpVersion, lSp, dEoAOffset, qUtcOffset, mSpAltitude, speed, qFront, nIter, qDiff, ncCdDiff, ncDiff, class, dLocation, mVoltage, mostTraction, nidCTraction, mCurrent};
+ghost use Rattle.fields.specs.Judged.{Keeps, meaning};
+use crate::OUT_OF_RANGE;
+use crate::Rule;
+use crate::up_to;
+
+pub struct NidC;
+
+impl NidC {
+    pub const WIDTH: u32 = 10;
+
+    pub const LARGEST: u32 = 1023;
+
+    pub fn rule() -> Rule
+        ensures { λ r. do ⌜ Keeps nidC (← ⟦NidC::WIDTH⟧ .entry) (← ⟦NidC::LARGEST⟧ .entry) r ⌝ }
+    {
+        up_to(Self::WIDTH, Self::LARGEST)
+    }
+}
+
+pub struct NidSp;
+
+impl NidSp {
+    pub const WIDTH: u32 = 32;
+
+    pub const LARGEST: u32 = 4294967295;
+
+    pub fn rule() -> Rule
+        ensures { λ r. do ⌜ Keeps nidSp (← ⟦NidSp::WIDTH⟧ .entry) (← ⟦NidSp::LARGEST⟧ .entry) r ⌝ }
+    {
+        up_to(Self::WIDTH, Self::LARGEST)
+    }
+}
+
+// The major version, and the minor one.
+pub struct MSpVersion;
+
+impl MSpVersion {
+    pub const WIDTH: u32 = 8;
+
+    pub const LARGEST: u32 = 255;
+
+    pub fn rule() -> Rule
+        ensures { λ r. do ⌜ Keeps mSpVersion (← ⟦MSpVersion::WIDTH⟧ .entry) (← ⟦MSpVersion::LARGEST⟧ .entry) r ⌝ }
+    {
+        up_to(Self::WIDTH, Self::LARGEST)
+    }
+}
+
+// The segment's length in cm.
+pub struct LSp;
+
+impl LSp {
+    pub const WIDTH: u32 = 24;
+
+    pub const LARGEST: u32 = 16777215;
+
+    pub const LEAST: u32 = 1;
+
+    pub fn rule() -> Rule
+        ensures { λ r. do ⌜ Keeps lSp (← ⟦LSp::WIDTH⟧ .entry) (← ⟦LSp::LARGEST⟧ .entry) r ⌝ }
+    {
+        Rule::Range {
+            width: Self::WIDTH,
+            least: Self::LEAST,
+            largest: Self::LARGEST,
+            refusal: OUT_OF_RANGE,
+        }
+    }
+}
+
+pub struct DEoAOffset;
+
+impl DEoAOffset {
+    pub const WIDTH: u32 = 24;
+
+    pub const LARGEST: u32 = 16777215;
+
+    pub fn rule() -> Rule
+        ensures { λ r. do ⌜ Keeps dEoAOffset (← ⟦DEoAOffset::WIDTH⟧ .entry) (← ⟦DEoAOffset::LARGEST⟧ .entry) r ⌝ }
+    {
+        up_to(Self::WIDTH, Self::LARGEST)
+    }
+}
+
+pub struct QUtcOffset;
+
+impl QUtcOffset {
+    pub const WIDTH: u32 = 7;
+
+    pub const LARGEST: u32 = 112;
+
+    pub fn rule() -> Rule
+        ensures { λ r. do ⌜ Keeps qUtcOffset (← ⟦QUtcOffset::WIDTH⟧ .entry) (← ⟦QUtcOffset::LARGEST⟧ .entry) r ⌝ }
+    {
+        up_to(Self::WIDTH, Self::LARGEST)
+    }
+}
+
+// Centimetres, with 100,000 added.
+pub struct MSpAltitude;
+
+impl MSpAltitude {
+    pub const WIDTH: u32 = 20;
+
+    pub const LARGEST: u32 = 1048575;
+
+    pub fn rule() -> Rule
+        ensures { λ r. do ⌜ Keeps mSpAltitude (← ⟦MSpAltitude::WIDTH⟧ .entry) (← ⟦MSpAltitude::LARGEST⟧ .entry) r ⌝ }
+    {
+        up_to(Self::WIDTH, Self::LARGEST)
+    }
+}
+
+// V_STATIC, and V_DIFF of a specific entry: steps of 5 km/h.
+pub struct VStatic;
+
+impl VStatic {
+    pub const WIDTH: u32 = 7;
+
+    pub const LARGEST: u32 = 120;
+
+    pub const STEP: u32 = 5;
+
+    pub fn rule() -> Rule
+        ensures { λ r. do ⌜ Keeps speed (← ⟦VStatic::WIDTH⟧ .entry) (← ⟦VStatic::LARGEST⟧ .entry) r ⌝ }
+    {
+        Rule::Speed
+    }
+}
+
+pub struct QFront;
+
+impl QFront {
+    pub const WIDTH: u32 = 1;
+
+    pub const LARGEST: u32 = 1;
+
+    pub fn rule() -> Rule
+        ensures { λ r. do ⌜ Keeps qFront (← ⟦QFront::WIDTH⟧ .entry) (← ⟦QFront::LARGEST⟧ .entry) r ⌝ }
+    {
+        up_to(Self::WIDTH, Self::LARGEST)
+    }
+}
+
+// A count of entries or of changes, up to the limit of its list.
+pub struct NIter;
+
+impl NIter {
+    pub const WIDTH: u32 = 5;
+
+    pub const LARGEST: u32 = 31;
+
+    pub fn rule(most: u32) -> Rule
+        ensures { λ r. do ⌜ Keeps (nIter most) (← ⟦NIter::WIDTH⟧ .entry) most r ⌝ }
+    {
+        up_to(Self::WIDTH, most)
+    }
+}
+
+pub struct QDiff;
+
+impl QDiff {
+    pub const WIDTH: u32 = 2;
+
+    pub const LARGEST: u32 = 2;
+
+    pub fn rule() -> Rule
+        ensures { λ r. do ⌜ Keeps qDiff (← ⟦QDiff::WIDTH⟧ .entry) (← ⟦QDiff::LARGEST⟧ .entry) r ⌝ }
+    {
+        up_to(Self::WIDTH, Self::LARGEST)
+    }
+}
+
+// A place among the cant figures.
+pub struct NcCdDiff;
+
+impl NcCdDiff {
+    pub const WIDTH: u32 = 4;
+
+    pub const LARGEST: u32 = 10;
+
+    pub fn rule() -> Rule
+        ensures { λ r. do ⌜ Keeps ncCdDiff (← ⟦NcCdDiff::WIDTH⟧ .entry) (← ⟦NcCdDiff::LARGEST⟧ .entry) r ⌝ }
+    {
+        Rule::Cant
+    }
+}
+
+pub struct NcDiff;
+
+impl NcDiff {
+    pub const WIDTH: u32 = 4;
+
+    pub const LARGEST: u32 = 2;
+
+    pub fn rule() -> Rule
+        ensures { λ r. do ⌜ Keeps ncDiff (← ⟦NcDiff::WIDTH⟧ .entry) (← ⟦NcDiff::LARGEST⟧ .entry) r ⌝ }
+    {
+        up_to(Self::WIDTH, Self::LARGEST)
+    }
+}
+
+// A change's location, after the last one and before the segment's end.
+pub struct DLocation;
+
+impl DLocation {
+    pub const WIDTH: u32 = 24;
+
+    pub const LARGEST: u32 = 16777215;
+
+    pub fn rule(last: u32, lsp: u32) -> Rule
+        ensures { λ r. do ⌜ Keeps (dLocation last lsp) (← ⟦DLocation::WIDTH⟧ .entry) (← ⟦DLocation::LARGEST⟧ .entry) r ⌝ }
+    {
+        Rule::Location { last, lsp }
+    }
+}
+
+// A place among the volts.
+pub struct MVoltage;
+
+impl MVoltage {
+    pub const WIDTH: u32 = 4;
+
+    pub const LARGEST: u32 = 5;
+
+    pub fn rule() -> Rule
+        ensures { λ r. do ⌜ Keeps mVoltage (← ⟦MVoltage::WIDTH⟧ .entry) (← ⟦MVoltage::LARGEST⟧ .entry) r ⌝ }
+    {
+        Rule::Volts
+    }
+}
+
+pub struct NidCTraction;
+
+impl NidCTraction {
+    pub const WIDTH: u32 = 10;
+
+    pub const LARGEST: u32 = 1023;
+
+    // At a voltage: 0 where that is 0.
+    pub fn rule(voltage: u32) -> Rule
+        ensures { λ r. ⌜ meaning r ≡ nidCTraction voltage ⌝ }
+    {
+        if voltage == 0 {
+            up_to(Self::WIDTH, 0)
+        } else {
+            up_to(Self::WIDTH, Self::LARGEST)
+        }
+    }
+}
+
+// Steps of 10 A up to the highest limit, or no limit.
+pub struct MCurrent;
+
+impl MCurrent {
+    pub const WIDTH: u32 = 10;
+
+    pub const LARGEST: u32 = 1023;
+
+    pub const NO_LIMIT: u32 = 1023;
+
+    pub const HIGHEST: u32 = 1000;
+
+    pub const STEP: u32 = 10;
+
+    pub fn rule() -> Rule
+        ensures { λ r. do ⌜ Keeps mCurrent (← ⟦MCurrent::WIDTH⟧ .entry) (← ⟦MCurrent::LARGEST⟧ .entry) r ⌝ }
+    {
+        Rule::Current
+    }
+}
+
+// The class of a specific entry: NC_CDDIFF where Q_DIFF is 0, else NC_DIFF.
+pub fn class_at(q_diff: u32) -> Rule
+    ensures { λ r. ⌜ meaning r ≡ class «q_diff» ⌝ }
+{
+    if q_diff == 0 {
+        NcCdDiff::rule()
+    } else {
+        NcDiff::rule()
+    }
+}
