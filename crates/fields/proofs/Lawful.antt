@@ -9,25 +9,33 @@ use native.Mathlib.Nat.{lt-of-lt-of-le, mul-div-cancel}
 use native.Mathlib.Omega.{arith}
 use borrow.Author.Tests.{ltb-true, leb-true, eqb-true, lt-ltb, le-leb, ne-eqb}
 use lib.Dec.{eqb, ltb, leb, lit<, lit≤}
-use lib.ListN.{length, getD}
+use lib.ListN.{length}
 use lib.Pow.{pow-mono}
-use Rattle.bits.proofs.Tests.{by-cases, and-right, or-cases, each, each-at}
+use Rattle.bits.proofs.Tests.{by-cases, and-right, or-cases}
 use Rattle.fields.specs.Kind.{Kind, when, same, range, upTo}
-use Rattle.fields.specs.Tables.{cantFigures, volts, entryOf}
+use Rattle.fields.specs.Tables.{cantFigures, volts, entryOf, greatest}
 use Rattle.fields.specs.Kinds.{nidOperational, speed, class, dLocation, mVoltage, mostTraction, nidCTraction, mCurrent}
 use Rattle.fields.proofs.Digits.{digits-small}
-use Rattle.fields.proofs.Lookup.{distinct, place-small, place-again, cants-distinct, volts-distinct}
+use Rattle.fields.proofs.Lookup.{distinct, place-small, place-top, place-again, cants-distinct, volts-distinct}
 
 pub record LawfulKind (k : Kind) : Type 0 where
+  -- the width, the largest value in a packet, the highest number in a sheet
   pub narrow : k .width ≤ 32
-  -- allowed values fit the width
-  pub small : (v : ℕ) → k .allowed v ≡ true → v < 2 ^ k .width
-  -- their sheet numbers fit 32 bits
-  pub short : (v : ℕ) → k .allowed v ≡ true → k .raise v < 2 ^ 32
+  pub holds : k .largest < 2 ^ k .width
+  pub short : k .highest < 2 ^ 32
+  pub most : (v : ℕ) → k .allowed v ≡ true → v ≤ k .largest
+  pub top : (a v : ℕ) → k .lower a ≡ some v → a ≤ k .highest
   -- lowering undoes raising
   pub back : (v : ℕ) → k .allowed v ≡ true → k .lower (k .raise v) ≡ some v
   -- what is lowered is allowed
   pub into : (a v : ℕ) → k .lower a ≡ some v → k .allowed v ≡ true
+
+-- allowed values fit the width, and their sheet numbers 32 bits
+pub value-small : {k : Kind} → LawfulKind k → (v : ℕ) → k .allowed v ≡ true → v < 2 ^ k .width
+value-small w v e = omega (arith, w .most v e, w .holds)
+
+pub raised-small : {k : Kind} → LawfulKind k → (v : ℕ) → k .allowed v ≡ true → k .raise v < 2 ^ 32
+raised-small {k} w v e = omega (arith, w .top (k .raise v) v (w .back v e), w .short)
 
 when-some : {C : Type 0} (b : Bool) (a v : ℕ) → when b a ≡ some v → (b ≡ true → a ≡ v → C) → C
 when-some true a v e f = f refl (cc)
@@ -35,29 +43,32 @@ when-some false a v e f = absurd (let z : _≡_ {A = ℕ} 0 1 = cc in omega arit
 
 -- ---- the same number in both
 
-same-lawful : (width largest refusal : ℕ) (ok : ℕ → Bool) → width ≤ 32 → ((v : ℕ) → ok v ≡ true → v < 2 ^ width) → LawfulKind (same width largest refusal ok)
-same-lawful width largest refusal ok h small = record {
-  narrow = h;
-  small = small;
-  short = λ v e. lt-of-lt-of-le (small v e) (pow-mono h);
+same-lawful : (width largest refusal : ℕ) (ok : ℕ → Bool) → width ≤ 32 → largest < 2 ^ width → ((v : ℕ) → ok v ≡ true → v ≤ largest)
+    → LawfulKind (same width largest refusal ok)
+same-lawful width largest refusal ok n h most = record {
+  narrow = n;
+  holds = h;
+  short = lt-of-lt-of-le h (pow-mono n);
+  most = most;
+  top = λ a v e. when-some (ok a) a v e λ t q. most a t;
   back = λ v e. rw e;
   into = λ a v e. when-some (ok a) a v e λ t q. rw q at t;
 }
 
 pub range-lawful : (width least largest refusal : ℕ) → width ≤ 32 → largest < 2 ^ width → LawfulKind (range width least largest refusal)
-range-lawful width least largest refusal h m =
-    same-lawful width largest refusal (λ v. leb least v && leb v largest) h
-    λ v e. omega (arith, leb-true v largest (and-right (leb least v) (leb v largest) e))
+range-lawful width least largest refusal n h =
+    same-lawful width largest refusal (λ v. leb least v && leb v largest) n h
+    λ v e. leb-true v largest (and-right (leb least v) (leb v largest) e)
 
 pub upTo-lawful : (width largest : ℕ) → width ≤ 32 → largest < 2 ^ width → LawfulKind (upTo width largest)
 upTo-lawful width largest h m = range-lawful width 0 largest 4 h m
 
 pub operational-lawful : LawfulKind nidOperational
-operational-lawful = same-lawful 32 4294967295 4 (nidOperational .allowed) (lit≤ tt) λ v e. digits-small 8 v e
+operational-lawful = same-lawful 32 4294967295 4 (nidOperational .allowed) (lit≤ tt) (lit< tt) λ v e. omega (arith, digits-small 8 v e)
 
 pub location-lawful : (last lsp : ℕ) → lsp < 2 ^ 24 → LawfulKind (dLocation last lsp)
 location-lawful last lsp h =
-    same-lawful 24 16777215 5 (dLocation last lsp .allowed) (lit≤ tt)
+    same-lawful 24 16777215 5 (dLocation last lsp .allowed) (lit≤ tt) (lit< tt)
     λ x e. omega (arith, ltb-true x lsp (and-right (ltb last x) (ltb x lsp) e))
 
 most-traction : (u : ℕ) → mostTraction u < 2 ^ 10
@@ -72,8 +83,10 @@ traction-lawful u = upTo-lawful 10 (mostTraction u) (lit≤ tt) (most-traction u
 pub speed-lawful : LawfulKind speed
 speed-lawful = record {
   narrow = lit≤ tt;
-  small = λ v e. omega (arith, leb-true v 120 e);
-  short = λ v e. omega (arith, leb-true v 120 e);
+  holds = lit< tt;
+  short = lit< tt;
+  most = λ v e. leb-true v 120 e;
+  top = λ a v e. when-some (leb a 604) (a / 5) v e λ t q. leb-true a 604 t;
   back = λ v e. rw (le-leb (v * 5) 604 (omega (arith, leb-true v 120 e)), mul-div-cancel v (lit< tt));
   into = λ a v e. when-some (leb a 604) (a / 5) v e λ t q. le-leb v 120 (omega (arith, leb-true a 604 t));
 }
@@ -92,8 +105,12 @@ current-into a v e =
 pub current-lawful : LawfulKind mCurrent
 current-lawful = record {
   narrow = lit≤ tt;
-  small = λ v e. current-cases v e (λ q. omega arith) (λ n h. omega arith);
-  short = λ v e. current-cases v e (λ q. rw q (lit< tt)) (λ n h. rw (ne-eqb v 1023 n) (omega arith));
+  holds = lit< tt;
+  short = lit< tt;
+  most = λ v e. current-cases v e (λ q. omega arith) (λ n h. omega arith);
+  top = λ a v e. by-cases (eqb a 0)
+      (λ z. omega (arith, eqb-true a 0 z))
+      (λ z. when-some (leb (a - 1) 10009) ((a - 1) / 10) v (rw z at e) λ t q. omega (arith, leb-true (a - 1) 10009 t));
   back = λ v e. current-cases v e (λ q. rw q) (λ n h.
       let d : v * 10 + 1 - 1 ≡ v * 10 = omega arith in
       rw (ne-eqb v 1023 n, ne-eqb (v * 10 + 1) 0 (λ z. omega arith), d, le-leb (v * 10) 10009 (omega arith), mul-div-cancel v (lit< tt)));
@@ -102,21 +119,20 @@ current-lawful = record {
 
 -- ---- tables
 
-abbrev fits : List ℕ → Bool
-fits table = each (length table) (λ v. ltb (getD table v 0) (2 ^ 32))
-
-entry-lawful : (width : ℕ) (table : List ℕ) → width ≤ 32 → length table ≤ 2 ^ width → distinct table ≡ true → fits table ≡ true → LawfulKind (entryOf width table)
-entry-lawful width table h l d f = record {
-  narrow = h;
-  small = λ v e. omega (arith, ltb-true v (length table) e);
-  short = λ v e. ltb-true (getD table v 0) (2 ^ 32) (each-at (length table) (λ u. ltb (getD table u 0) (2 ^ 32)) f v (ltb-true v (length table) e));
+entry-lawful : (width : ℕ) (table : List ℕ) → width ≤ 32 → length table - 1 < 2 ^ width → distinct table ≡ true → greatest table < 2 ^ 32 → LawfulKind (entryOf width table)
+entry-lawful width table n h d g = record {
+  narrow = n;
+  holds = h;
+  short = g;
+  most = λ v e. omega (arith, ltb-true v (length table) e);
+  top = λ a v e. place-top 0 table a v e;
   back = λ v e. place-again table d v (ltb-true v (length table) e);
   into = λ a v e. lt-ltb v (length table) (omega (arith, place-small 0 table a v e));
 }
 
 pub voltage-lawful : LawfulKind mVoltage
-voltage-lawful = entry-lawful 4 volts (lit≤ tt) (lit≤ tt) volts-distinct refl
+voltage-lawful = entry-lawful 4 volts (lit≤ tt) (lit< tt) volts-distinct (lit< tt)
 
 pub class-lawful : (q : ℕ) → LawfulKind (class q)
-class-lawful zero = entry-lawful 4 cantFigures (lit≤ tt) (lit≤ tt) cants-distinct refl
+class-lawful zero = entry-lawful 4 cantFigures (lit≤ tt) (lit< tt) cants-distinct (lit< tt)
 class-lawful (suc q) = upTo-lawful 4 2 (lit≤ tt) (lit< tt)

@@ -7,12 +7,12 @@ use mathlib.Core.Option.{none, some}
 use Prim.Native.Nat.{ℕ, zero, suc, _+_, _<_, _≤_}
 use native.Mathlib.Numerals.{add-one}
 use native.Mathlib.Omega.{arith}
-use borrow.Author.Tests.{eq-eqb, ne-eqb}
+use borrow.Author.Tests.{eq-eqb, ne-eqb, eqb-true}
 use lib.Dec.{eqb}
 use lib.ListN.{length, getD, drop, drop-of-length-le}
 use lib.Seq.{drop-cons}
 use Rattle.bits.proofs.Tests.{by-cases, and-left, and-right}
-use Rattle.fields.specs.Tables.{cantFigures, volts, place}
+use Rattle.fields.specs.Tables.{cantFigures, volts, greatest, place}
 
 -- ---- from the entry i on
 
@@ -38,6 +38,14 @@ place-small i (t ∷ ts) a v e =
     by-cases (eqb a t)
     (λ d. let f : some i ≡ some v = rw d at e in let q : i ≡ v = cc in omega arith)
     (λ d. omega (arith, place-small (suc i) ts a v (rw d at e)))
+
+pub place-top : (i : ℕ) (table : List ℕ) (a v : ℕ) → place i table a ≡ some v → a ≤ greatest table
+unfolding place
+place-top i [] a v e = absurd (let z : _≡_ {A = ℕ} 0 1 = cc in omega arith)
+place-top i (t ∷ ts) a v e =
+    by-cases (eqb a t)
+    (λ d. omega (arith, eqb-true a t d))
+    (λ d. omega (arith, place-top (suc i) ts a v (rw d at e)))
 
 abbrev absent : ℕ → List ℕ → Bool
 absent a [] = true

@@ -11,6 +11,8 @@ pub record Kind : Type 0 where
   pub width : ℕ
   -- the largest value in a packet
   pub largest : ℕ
+  -- the highest number in a sheet
+  pub highest : ℕ
   -- the values that a packet may have
   pub allowed : ℕ → Bool
   -- the refusal's number where a value is not allowed
@@ -28,7 +30,7 @@ when false v = none
 -- "They equal the packet fields": the same number in the sheet and in the packet
 abbrev pub same : ℕ → ℕ → ℕ → (ℕ → Bool) → Kind
 same width largest refusal allowed =
-    record { width = width; largest = largest; allowed = allowed; refusal = refusal; lower = λ a. when (allowed a) a; raise = λ v. v }
+    record { width = width; largest = largest; highest = largest; allowed = allowed; refusal = refusal; lower = λ a. when (allowed a) a; raise = λ v. v }
 
 -- from least to largest
 abbrev pub range : ℕ → ℕ → ℕ → ℕ → Kind

@@ -67,7 +67,7 @@ mSpAltitude = upTo 20 1048575
 
 -- "km/h, 0 to 604", "whole part of speed / 5"; "Back from the packet, speeds are times 5"
 abbrev pub speed : Kind
-speed = record { width = 7; largest = 120; allowed = λ v. leb v 120; refusal = 4; lower = λ a. when (leb a 604) (a / 5); raise = λ v. v * 5 }
+speed = record { width = 7; largest = 120; highest = 604; allowed = λ v. leb v 120; refusal = 4; lower = λ a. when (leb a 604) (a / 5); raise = λ v. v * 5 }
 
 abbrev pub qFront : Kind
 qFront = upTo 1 1
@@ -109,6 +109,7 @@ abbrev pub mCurrent : Kind
 mCurrent = record {
   width = 10;
   largest = 1023;
+  highest = 10010;
   allowed = λ v. leb v 1000 || eqb v 1023;
   refusal = 4;
   lower = λ a. cond (eqb a 0) (some 1023) (when (leb (a - 1) 10009) ((a - 1) / 10));

@@ -3,7 +3,7 @@
 use mathlib.Core.Bool.{Bool, true, false, cond}
 use mathlib.Core.List.{List, [], _∷_}
 use mathlib.Core.Option.{Option, none, some}
-use Prim.Native.Nat.{ℕ, zero, suc, _-_}
+use Prim.Native.Nat.{ℕ, zero, suc, _-_, max}
 use lib.Dec.{eqb, ltb}
 use lib.ListN.{length, getD}
 use Rattle.fields.specs.Kind.{Kind}
@@ -21,11 +21,16 @@ unfoldable pub place : ℕ → List ℕ → ℕ → Option ℕ
 place i [] a = none
 place i (t ∷ ts) a = let more : Option ℕ = place (suc i) ts a in cond (eqb a t) (some i) more
 
+abbrev pub greatest : List ℕ → ℕ
+greatest [] = 0
+greatest (t ∷ ts) = max t (greatest ts)
+
 -- a place in the packet, the figure that stands there in the sheet
 abbrev pub entryOf : ℕ → List ℕ → Kind
 entryOf width table = record {
   width = width;
   largest = length table - 1;
+  highest = greatest table;
   allowed = λ v. ltb v (length table);
   refusal = 4;
   lower = λ a. place 0 table a;

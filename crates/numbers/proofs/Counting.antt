@@ -1,5 +1,7 @@
 -- How many groups a number has: the powers of 128 that it stands between, from the place of its highest one bit.
 -- Assumes nothing.
+use Rattle.bits.proofs.Tests.{by-cases}
+use lib.Dec.{ltb}
 use mathlib.Core.Path.{_≡_, refl, ap}
 use mathlib.Core.Logic.{_↔_}
 use mathlib.Core.List.{[], _∷_}
@@ -8,7 +10,7 @@ use native.Mathlib.Nat.{pow-suc, lt-of-lt-of-le, le-trans, mul-suc, not-suc-le-z
 use native.Mathlib.Numerals.{sub-one}
 use native.Mathlib.Decide.{ℕ-discrete}
 use native.Mathlib.Omega.{arith}
-use borrow.Author.Tests.{lt-ltb, le-ltb}
+use borrow.Author.Tests.{lt-ltb, le-ltb, ltb-false}
 use lib.ListN.{length}
 use lib.Pow.{pow-add, pow-mono}
 use lib.Count.{leadingZeros, leading-top}
@@ -106,3 +108,24 @@ count-powers v n h = (λ e. rw e at (powers v h), count-of v n h)
 pub count-zero : length (groupsIn 0) ≡ 1
 unfolding groupsIn
 count-zero = refl
+
+-- ---- a group at least, and no more than a larger number has
+
+pub some-group : (g v : ℕ) → 1 ≤ length (groupsOf (suc g) v)
+some-group g v =
+    by-cases (ltb v 128) (λ e. rw e (omega arith)) (λ e. rw e (omega arith))
+
+pub count-some : (v : ℕ) → 1 ≤ length (groupsIn v)
+unfolding groupsIn
+count-some v = some-group 4 v
+
+more-most : (g u v : ℕ) → u ≤ v → length (groupsOf g u) ≤ length (groupsOf g v)
+more-most zero u v h = omega arith
+more-most (suc g) u v h =
+    by-cases (ltb u 128)
+    (λ d. rw d (some-group g v))
+    (λ d. rw (d, le-ltb v 128 (omega (arith, ltb-false u 128 d))) (omega (arith, more-most g (u / 128) (v / 128) (omega arith))))
+
+pub count-most : (u v : ℕ) → u ≤ v → length (groupsIn u) ≤ length (groupsIn v)
+unfolding groupsIn
+count-most u v h = more-most 5 u v h

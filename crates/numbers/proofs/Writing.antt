@@ -10,14 +10,7 @@ use native.Mathlib.Omega.{arith}
 use lib.ListN.{length, set, length-set}
 use lib.Seq.{sets}
 use Rattle.numbers.specs.Numbers.{groupsOf, groupsIn, Put, putNumber}
-use Rattle.numbers.proofs.Counting.{last-group, more-groups, fewer}
-
-some-group : (g v : ℕ) → 1 ≤ length (groupsOf (suc g) v)
-some-group g v = go (decLt v 128)
-  where
-    go : Dec (v < 128) → 1 ≤ length (groupsOf (suc g) v)
-    go (yes h) = rw (last-group g v h) (omega arith)
-    go (no h) = rw (more-groups g v (omega arith)) (omega arith)
+use Rattle.numbers.proofs.Counting.{last-group, more-groups, fewer, some-group}
 
 not-one : (g x : ℕ) → g ≡ 0 → 128 ≤ x → x < 128 ^ suc g → ⊥
 not-one g x e h l = let l′ : x < 128 ^ 1 = rw e at l in omega arith

@@ -1,0 +1,4 @@
+pub mod Generic
+pub mod Media
+pub mod Lawful
+pub mod Sized

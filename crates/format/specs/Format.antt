@@ -1,0 +1,60 @@
+-- Formats, and what it is to read and to write one in any medium.
+-- Assumes nothing.
+use mathlib.Core.List.{List, [], _∷_, _++_, map}
+use Prim.Native.Nat.{ℕ}
+use lib.ListN.{length}
+use Rattle.fields.specs.declared.Item.{Item}
+use Rattle.fields.specs.Kind.{Kind}
+
+-- Next a field of this kind; what follows depends on its value in the packet.
+pub data Format : Type 0 where
+  end : Format
+  field : Kind → (ℕ → Format) → Format
+
+-- a field on whose value nothing depends
+abbrev pub then : Kind → Format → Format
+then k f = field k (λ _. f)
+
+-- What reading gives: the values of the fields, or a refusal's number and how much was left where it was given, which is its place.
+pub data Read : Type 0 where
+  accepted : List Item → Read
+  refused : ℕ → ℕ → Read
+
+-- What reading one field gives: its value and what is left, or a refusal's number.
+pub data Step (A : Type 0) : Type 0 where
+  step : Item → List A → Step A
+  stop : ℕ → Step A
+
+-- How a medium takes a field in front, and puts one; and the refusal where something is left after the last.
+pub record Medium (A : Type 0) : Type 0 where
+  pub take : Kind → List A → Step A
+  pub put : Kind → Item → List A
+  pub left : ℕ
+
+-- a value in front of those read after it
+abbrev pub with : Item → Read → Read
+with i (accepted l) = accepted (i ∷ l)
+with i (refused r n) = refused r n
+
+module _ {A : Type 0} where
+  abbrev pub follow : ℕ → Step A → (Item → List A → Read) → Read
+  follow n (step i s) next = with i (next i s)
+  follow n (stop r) next = refused r n
+
+  -- "field by field in order", then the refusal for what is left
+  abbrev pub read : Medium A → Format → List A → Read
+  read m end [] = accepted []
+  read m end (x ∷ s) = refused (m .left) (length (x ∷ s))
+  read m (field k next) s = follow (length s) (m .take k s) (λ i t. read m (next (i .packet)) t)
+
+  abbrev pub write : Medium A → Format → List Item → List A
+  write m end l = []
+  write m (field k next) [] = []
+  write m (field k next) (i ∷ l) = m .put k i ++ write m (next (i .packet)) l
+
+-- the fields' values in the packet, and in the sheet
+abbrev pub packetValues : List Item → List ℕ
+packetValues l = map (λ i. i .packet) l
+
+abbrev pub sheetNumbers : List Item → List ℕ
+sheetNumbers l = map (λ i. i .sheet) l

@@ -1,0 +1,48 @@
+-- The two media: a packet's bits, and a sheet's groups.
+-- Assumes nothing.
+use mathlib.Core.Bool.{Bool, true, false, cond}
+use mathlib.Core.List.{List}
+use Prim.Native.Nat.{ℕ}
+use lib.Dec.{ltb}
+use lib.ListN.{length, take, drop}
+use Rattle.bits.specs.Bits.{bitsOf, number}
+use Rattle.numbers.specs.declared.Number.{Number}
+use Rattle.numbers.specs.declared.Number.the-variants.{Value, Bad}
+use Rattle.numbers.specs.Numbers.{numberIn, groupsIn}
+use Rattle.fields.specs.declared.Item.{Item}
+use Rattle.fields.specs.declared.Field.{Field}
+use Rattle.fields.specs.declared.Field.the-variants.{Is, Refused}
+use Rattle.fields.specs.Kind.{Kind}
+use Rattle.fields.specs.Judged.{fromPacket, fromSheet}
+use Rattle.format.specs.Format.{Step, step, stop, Medium}
+
+-- a field judged, and what is left after it
+abbrev pub stepped : {A : Type 0} → Field → List A → Step A
+stepped (Is i) s = step i s
+stepped (Refused r) s = stop r
+
+-- "6: a field doesn't fit in the body's remaining bits", "6 before 4 or 5"
+abbrev pub takeBits : Kind → List Bool → Step Bool
+takeBits k s = cond (ltb (length s) (k .width)) (stop 6) (stepped (fromPacket k (number (take (k .width) s))) (drop (k .width) s))
+
+abbrev pub putBits : Kind → Item → List Bool
+putBits k i = bitsOf (k .width) (i .packet)
+
+-- a packet's bits: 6 also where "bits remain after the last field"
+abbrev pub packet : Medium Bool
+packet = record { take = takeBits; put = putBits; left = 6 }
+
+-- "9: sheet ends too soon, .. or a number is not in its shortest form", "9 before 2, 4 or 5"
+abbrev pub numbered : Kind → Number → List ℕ → Step ℕ
+numbered k (Value a) s = stepped (fromSheet k a) (drop (length (groupsIn a)) s)
+numbered k Bad s = stop 9
+
+abbrev pub takeGroups : Kind → List ℕ → Step ℕ
+takeGroups k s = numbered k (numberIn s) s
+
+abbrev pub putGroups : Kind → Item → List ℕ
+putGroups k i = groupsIn (i .sheet)
+
+-- a sheet's bytes: 9 also where it "has bytes left"
+abbrev pub sheet : Medium ℕ
+sheet = record { take = takeGroups; put = putGroups; left = 9 }
