@@ -1,0 +1,15 @@
+-- The desk cases that are conversions, by one statement over the definitions.
+-- Assumes nothing.
+use mathlib.Core.Path.{_≡_, refl}
+use mathlib.Core.List.{map}
+use Rattle.bits.specs.Bits.{fieldAt}
+use Rattle.numbers.specs.Numbers.{numberOf, groupsIn}
+use Rattle.fields.specs.Kinds.{digits}
+use Rattle.fields.specs.Tables.{place}
+use Rattle.segment.specs.Segment.{entries, changes, lists, body, fields, sheetFields}
+use Rattle.segment.specs.Judgement.{fromPacket, fromSheet, toPacket, toSheet}
+use Rattle.segment.specs.Desk.{reply, desk}
+
+pub desk-answered : map (λ c. reply (c .ask)) desk ≡ map (λ c. c .answer) desk
+unfolding fieldAt numberOf groupsIn digits place entries changes lists body fields sheetFields fromPacket fromSheet toPacket toSheet reply
+desk-answered = refl

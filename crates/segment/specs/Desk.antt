@@ -1,0 +1,68 @@
+-- The desk cases of document 01 that are conversions: one table of questions, each with its answer.
+-- Assumes nothing.
+use mathlib.Core.List.{List, [], _∷_, _++_}
+use Prim.Native.Nat.{ℕ}
+use lib.ListN.{replicate, take}
+use Rattle.fields.specs.declared.Item.{Item}
+use Rattle.format.specs.Format.{Read, accepted, refused}
+use Rattle.segment.specs.Segment.{wireChanges}
+use Rattle.segment.specs.Judgement.{fromPacket, fromSheet, toPacket, toSheet}
+
+pub data Question : Type 0 where
+  sheetOf : List ℕ → Question
+  packetOf : List ℕ → Question
+
+-- the bytes of the result, or the refusal's number
+pub data Reply : Type 0 where
+  bytes : List ℕ → Reply
+  refusal : ℕ → Reply
+
+abbrev pub replied : (List Item → List ℕ) → Read → Reply
+replied write (accepted l) = bytes (write l)
+replied write (refused r left) = refusal r
+
+unfoldable pub reply : Question → Reply
+unfolding fromPacket fromSheet toPacket toSheet
+reply (sheetOf s) = replied (toSheet wireChanges) (fromPacket wireChanges s)
+reply (packetOf s) = replied (toPacket wireChanges) (fromSheet wireChanges s)
+
+-- "Packet 06 00 B9 00 01 23 45 00 00 01 00 00 00 00 07, then ten 00, 40, five 00, 01, four 00, 3F, F0, 00",
+-- with these two bytes for the speed, these two for the current, and this last byte
+abbrev pub packetWith : ℕ → ℕ → ℕ → ℕ → ℕ → List ℕ
+packetWith v w c d last =
+    0x06 ∷ 0x00 ∷ 0xB9 ∷ 0x00 ∷ 0x01 ∷ 0x23 ∷ 0x45 ∷ 0x00 ∷ 0x00 ∷ 0x01 ∷ 0x00 ∷ 0x00 ∷ 0x00 ∷ 0x00 ∷ 0x07
+    ∷ replicate 10 0 ++ 0x40 ∷ replicate 5 0 ++ v ∷ w ∷ replicate 3 0 ++ c ∷ d ∷ last ∷ []
+
+abbrev pub firstPacket : List ℕ
+firstPacket = packetWith 0x01 0x00 0x3F 0xF0 0x00
+
+-- "06 C5 C6 04 01 00 00 07, four 00, 01, 00 00 00, 50, eight 00", with these bytes for the speed and these for the current
+abbrev pub sheetWith : List ℕ → List ℕ → List ℕ
+sheetWith v c =
+    0x06 ∷ 0xC5 ∷ 0xC6 ∷ 0x04 ∷ 0x01 ∷ 0x00 ∷ 0x00 ∷ 0x07 ∷ replicate 4 0 ++ 0x01 ∷ 0x00 ∷ 0x00 ∷ 0x00 ∷ v ++ replicate 6 0 ++ c ++ 0x00 ∷ []
+
+abbrev pub firstSheet : List ℕ
+firstSheet = sheetWith (0x50 ∷ []) (0x00 ∷ [])
+
+pub record Case : Type 0 where
+  pub ask : Question
+  pub answer : Reply
+
+abbrev pub desk : List Case
+desk =
+    record { ask = sheetOf firstPacket; answer = bytes firstSheet }
+    ∷ record { ask = packetOf firstSheet; answer = bytes firstPacket }
+    -- "With 54 (84 km/h) in place of 50 it makes the same packet; with 55 another"
+    ∷ record { ask = packetOf (sheetWith (0x54 ∷ []) (0x00 ∷ [])); answer = bytes firstPacket }
+    ∷ record { ask = packetOf (sheetWith (0x55 ∷ []) (0x00 ∷ [])); answer = bytes (packetWith 0x01 0x10 0x3F 0xF0 0x00) }
+    -- "The packet without its last byte: 3. Empty packet: 1. Empty sheet: 9. Last byte 01: 7"
+    ∷ record { ask = sheetOf (take 38 firstPacket); answer = refusal 3 }
+    ∷ record { ask = sheetOf []; answer = refusal 1 }
+    ∷ record { ask = packetOf []; answer = refusal 9 }
+    ∷ record { ask = sheetOf (packetWith 0x01 0x00 0x3F 0xF0 0x01); answer = refusal 7 }
+    -- "604 and 605 km/h; 0 A against no limit; number 80 00: 9"
+    ∷ record { ask = packetOf (sheetWith (0xDC ∷ 0x04 ∷ []) (0x00 ∷ [])); answer = bytes (packetWith 0x07 0x80 0x3F 0xF0 0x00) }
+    ∷ record { ask = packetOf (sheetWith (0xDD ∷ 0x04 ∷ []) (0x00 ∷ [])); answer = refusal 4 }
+    ∷ record { ask = packetOf (sheetWith (0x50 ∷ []) (0x01 ∷ [])); answer = bytes (packetWith 0x01 0x00 0x00 0x00 0x00) }
+    ∷ record { ask = packetOf (0x80 ∷ 0x00 ∷ []); answer = refusal 9 }
+    ∷ []

@@ -1,0 +1,55 @@
+-- A packet's frame: packet number, L_PACKET_ATO, the fields' bits and padding; and its refusals 1, 2, 3 and 7.
+-- Assumes nothing.
+use mathlib.Core.Bool.{Bool, true, false, cond}
+use mathlib.Core.List.{List, [], _∷_, _++_}
+use Prim.Native.Nat.{ℕ, _+_, _-_, _/_}
+use lib.Dec.{eqb, ltb}
+use lib.ListN.{length, take, drop}
+use Rattle.bits.specs.Bits.{bitsOf, bitsOfBytes, bytesOfBits, fieldAt}
+use Rattle.fields.specs.declared.Item.{Item}
+use Rattle.format.specs.Format.{Format, Read, accepted, refused, read}
+use Rattle.format.specs.Media.{packet}
+
+-- "Header, 120 bits: NID_PACKET_ATO 8 .., L_PACKET_ATO 16"
+abbrev pub packetNumber : List ℕ → ℕ
+packetNumber s = fieldAt s 0 8
+
+-- "L_PACKET_ATO counts the body's bits, without header and padding"
+abbrev pub bodyBits : List ℕ → ℕ
+bodyBits s = fieldAt s 8 16
+
+-- the bits of the fields after L_PACKET_ATO, 96 of the header and the body's; and the padding
+abbrev pub fieldBits : List ℕ → List Bool
+fieldBits s = take (96 + bodyBits s) (drop 24 (bitsOfBytes s))
+
+abbrev pub padding : List ℕ → List Bool
+padding s = drop (120 + bodyBits s) (bitsOfBytes s)
+
+-- from the first bit that is 1 on
+abbrev pub fromOne : List Bool → List Bool
+fromOne [] = []
+fromOne (true ∷ s) = true ∷ s
+fromOne (false ∷ s) = fromOne s
+
+-- the packet number's own item
+abbrev pub numberItem : ℕ → Item
+numberItem n = record { sheet = n; packet = n }
+
+-- "7: a padding bit is 1", judged after the fields
+abbrev pub padded : ℕ → List Bool → Read → Read
+padded n rest (refused r left) = refused r left
+padded n [] (accepted l) = accepted (numberItem n ∷ l)
+padded n (b ∷ rest) (accepted l) = refused 7 (length (b ∷ rest))
+
+-- "A packet is judged 1, 2, 3, then field by field in order (6 before 4 or 5), then 6 for bits left, then 7"
+abbrev pub unframed : ℕ → Format → List ℕ → Read
+unframed n f s =
+    let fieldByField : Read = padded n (fromOne (padding s)) (read packet f (fieldBits s)) in
+    cond (ltb (length s) 15) (refused 1 0)
+    (cond (eqb (packetNumber s) n)
+    (cond (eqb (length s) (15 + (bodyBits s + 7) / 8)) fieldByField (refused 3 0))
+    (refused 2 0))
+
+-- the packet of the fields' bits
+abbrev pub framed : ℕ → List Bool → List ℕ
+framed n bits = bytesOfBits (bitsOf 8 n ++ (bitsOf 16 (length bits - 96) ++ bits))

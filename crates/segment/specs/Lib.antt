@@ -1,0 +1,4 @@
+pub mod Segment
+pub mod Frame
+pub mod Judgement
+pub mod Desk
