@@ -24,11 +24,6 @@ loweredTo k a (some v) = Is (record { sheet = a; packet = v })
 abbrev pub fromSheet : Kind → ℕ → Field
 fromSheet k a = loweredTo k a (k .lower a)
 
--- this paper's number for each case
-abbrev pub refusalOf : Field → ℕ
-refusalOf (Is i) = 0
-refusalOf (Refused r) = r
-
 -- the kind that a rule of the code stands for
 abbrev pub meaning : Rule → Kind
 meaning (Range width least largest refusal) = range width least largest refusal

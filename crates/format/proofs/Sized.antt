@@ -24,6 +24,9 @@ pub data Measured (lo hi : Kind → ℕ) : Format → ℕ → ℕ → Type 0 whe
       → Measured lo hi (field k next) (lo k + a) (hi k + b)
   wider : {f : Format} {a b low high : ℕ} → Measured lo hi f a b → low ≤ a → b ≤ high → Measured lo hi f low high
 
+pub within : {lo hi : Kind → ℕ} {f : Format} {a b : ℕ} (low high : ℕ) → Measured lo hi f a b → low ≤ a → b ≤ high → Measured lo hi f low high
+within low high m p q = wider m p q
+
 pub lawful : {lo hi : Kind → ℕ} {f : Format} {low high : ℕ} → Measured lo hi f low high → Lawful f
 lawful over = ends
 lawful (plus w rest) = goes w (λ v e. lawful (rest v e))

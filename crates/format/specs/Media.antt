@@ -8,7 +8,7 @@ use lib.ListN.{length, take, drop}
 use Rattle.bits.specs.Bits.{bitsOf, number}
 use Rattle.numbers.specs.declared.Number.{Number}
 use Rattle.numbers.specs.declared.Number.the-variants.{Value, Bad}
-use Rattle.numbers.specs.Numbers.{numberIn, groupsIn}
+use Rattle.numbers.specs.Numbers.{numberIn, groupsIn, refusalOf}
 use Rattle.fields.specs.declared.Item.{Item}
 use Rattle.fields.specs.declared.Field.{Field}
 use Rattle.fields.specs.declared.Field.the-variants.{Is, Refused}
@@ -35,7 +35,7 @@ packet = record { take = takeBits; put = putBits; left = 6 }
 -- "9: sheet ends too soon, .. or a number is not in its shortest form", "9 before 2, 4 or 5"
 abbrev pub numbered : Kind → Number → List ℕ → Step ℕ
 numbered k (Value a) s = stepped (fromSheet k a) (drop (length (groupsIn a)) s)
-numbered k Bad s = stop 9
+numbered k Bad s = stop (refusalOf Bad)
 
 abbrev pub takeGroups : Kind → List ℕ → Step ℕ
 takeGroups k s = numbered k (numberIn s) s

@@ -1,1 +1,4 @@
+pub mod Tree
+pub mod Framing
+pub mod Ends
 pub mod Desk
