@@ -1,0 +1,106 @@
+#!/usr/bin/env python3
+"""The tests beside the proofs: what rt does not look at. They read the sources and, after rt ci, its logs in target/."""
+import pathlib
+import re
+import sys
+
+ROOT = pathlib.Path(__file__).resolve().parent.parent
+CRATES = [line.split(":")[0].strip() for line in (ROOT / "crates.txt").read_text().splitlines() if ":" in line.split("#")[0]]
+SECONDS = 30
+
+
+def functions(path):
+    """Each function of a source file: its first line's number, whether it is public, its name, its head up to the body."""
+    lines = path.read_text().splitlines()
+    for i, line in enumerate(lines):
+        m = re.match(r'^(\s*)(pub )?(extern "C" )?fn (\w+)', line)
+        if not m:
+            continue
+        head = []
+        for j in range(i, len(lines)):
+            head.append(lines[j])
+            if lines[j] == m.group(1) + "{" or lines[j].endswith(") {"):
+                break
+        yield i + 1, bool(m.group(2)), m.group(4), "\n".join(head)
+
+
+def sources(crate, folder, suffix):
+    return sorted((ROOT / "crates" / crate / folder).glob("**/*" + suffix))
+
+
+def contracts():
+    """Every public function says what it returns."""
+    for crate in CRATES:
+        for path in sources(crate, "src", ".rt"):
+            for line, public, name, head in functions(path):
+                if public and "ensures" not in head:
+                    yield f"{path.relative_to(ROOT)}:{line}: {name} has no ensures"
+
+
+def headed():
+    """Every file starts with a sentence that says what it is."""
+    for crate in CRATES:
+        for folder, suffix, mark in (("src", ".rt", "// "), ("specs", ".antt", "-- "), ("proofs", ".antt", "-- ")):
+            for path in sources(crate, folder, suffix):
+                if path.name != "Lib.antt" and not path.read_text().startswith(mark):
+                    yield f"{path.relative_to(ROOT)} does not start with a sentence"
+
+
+def no_axioms():
+    """No axiom stands in the repository, and no crate's proof reports one."""
+    for crate in CRATES:
+        for path in sources(crate, "specs", ".antt") + sources(crate, "proofs", ".antt"):
+            if re.search(r"^\s*axiom |Prim\.Axiom", path.read_text(), re.M):
+                yield f"{path.relative_to(ROOT)} names an axiom"
+        said = (ROOT / "target" / "log" / f"{crate}.out").read_text()
+        verdict = [line for line in said.splitlines() if line.startswith("logic=")]
+        if len(verdict) != 1 or not verdict[0].startswith("logic=proved ") or "axioms=" in verdict[0]:
+            yield f"{crate}: its verdict is {verdict}"
+
+
+def quick():
+    """Every crate is checked in less than half a minute."""
+    for crate in CRATES:
+        said = (ROOT / "target" / "log" / f"{crate}.out").read_text()
+        took = re.search(r"proved \((\d+) s\)", said)
+        if not took or int(took.group(1)) >= SECONDS:
+            yield f"{crate}: {took.group(0) if took else 'not proved'}"
+
+
+def edits():
+    """A crate with public functions has must-fail edits, and each is refused because a fact fails, and not for its shape."""
+    for crate in CRATES:
+        public = [name for path in sources(crate, "src", ".rt") for _, p, name, _ in functions(path) if p]
+        labels = sorted((ROOT / "crates" / crate / "must-fail").glob("*.edit"))
+        if public and len(labels) < 2:
+            yield f"{crate} has public functions and {len(labels)} must-fail edits"
+        for label in labels:
+            log = (ROOT / "target" / "must-fail" / crate / label.stem / ".log").read_text()
+            errors = [line for line in log.splitlines() if ": error: " in line or "it is not proved that" in line]
+            if not errors or "can be named from here" in errors[0]:
+                yield f"{crate}/{label.stem}: {errors[0][:200] if errors else 'no error'}"
+
+
+def promises():
+    """Every theorem that the documents cite as `name` in a file of theirs stands there."""
+    for page in sorted((ROOT / "docs").glob("**/*.md")):
+        for name, file in re.findall(r"`([^`\s]+)` \(`(crates/[^`]+\.antt)`\)", page.read_text()):
+            path = ROOT / file
+            if not path.exists() or not re.search(r"^\s*((abbrev|unfoldable) )?(pub )?(record |data )?%s( |$)" % re.escape(name), path.read_text(), re.M):
+                yield f"{page.relative_to(ROOT)}: {name} is not in {file}"
+
+
+def main():
+    passed = failed = 0
+    for test in (contracts, headed, no_axioms, quick, edits, promises):
+        faults = list(test())
+        print(f"{'FAILED' if faults else 'ok'}: {test.__doc__.splitlines()[0]}")
+        for fault in faults:
+            print("   ", fault)
+        passed, failed = passed + (not faults), failed + bool(faults)
+    print(f"{passed} passed, {failed} failed")
+    return 1 if failed else 0
+
+
+if __name__ == "__main__":
+    sys.exit(main())
