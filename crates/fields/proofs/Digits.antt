@@ -8,7 +8,7 @@ use native.Mathlib.Numerals.{sub-one}
 use native.Mathlib.Omega.{arith}
 use borrow.Author.Tests.{eqb-true, eq-eqb}
 use Rattle.bits.proofs.Tests.{and-right}
-use Rattle.fields.specs.Kinds.{digit, digits}
+use Rattle.kinds.specs.Kinds.{digit, digits}
 
 pub digits-small : (n v : ℕ) → digits n v ≡ true → v < 16 ^ n
 unfolding digits

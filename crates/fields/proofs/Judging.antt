@@ -9,13 +9,14 @@ use native.Mathlib.Omega.{arith}
 use borrow.Author.Tests.{leb-true, leb-false, le-leb, ne-eqb}
 use lib.Dec.{leb}
 use Rattle.bits.proofs.Tests.{by-cases}
-use Rattle.fields.specs.declared.Field.the-variants.{Is, Refused}
-use Rattle.fields.specs.declared.Rule.{Rule}
-use Rattle.fields.specs.declared.Rule.the-variants.{Range, Location, Operational, Speed, Current, Cant, Volts}
-use Rattle.fields.specs.Kind.{Kind, when, same, range}
-use Rattle.fields.specs.Tables.{place, entryOf}
-use Rattle.fields.specs.Kinds.{nidOperational, speed, dLocation, mCurrent, ncDiff, class, mostTraction}
-use Rattle.fields.specs.Judged.{fromPacket, fromSheet, loweredTo, meaning}
+use Rattle.kinds.specs.declared.Field.the-variants.{Is, Refused}
+use Rattle.kinds.specs.declared.Rule.{Rule}
+use Rattle.kinds.specs.declared.Rule.the-variants.{Range, Location, Operational, Speed, Current, Cant, Volts}
+use Rattle.kinds.specs.Kind.{Kind, when, same, range}
+use Rattle.kinds.specs.Tables.{place, entryOf}
+use Rattle.kinds.specs.Kinds.{nidOperational, speed, dLocation, mCurrent, ncDiff, class, mostTraction}
+use Rattle.kinds.specs.Judged.{fromPacket, fromSheet, loweredTo}
+use Rattle.kinds.specs.Rules.{meaning}
 
 -- a number that is lowered where a test passes
 lowered-when : (k : Kind) (a v : ℕ) (b : Bool) → cond b (Is (record { sheet = a; packet = v })) (Refused (k .refusal)) ≡ loweredTo k a (when b v)
@@ -68,12 +69,3 @@ figure-found table a v e = rw e
 
 pub figure-none : (table : List ℕ) (a : ℕ) → place 0 table a ≡ none → Refused 4 ≡ fromSheet (entryOf 4 table) a
 figure-none table a e = rw e
-
--- kinds that depend on an earlier field
-pub class-other : (q : ℕ) → (q ≡ 0 → ⊥) → ncDiff ≡ class q
-class-other zero h = absurd (h refl)
-class-other (suc q) h = refl
-
-pub traction-other : (u : ℕ) → (u ≡ 0 → ⊥) → 1023 ≡ mostTraction u
-traction-other zero h = absurd (h refl)
-traction-other (suc u) h = refl

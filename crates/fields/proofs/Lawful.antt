@@ -12,9 +12,9 @@ use lib.Dec.{eqb, ltb, leb, lit<, lit≤}
 use lib.ListN.{length}
 use lib.Pow.{pow-mono}
 use Rattle.bits.proofs.Tests.{by-cases, and-right, or-cases}
-use Rattle.fields.specs.Kind.{Kind, when, same, range, upTo}
-use Rattle.fields.specs.Tables.{cantFigures, volts, entryOf, greatest}
-use Rattle.fields.specs.Kinds.{nidOperational, speed, class, dLocation, mVoltage, mostTraction, nidCTraction, mCurrent}
+use Rattle.kinds.specs.Kind.{Kind, when, same, range, upTo}
+use Rattle.kinds.specs.Tables.{cantFigures, volts, entryOf, greatest}
+use Rattle.kinds.specs.Kinds.{nidOperational, speed, class, dLocation, mVoltage, mostTraction, nidCTraction, mCurrent}
 use Rattle.fields.proofs.Digits.{digits-small}
 use Rattle.fields.proofs.Lookup.{distinct, place-small, place-top, place-again, cants-distinct, volts-distinct}
 

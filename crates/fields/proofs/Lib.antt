@@ -2,4 +2,3 @@ pub mod Digits
 pub mod Lookup
 pub mod Judging
 pub mod Lawful
-pub mod Cases

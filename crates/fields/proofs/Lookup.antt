@@ -12,7 +12,7 @@ use lib.Dec.{eqb}
 use lib.ListN.{length, getD, drop, drop-of-length-le}
 use lib.Seq.{drop-cons}
 use Rattle.bits.proofs.Tests.{by-cases, and-left, and-right}
-use Rattle.fields.specs.Tables.{cantFigures, volts, greatest, place}
+use Rattle.kinds.specs.Tables.{cantFigures, volts, greatest, place}
 
 -- ---- from the entry i on
 

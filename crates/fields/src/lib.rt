@@ -2,68 +2,19 @@
 ghost use mathlib.Core.Path.{_≡_};
 ghost use mathlib.Core.Bool.{_&&_, cond};
 ghost use lib.Dec.{leb, ltb};
-ghost use Rattle.fields.specs.Kind.{upTo};
-ghost use Rattle.fields.specs.Kinds.{digit, digits, speed, mCurrent};
-ghost use Rattle.fields.specs.Judged.{fromPacket, fromSheet, meaning};
+ghost use Rattle.kinds.specs.Kinds.{digit, digits, speed, mCurrent};
+ghost use Rattle.kinds.specs.Judged.{fromPacket, fromSheet};
+ghost use Rattle.kinds.specs.Rules.{meaning};
 
-pub mod header;
-pub mod segment;
 pub mod tables;
 
-use segment::MCurrent;
-use segment::VStatic;
-
-// A field's value: the sheet's number and the packet's.
-pub struct Item {
-    pub sheet: u32,
-    pub packet: u32,
-}
-
-// A value, or the number of its refusal.
-pub enum Field {
-    Is(Item),
-    Refused(u32),
-}
-
-// The refusals of a value: the packet number, a field outside its range or set, a change's location.
-pub const PACKET_NUMBER: u32 = 2;
-
-pub const OUT_OF_RANGE: u32 = 4;
-
-pub const LOCATION: u32 = 5;
-
-// What judges the values of a kind.
-pub enum Rule {
-    // The same number in both, from least to largest.
-    Range {
-        width: u32,
-        least: u32,
-        largest: u32,
-        refusal: u32,
-    },
-    // A change's location, after the last one and before the segment's end.
-    Location {
-        last: u32,
-        lsp: u32,
-    },
-    Operational,
-    Speed,
-    Current,
-    Cant,
-    Volts,
-}
-
-// From 0 to largest.
-fn up_to(width: u32, largest: u32) -> Rule
-    ensures { λ r. ⌜ meaning r ≡ upTo width largest ⌝ }
-{
-    Rule::Range {
-        width,
-        least: 0,
-        largest,
-        refusal: OUT_OF_RANGE,
-    }
-}
+use kinds::Field;
+use kinds::Item;
+use kinds::LOCATION;
+use kinds::OUT_OF_RANGE;
+use kinds::Rule;
+use kinds::body::MCurrent;
+use kinds::body::VStatic;
 
 // The value where the test passed.
 fn judged(ok: bool, sheet: u32, packet: u32, refusal: u32) -> Field
@@ -174,63 +125,62 @@ fn speed_of_sheet(a: u32) -> Field
     judged(v <= VStatic::LARGEST, a, v, OUT_OF_RANGE)
 }
 
-impl Rule {
-    pub fn width(self) -> u32
-        ensures { λ r. ⌜ r ≡ meaning self .width ⌝ }
-    {
-        match self {
-            Rule::Range {
-                width,
-                least: _,
-                largest: _,
-                refusal: _,
-            } => width,
-            Rule::Location { last: _, lsp: _ } => segment::DLocation::WIDTH,
-            Rule::Operational => header::NidOperational::WIDTH,
-            Rule::Speed => VStatic::WIDTH,
-            Rule::Current => MCurrent::WIDTH,
-            Rule::Cant => segment::NcCdDiff::WIDTH,
-            Rule::Volts => segment::MVoltage::WIDTH,
-        }
+// How many bits a field has in a packet.
+pub fn width(rule: Rule) -> u32
+    ensures { λ r. ⌜ r ≡ meaning rule .width ⌝ }
+{
+    match rule {
+        Rule::Range {
+            width,
+            least: _,
+            largest: _,
+            refusal: _,
+        } => width,
+        Rule::Location { last: _, lsp: _ } => kinds::body::DLocation::WIDTH,
+        Rule::Operational => kinds::header::NidOperational::WIDTH,
+        Rule::Speed => VStatic::WIDTH,
+        Rule::Current => MCurrent::WIDTH,
+        Rule::Cant => kinds::body::NcCdDiff::WIDTH,
+        Rule::Volts => kinds::body::MVoltage::WIDTH,
     }
+}
 
-    // The value of a field that a packet gives as v.
-    pub fn of_packet(self, v: u32) -> Field
-        ensures { λ r. ⌜ r ≡ fromPacket (meaning self) v ⌝ }
-    {
-        match self {
-            Rule::Range {
-                width: _,
-                least,
-                largest,
-                refusal,
-            } => judged(within(least, largest, v), v, v, refusal),
-            Rule::Location { last, lsp } => judged(between(last, lsp, v), v, v, LOCATION),
-            Rule::Operational => judged(operational(v), v, v, OUT_OF_RANGE),
-            Rule::Speed => speed_of_packet(v),
-            Rule::Current => current_of_packet(v),
-            Rule::Cant => tables::figure_of(&tables::CANT_FIGURES, v),
-            Rule::Volts => tables::figure_of(&tables::VOLTS, v),
-        }
+// The value of a field that a packet gives as v.
+pub fn of_packet(rule: Rule, v: u32) -> Field
+    ensures { λ r. ⌜ r ≡ fromPacket (meaning rule) v ⌝ }
+{
+    match rule {
+        Rule::Range {
+            width: _,
+            least,
+            largest,
+            refusal,
+        } => judged(within(least, largest, v), v, v, refusal),
+        Rule::Location { last, lsp } => judged(between(last, lsp, v), v, v, LOCATION),
+        Rule::Operational => judged(operational(v), v, v, OUT_OF_RANGE),
+        Rule::Speed => speed_of_packet(v),
+        Rule::Current => current_of_packet(v),
+        Rule::Cant => tables::figure_of(&tables::CANT_FIGURES, v),
+        Rule::Volts => tables::figure_of(&tables::VOLTS, v),
     }
+}
 
-    // The value of a field that a sheet gives as a. Where no table or step stands between them, the two media judge alike.
-    pub fn of_sheet(self, a: u32) -> Field
-        ensures { λ r. ⌜ r ≡ fromSheet (meaning self) a ⌝ }
-    {
-        match self {
-            Rule::Range {
-                width: _,
-                least: _,
-                largest: _,
-                refusal: _,
-            } => self.of_packet(a),
-            Rule::Location { last: _, lsp: _ } => self.of_packet(a),
-            Rule::Operational => self.of_packet(a),
-            Rule::Speed => speed_of_sheet(a),
-            Rule::Current => current_of_sheet(a),
-            Rule::Cant => tables::place_of(&tables::CANT_FIGURES, a),
-            Rule::Volts => tables::place_of(&tables::VOLTS, a),
-        }
+// The value of a field that a sheet gives as a. Where no table or step stands between them, the two media judge alike.
+pub fn of_sheet(rule: Rule, a: u32) -> Field
+    ensures { λ r. ⌜ r ≡ fromSheet (meaning rule) a ⌝ }
+{
+    match rule {
+        Rule::Range {
+            width: _,
+            least: _,
+            largest: _,
+            refusal: _,
+        } => of_packet(rule, a),
+        Rule::Location { last: _, lsp: _ } => of_packet(rule, a),
+        Rule::Operational => of_packet(rule, a),
+        Rule::Speed => speed_of_sheet(a),
+        Rule::Current => current_of_sheet(a),
+        Rule::Cant => tables::place_of(&tables::CANT_FIGURES, a),
+        Rule::Volts => tables::place_of(&tables::VOLTS, a),
     }
 }

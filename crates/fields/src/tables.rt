@@ -2,11 +2,11 @@
 ghost use mathlib.Core.Path.{_≡_};
 ghost use Prim.Native.Nat.{_<_};
 ghost use lib.ListN.{length};
-ghost use Rattle.fields.specs.Tables.{entryOf};
-ghost use Rattle.fields.specs.Judged.{fromPacket, fromSheet};
-use crate::Field;
-use crate::Item;
-use crate::OUT_OF_RANGE;
+ghost use Rattle.kinds.specs.Tables.{entryOf};
+ghost use Rattle.kinds.specs.Judged.{fromPacket, fromSheet};
+use kinds::Field;
+use kinds::Item;
+use kinds::OUT_OF_RANGE;
 
 // The cant deficiencies in mm, by their NC_CDDIFF.
 pub const CANT_FIGURES: [u32; 11] = [80, 100, 130, 150, 165, 180, 210, 225, 245, 275, 300];

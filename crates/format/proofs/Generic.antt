@@ -5,8 +5,8 @@ use mathlib.Core.List.{List, [], _∷_, _++_}
 use Prim.Native.Nat.{ℕ}
 use native.Mathlib.Omega.{arith}
 use lib.ListN.{length}
-use Rattle.fields.specs.declared.Item.{Item}
-use Rattle.fields.specs.Kind.{Kind}
+use Rattle.kinds.specs.declared.Item.{Item}
+use Rattle.kinds.specs.Kind.{Kind}
 use Rattle.format.specs.Format.{Format, end, field, Read, accepted, refused, Step, step, stop, Medium, with, follow, read, write}
 use Rattle.format.specs.Conforming.{Conforming, done, also}
 

@@ -7,8 +7,8 @@ use mathlib.Core.Logic.{_↔_}
 use Prim.Native.Nat.{ℕ}
 use native.Mathlib.Omega.{arith}
 use Rattle.bits.specs.Bits.{Bytes, bitsOf}
-use Rattle.fields.specs.declared.Item.{Item}
-use Rattle.fields.specs.Kind.{Kind}
+use Rattle.kinds.specs.declared.Item.{Item}
+use Rattle.kinds.specs.Kind.{Kind}
 use Rattle.fields.proofs.Lawful.{LawfulKind, value-small, raised-small}
 use Rattle.format.specs.Format.{Format, end, field, Read, accepted, read, write, packetValues}
 use Rattle.format.specs.Media.{packet, sheet}

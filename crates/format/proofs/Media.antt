@@ -18,11 +18,11 @@ use Rattle.numbers.specs.declared.Number.{Number}
 use Rattle.numbers.specs.declared.Number.the-variants.{Value, Bad}
 use Rattle.numbers.specs.Numbers.{numberIn, groupsIn}
 use Rattle.numbers.proofs.Reading.{number-again, number-only}
-use Rattle.fields.specs.declared.Item.{Item}
-use Rattle.fields.specs.declared.Field.{Field}
-use Rattle.fields.specs.declared.Field.the-variants.{Is, Refused}
-use Rattle.fields.specs.Kind.{Kind}
-use Rattle.fields.specs.Judged.{fromPacket, fromSheet, loweredTo}
+use Rattle.kinds.specs.declared.Item.{Item}
+use Rattle.kinds.specs.declared.Field.{Field}
+use Rattle.kinds.specs.declared.Field.the-variants.{Is, Refused}
+use Rattle.kinds.specs.Kind.{Kind}
+use Rattle.kinds.specs.Judged.{fromPacket, fromSheet, loweredTo}
 use Rattle.format.specs.Format.{Format, Read, accepted, Step, step, stop, read, write}
 use Rattle.format.specs.Media.{stepped, takeBits, putBits, packet, numbered, takeGroups, putGroups, sheet}
 use Rattle.format.specs.Conforming.{Conforming, InPacket, InSheet}

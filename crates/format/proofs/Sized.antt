@@ -9,8 +9,8 @@ use lib.ListN.{length, length-append}
 use Rattle.bits.proofs.Spelling.{length-bits}
 use Rattle.numbers.specs.Numbers.{groupsIn}
 use Rattle.numbers.proofs.Counting.{count-most, count-some}
-use Rattle.fields.specs.declared.Item.{Item}
-use Rattle.fields.specs.Kind.{Kind}
+use Rattle.kinds.specs.declared.Item.{Item}
+use Rattle.kinds.specs.Kind.{Kind}
 use Rattle.fields.proofs.Lawful.{LawfulKind}
 use Rattle.format.specs.Format.{Format, end, field, Medium, write}
 use Rattle.format.specs.Media.{packet, sheet}

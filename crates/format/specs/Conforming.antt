@@ -5,8 +5,8 @@ use mathlib.Core.Bool.{true}
 use mathlib.Core.List.{List, [], _∷_}
 use mathlib.Core.Option.{some}
 use Prim.Native.Nat.{ℕ, _^_, _<_}
-use Rattle.fields.specs.declared.Item.{Item}
-use Rattle.fields.specs.Kind.{Kind}
+use Rattle.kinds.specs.declared.Item.{Item}
+use Rattle.kinds.specs.Kind.{Kind}
 use Rattle.format.specs.Format.{Format, end, field}
 
 pub data Conforming (Good : Kind → Item → Type 0) : Format → List Item → Type 0 where

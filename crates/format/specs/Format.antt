@@ -3,8 +3,8 @@
 use mathlib.Core.List.{List, [], _∷_, _++_, map}
 use Prim.Native.Nat.{ℕ}
 use lib.ListN.{length}
-use Rattle.fields.specs.declared.Item.{Item}
-use Rattle.fields.specs.Kind.{Kind}
+use Rattle.kinds.specs.declared.Item.{Item}
+use Rattle.kinds.specs.Kind.{Kind}
 
 -- Next a field of this kind; what follows depends on its value in the packet.
 pub data Format : Type 0 where

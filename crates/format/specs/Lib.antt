@@ -1,3 +1,4 @@
 pub mod Format
 pub mod Media
 pub mod Conforming
+pub mod Place

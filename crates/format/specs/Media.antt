@@ -9,11 +9,11 @@ use Rattle.bits.specs.Bits.{bitsOf, number}
 use Rattle.numbers.specs.declared.Number.{Number}
 use Rattle.numbers.specs.declared.Number.the-variants.{Value, Bad}
 use Rattle.numbers.specs.Numbers.{numberIn, groupsIn, refusalOf}
-use Rattle.fields.specs.declared.Item.{Item}
-use Rattle.fields.specs.declared.Field.{Field}
-use Rattle.fields.specs.declared.Field.the-variants.{Is, Refused}
-use Rattle.fields.specs.Kind.{Kind}
-use Rattle.fields.specs.Judged.{fromPacket, fromSheet}
+use Rattle.kinds.specs.declared.Item.{Item}
+use Rattle.kinds.specs.declared.Field.{Field}
+use Rattle.kinds.specs.declared.Field.the-variants.{Is, Refused}
+use Rattle.kinds.specs.Kind.{Kind}
+use Rattle.kinds.specs.Judged.{fromPacket, fromSheet}
 use Rattle.format.specs.Format.{Step, step, stop, Medium}
 
 -- a field judged, and what is left after it

@@ -4,8 +4,8 @@ use mathlib.Core.Path.{_≡_, refl}
 use mathlib.Core.List.{map}
 use Rattle.bits.specs.Bits.{fieldAt}
 use Rattle.numbers.specs.Numbers.{numberOf, groupsIn}
-use Rattle.fields.specs.Kinds.{digits}
-use Rattle.fields.specs.Tables.{place}
+use Rattle.kinds.specs.Kinds.{digits}
+use Rattle.kinds.specs.Tables.{place}
 use Rattle.segment.specs.Segment.{entries, changes, lists, body, fields, sheetFields}
 use Rattle.segment.specs.Judgement.{fromPacket, fromSheet, toPacket, toSheet}
 use Rattle.segment.specs.Desk.{reply, desk}

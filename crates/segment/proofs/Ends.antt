@@ -11,16 +11,16 @@ use lib.Dec.{eqb, ltb, lit≤}
 use lib.ListN.{length}
 use Rattle.numbers.specs.Numbers.{groupsIn}
 use Rattle.numbers.proofs.Counting.{count-most}
-use Rattle.fields.specs.Kind.{Kind}
+use Rattle.kinds.specs.Kind.{Kind}
 use Rattle.bits.proofs.Tests.{and-left, and-right}
-use Rattle.fields.specs.Kinds.{digits, class, nidCTraction}
-use Rattle.fields.specs.Tables.{place}
+use Rattle.kinds.specs.Kinds.{digits, class, nidCTraction}
+use Rattle.kinds.specs.Tables.{place}
 use Rattle.format.specs.Format.{Format, end, field, write}
 use Rattle.format.specs.Media.{packet, sheet}
 use Rattle.format.specs.Conforming.{Conforming, done, also, InPacket, InSheet}
 use Rattle.format.proofs.Lawful.{Lawful}
 use Rattle.format.proofs.Sized.{Measured, within, lawful, size-least, size-most, packet-priced, sheet-priced}
-use Rattle.fields.specs.declared.Item.{Item}
+use Rattle.kinds.specs.declared.Item.{Item}
 use Rattle.segment.specs.Segment.{entries, changes, lists, body, fields, sheetFields, wireChanges}
 use Rattle.segment.specs.Frame.{framed}
 use Rattle.segment.specs.Judgement.{segmentNumber, afterNumber}

@@ -15,7 +15,7 @@ use Rattle.bits.proofs.Tests.{by-cases}
 use Rattle.bits.proofs.Spelling.{length-bits, number-bits, bits-number}
 use Rattle.bits.proofs.Padding.{length-pack, length-bytes, unpack, pack-fill, pack-bytes}
 use Rattle.bits.proofs.Fields.{field-small}
-use Rattle.fields.specs.declared.Item.{Item}
+use Rattle.kinds.specs.declared.Item.{Item}
 use Rattle.format.specs.Format.{Format, Read, accepted, refused, read, write}
 use Rattle.format.specs.Media.{packet}
 use Rattle.format.specs.Conforming.{Conforming, InPacket}

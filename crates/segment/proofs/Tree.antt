@@ -8,8 +8,8 @@ use native.Mathlib.Omega.{arith}
 use borrow.Author.Tests.{leb-true}
 use lib.Dec.{leb, lit<, lit≤}
 use Rattle.bits.proofs.Tests.{and-right}
-use Rattle.fields.specs.Kind.{Kind}
-use Rattle.fields.specs.Kinds.{nidPacketAto, nidOperational, nidEngine, tTimestampDate, tTimestampSeconds, nPacketCounter, nidC, nidSp, mSpVersion, lSp, dEoAOffset, qUtcOffset, mSpAltitude, speed, qFront, nIter, qDiff, class, dLocation, mVoltage, nidCTraction, mCurrent}
+use Rattle.kinds.specs.Kind.{Kind}
+use Rattle.kinds.specs.Kinds.{nidPacketAto, nidOperational, nidEngine, tTimestampDate, tTimestampSeconds, nPacketCounter, nidC, nidSp, mSpVersion, lSp, dEoAOffset, qUtcOffset, mSpAltitude, speed, qFront, nIter, qDiff, class, dLocation, mVoltage, nidCTraction, mCurrent}
 use Rattle.fields.proofs.Lawful.{LawfulKind, value-small, range-lawful, upTo-lawful, operational-lawful, location-lawful, traction-lawful, speed-lawful, current-lawful, voltage-lawful, class-lawful}
 use Rattle.format.specs.Format.{Format, end, field}
 use Rattle.format.proofs.Sized.{Measured, over, plus, within}

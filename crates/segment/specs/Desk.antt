@@ -3,7 +3,7 @@
 use mathlib.Core.List.{List, [], _∷_, _++_}
 use Prim.Native.Nat.{ℕ}
 use lib.ListN.{replicate, take}
-use Rattle.fields.specs.declared.Item.{Item}
+use Rattle.kinds.specs.declared.Item.{Item}
 use Rattle.format.specs.Format.{Read, accepted, refused}
 use Rattle.segment.specs.Segment.{wireChanges}
 use Rattle.segment.specs.Judgement.{fromPacket, fromSheet, toPacket, toSheet}

@@ -6,7 +6,7 @@ use Prim.Native.Nat.{ℕ, _+_, _-_, _/_}
 use lib.Dec.{eqb, ltb}
 use lib.ListN.{length, take, drop}
 use Rattle.bits.specs.Bits.{bitsOf, bitsOfBytes, bytesOfBits, fieldAt}
-use Rattle.fields.specs.declared.Item.{Item}
+use Rattle.kinds.specs.declared.Item.{Item}
 use Rattle.format.specs.Format.{Format, Read, accepted, refused, read}
 use Rattle.format.specs.Media.{packet}
 

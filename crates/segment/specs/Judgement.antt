@@ -2,7 +2,7 @@
 -- Assumes nothing.
 use mathlib.Core.List.{List, [], _∷_}
 use Prim.Native.Nat.{ℕ}
-use Rattle.fields.specs.declared.Item.{Item}
+use Rattle.kinds.specs.declared.Item.{Item}
 use Rattle.format.specs.Format.{Read, read, write}
 use Rattle.format.specs.Media.{packet, sheet}
 use Rattle.segment.specs.Segment.{fields, sheetFields}

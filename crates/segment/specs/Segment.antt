@@ -1,7 +1,7 @@
 -- The fields of a segment, in the document's order, over the limit of wire changes.
 -- Assumes nothing.
 use Prim.Native.Nat.{ℕ, zero, suc}
-use Rattle.fields.specs.Kinds.{nidPacketAto, nidOperational, nidEngine, tTimestampDate, tTimestampSeconds, nPacketCounter, nidC, nidSp, mSpVersion, lSp, dEoAOffset, qUtcOffset, mSpAltitude, speed, qFront, nIter, qDiff, class, dLocation, mVoltage, nidCTraction, mCurrent}
+use Rattle.kinds.specs.Kinds.{nidPacketAto, nidOperational, nidEngine, tTimestampDate, tTimestampSeconds, nPacketCounter, nidC, nidSp, mSpVersion, lSp, dEoAOffset, qUtcOffset, mSpAltitude, speed, qFront, nIter, qDiff, class, dLocation, mVoltage, nidCTraction, mCurrent}
 use Rattle.format.specs.Format.{Format, end, field, then}
 
 -- "specific entries: Q_DIFF 2, class 4, V_DIFF 7", n of them

@@ -1,6 +1,6 @@
 -- `fields::operational` meets its contract.
 use Rattle.fields.proofs.Digits.{digits-stop, digits-more, digits-done, fewer-digits}
-use Rattle.fields.specs.Kinds.{digits}
+use Rattle.kinds.specs.Kinds.{digits}
 use Prim.Native.Nat.{_<_, _^_}
 use mathlib.Core.Path.{_≡_, refl, sym, _∙_}
 use native.Mathlib.Omega.{arith}

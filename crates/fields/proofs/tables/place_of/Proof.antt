@@ -1,7 +1,7 @@
 -- `fields::tables::place_of` meets its contract.
 use Rattle.fields.proofs.Judging.{figure-found, figure-none}
 use Rattle.fields.proofs.Lookup.{place-here, place-more, place-none}
-use Rattle.fields.specs.Tables.{place}
+use Rattle.kinds.specs.Tables.{place}
 use lib.ListN.{length, drop}
 use denote.Ref.{now}
 use Prim.Native.Nat.{_≤_, _-_}

@@ -1,9 +1,9 @@
--- `fields::segment::class_at` meets its contract.
-use Rattle.fields.proofs.Judging.{class-other}
+-- `kinds::body::class_at` meets its contract.
+use Rattle.kinds.proofs.Choosing.{class-other}
 use mathlib.Core.Path.{_∙_}
 use borrow.Author.Needs.{needs}
-use Rattle.fields.proofs.segment.class_at.Statement.{statement}
-use Rattle.fields.proofs.segment.class_at.Tie as tie
+use Rattle.kinds.proofs.body.class_at.Statement.{statement}
+use Rattle.kinds.proofs.body.class_at.Tie as tie
 
 rule-requires : tie.Need-rule-requires
 rule-requires c κs = search needs

@@ -1,10 +1,10 @@
--- `fields::Rule::of_packet` meets its contract.
+-- `fields::of_packet` meets its contract.
 use borrow.Author.Needs.{needs}
-use Rattle.fields.proofs.Rule.of_packet.Statement.{statement}
-use Rattle.fields.proofs.Rule.of_packet.Tie as tie
+use Rattle.fields.proofs.of_packet.Statement.{statement}
+use Rattle.fields.proofs.of_packet.Tie as tie
 
-enum-known-self : tie.Need-enum-known-self
-enum-known-self c = search needs
+enum-known-rule : tie.Need-enum-known-rule
+enum-known-rule c = search needs
 
 within-requires : tie.Need-within-requires
 within-requires c κs = search needs
@@ -12,8 +12,8 @@ within-requires c κs = search needs
 judged-requires : tie.Need-judged-requires
 judged-requires c κs = search needs
 
-enum-known-self-2 : tie.Need-enum-known-self-2
-enum-known-self-2 c = search needs
+enum-known-rule-2 : tie.Need-enum-known-rule-2
+enum-known-rule-2 c = search needs
 
 between-requires : tie.Need-between-requires
 between-requires c κs = search needs
@@ -61,10 +61,10 @@ figure-of-requires-2 : tie.Need-figure-of-requires-2
 figure-of-requires-2 c κs = search needs
 
 returns : tie.Need-returns
-returns c = rw (c .before .before .before .self .given .1, c .judged .ensures, c .before .within .ensures)
+returns c = rw (c .before .before .before .rule .given .1, c .judged .ensures, c .before .within .ensures)
 
 returns-2 : tie.Need-returns-2
-returns-2 c = rw (c .before .before .before .self2 .given .1, c .judged2 .ensures, c .before .between .ensures)
+returns-2 c = rw (c .before .before .before .rule2 .given .1, c .judged2 .ensures, c .before .between .ensures)
 
 returns-3 : tie.Need-returns-3
 returns-3 c = rw (c .before .before .enum-told .given .1, c .judged3 .ensures, c .before .operational .ensures)
@@ -85,10 +85,10 @@ pub of-packet-spec : {M : Type 1} → statement M
 of-packet-spec =
     tie.close
     (tie.spec
-    enum-known-self
+    enum-known-rule
     within-requires
     judged-requires
-    enum-known-self-2
+    enum-known-rule-2
     between-requires
     judged-requires-2
     enum-told

@@ -1,9 +1,9 @@
--- `fields::Rule::of_sheet` meets its contract.
+-- `fields::of_sheet` meets its contract.
 use Rattle.fields.proofs.Judging.{alike, both-alike}
 use mathlib.Core.Path.{ap, _∙_}
 use borrow.Author.Needs.{needs}
-use Rattle.fields.proofs.Rule.of_sheet.Statement.{statement}
-use Rattle.fields.proofs.Rule.of_sheet.Tie as tie
+use Rattle.fields.proofs.of_sheet.Statement.{statement}
+use Rattle.fields.proofs.of_sheet.Tie as tie
 
 enum-told : tie.Need-enum-told
 enum-told c = search needs
@@ -54,13 +54,13 @@ place-of-requires-2 : tie.Need-place-of-requires-2
 place-of-requires-2 c κs = search needs
 
 returns : tie.Need-returns
-returns c = let a = c .before .before .before .args in c .of-packet .ensures ∙ both-alike (a .self) (a .a) (ap alike (c .before .enum-told .given .1))
+returns c = let a = c .before .before .before .args in c .of-packet .ensures ∙ both-alike (a .rule) (a .a) (ap alike (c .before .enum-told .given .1))
 
 returns-2 : tie.Need-returns-2
-returns-2 c = let a = c .before .before .before .args in c .of-packet2 .ensures ∙ both-alike (a .self) (a .a) (ap alike (c .before .enum-told2 .given .1))
+returns-2 c = let a = c .before .before .before .args in c .of-packet2 .ensures ∙ both-alike (a .rule) (a .a) (ap alike (c .before .enum-told2 .given .1))
 
 returns-3 : tie.Need-returns-3
-returns-3 c = let a = c .before .before .before .args in c .of-packet3 .ensures ∙ both-alike (a .self) (a .a) (ap alike (c .before .enum-told3 .given .1))
+returns-3 c = let a = c .before .before .before .args in c .of-packet3 .ensures ∙ both-alike (a .rule) (a .a) (ap alike (c .before .enum-told3 .given .1))
 
 returns-4 : tie.Need-returns-4
 returns-4 c = rw (c .before .enum-told4 .given .1) (c .speed-of-sheet .ensures)

@@ -6,7 +6,7 @@ use mathlib.Core.Option.{Option, none, some}
 use Prim.Native.Nat.{ℕ, zero, suc, _-_, max}
 use lib.Dec.{eqb, ltb}
 use lib.ListN.{length, getD}
-use Rattle.fields.specs.Kind.{Kind}
+use Rattle.kinds.specs.Kind.{Kind}
 
 -- "mm: 80, 100, 130, 150, 165, 180, 210, 225, 245, 275, 300" stand for "0 to 10 in that order"
 abbrev pub cantFigures : List ℕ

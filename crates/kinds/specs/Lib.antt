@@ -2,3 +2,4 @@ pub mod Kind
 pub mod Tables
 pub mod Kinds
 pub mod Judged
+pub mod Rules

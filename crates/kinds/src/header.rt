@@ -1,7 +1,7 @@
 // The field kinds of a packet's header, in its order.
 ghost use mathlib.Core.Path.{_≡_};
-ghost use Rattle.fields.specs.Kinds.{nidPacketAto, lPacketAto, nidOperational, nidEngine, tTimestampDate, tTimestampSeconds, nPacketCounter};
-ghost use Rattle.fields.specs.Judged.{Keeps};
+ghost use Rattle.kinds.specs.Kinds.{nidPacketAto, lPacketAto, nidOperational, nidEngine, tTimestampDate, tTimestampSeconds, nPacketCounter};
+ghost use Rattle.kinds.specs.Rules.{Keeps};
 use crate::PACKET_NUMBER;
 use crate::Rule;
 use crate::up_to;

@@ -4,8 +4,8 @@ use mathlib.Core.Bool.{Bool, true, false, cond, _&&_, _||_}
 use mathlib.Core.Option.{Option, none, some}
 use Prim.Native.Nat.{ℕ, zero, suc, _+_, _*_, _-_, _/_, _%_}
 use lib.Dec.{eqb, ltb, leb}
-use Rattle.fields.specs.Kind.{Kind, when, same, range, upTo}
-use Rattle.fields.specs.Tables.{cantFigures, volts, entryOf}
+use Rattle.kinds.specs.Kind.{Kind, when, same, range, upTo}
+use Rattle.kinds.specs.Tables.{cantFigures, volts, entryOf}
 
 -- ---- "Header, 120 bits"
 

@@ -9,10 +9,10 @@ use native.Mathlib.Omega.{arith}
 use borrow.Author.Tests.{le-ltb, lt-leb}
 use lib.Dec.{ltb, leb·zero}
 use Rattle.bits.proofs.Tests.{by-cases}
-use Rattle.fields.specs.declared.Field.the-variants.{Is, Refused}
-use Rattle.fields.specs.Tables.{place}
-use Rattle.fields.specs.Kinds.{digit, digits, speed, dLocation, mVoltage, nidCTraction, mCurrent}
-use Rattle.fields.specs.Judged.{fromSheet}
+use Rattle.kinds.specs.declared.Field.the-variants.{Is, Refused}
+use Rattle.kinds.specs.Tables.{place}
+use Rattle.kinds.specs.Kinds.{digit, digits, speed, dLocation, mVoltage, nidCTraction, mCurrent}
+use Rattle.kinds.specs.Judged.{fromSheet}
 
 -- "604 gives 120 and 605 is refused"
 pub speed-604 : fromSheet speed 604 ≡ Is (record { sheet = 604; packet = 120 })

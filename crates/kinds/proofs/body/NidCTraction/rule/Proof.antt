@@ -1,10 +1,10 @@
--- `fields::segment::NidCTraction::rule` meets its contract.
-use Rattle.fields.proofs.Judging.{traction-other}
-use Rattle.fields.specs.Kind.{upTo}
+-- `kinds::body::NidCTraction::rule` meets its contract.
+use Rattle.kinds.proofs.Choosing.{traction-other}
+use Rattle.kinds.specs.Kind.{upTo}
 use mathlib.Core.Path.{ap, _∙_}
 use borrow.Author.Needs.{needs}
-use Rattle.fields.proofs.segment.NidCTraction.rule.Statement.{statement}
-use Rattle.fields.proofs.segment.NidCTraction.rule.Tie as tie
+use Rattle.kinds.proofs.body.NidCTraction.rule.Statement.{statement}
+use Rattle.kinds.proofs.body.NidCTraction.rule.Tie as tie
 
 up-to-requires : tie.Need-up-to-requires
 up-to-requires c κs = search needs

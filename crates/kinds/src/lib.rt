@@ -1,0 +1,59 @@
+// The field kinds of the header and the body: a type each, with its width and its largest value, and the rule that judges its values.
+ghost use mathlib.Core.Path.{_≡_};
+ghost use Rattle.kinds.specs.Kind.{upTo};
+ghost use Rattle.kinds.specs.Rules.{meaning};
+
+pub mod body;
+pub mod header;
+
+// A field's value: the sheet's number and the packet's.
+pub struct Item {
+    pub sheet: u32,
+    pub packet: u32,
+}
+
+// A value, or the number of its refusal.
+pub enum Field {
+    Is(Item),
+    Refused(u32),
+}
+
+// The refusals of a value: the packet number, a field outside its range or set, a change's location.
+pub const PACKET_NUMBER: u32 = 2;
+
+pub const OUT_OF_RANGE: u32 = 4;
+
+pub const LOCATION: u32 = 5;
+
+// What judges the values of a kind.
+pub enum Rule {
+    // The same number in both, from least to largest.
+    Range {
+        width: u32,
+        least: u32,
+        largest: u32,
+        refusal: u32,
+    },
+    // A change's location, after the last one and before the segment's end.
+    Location {
+        last: u32,
+        lsp: u32,
+    },
+    Operational,
+    Speed,
+    Current,
+    Cant,
+    Volts,
+}
+
+// From 0 to largest.
+fn up_to(width: u32, largest: u32) -> Rule
+    ensures { λ r. ⌜ meaning r ≡ upTo width largest ⌝ }
+{
+    Rule::Range {
+        width,
+        least: 0,
+        largest,
+        refusal: OUT_OF_RANGE,
+    }
+}
