@@ -52,7 +52,7 @@ pub with-length : (s : List ℕ) (at w v : ℕ) → length (withField s at w v) 
 with-length s at w v =
     omega (arith, length-bytes s, sym (length-bytes (withField s at w v)) ∙ ap length (with-bits s at w v) ∙ length-sets (bitsOfBytes s) at (bitsOf w v))
 
-drop-take : (m n : ℕ) (s : List Bool) → drop m (take n s) ≡ take (n - m) (drop m s)
+pub drop-take : (m n : ℕ) (s : List Bool) → drop m (take n s) ≡ take (n - m) (drop m s)
 drop-take zero n s = rw sub-zero
 drop-take (suc m) zero s = rw zero-sub
 drop-take (suc m) (suc n) [] = rw take-nil

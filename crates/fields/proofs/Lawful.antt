@@ -8,19 +8,32 @@ use Prim.Native.Nat.{ℕ, zero, suc, _+_, _*_, _-_, _/_, _^_, _<_, _≤_}
 use native.Mathlib.Nat.{lt-of-lt-of-le, mul-div-cancel}
 use native.Mathlib.Omega.{arith}
 use borrow.Author.Tests.{ltb-true, leb-true, eqb-true, lt-ltb, le-leb, ne-eqb}
-use lib.Dec.{eqb, ltb, leb, lit<, lit≤}
+use lib.Dec.{T, eqb, ltb, leb, lit<, lit≤}
 use lib.ListN.{length}
 use lib.Pow.{pow-mono}
-use Rattle.bits.proofs.Tests.{by-cases, and-right, or-cases}
+use Rattle.bits.proofs.Tests.{by-cases, and-right, or-cases, and-left}
 use Rattle.kinds.specs.Kind.{Kind, when, same, range, upTo}
 use Rattle.kinds.specs.Tables.{cantFigures, volts, entryOf, greatest}
 use Rattle.kinds.specs.Kinds.{nidOperational, speed, class, dLocation, mVoltage, mostTraction, nidCTraction, mCurrent}
 use Rattle.fields.proofs.Digits.{digits-small}
 use Rattle.fields.proofs.Lookup.{distinct, place-small, place-top, place-again, cants-distinct, volts-distinct}
 
+T-true : (b : Bool) → T b → b ≡ true
+T-true true t = refl
+T-true false t = absurd t
+
+-- 1 to 32 bits
+pub record Narrow (width : ℕ) : Type 0 where
+  pub some : 1 ≤ width
+  pub most : width ≤ 32
+
+pub narrow : {width : ℕ} → T (leb 1 width && leb width 32) → Narrow width
+narrow {width} t = let e : (leb 1 width && leb width 32) ≡ true = T-true (leb 1 width && leb width 32) t in
+    record { some = leb-true 1 width (and-left (leb 1 width) (leb width 32) e); most = leb-true width 32 (and-right (leb 1 width) (leb width 32) e) }
+
 pub record LawfulKind (k : Kind) : Type 0 where
   -- the width, the largest value in a packet, the highest number in a sheet
-  pub narrow : k .width ≤ 32
+  pub narrow : Narrow (k .width)
   pub holds : k .largest < 2 ^ k .width
   pub short : k .highest < 2 ^ 32
   pub most : (v : ℕ) → k .allowed v ≡ true → v ≤ k .largest
@@ -43,32 +56,32 @@ when-some false a v e f = absurd (let z : _≡_ {A = ℕ} 0 1 = cc in omega arit
 
 -- ---- the same number in both
 
-same-lawful : (width largest refusal : ℕ) (ok : ℕ → Bool) → width ≤ 32 → largest < 2 ^ width → ((v : ℕ) → ok v ≡ true → v ≤ largest)
+same-lawful : (width largest refusal : ℕ) (ok : ℕ → Bool) → Narrow width → largest < 2 ^ width → ((v : ℕ) → ok v ≡ true → v ≤ largest)
     → LawfulKind (same width largest refusal ok)
 same-lawful width largest refusal ok n h most = record {
   narrow = n;
   holds = h;
-  short = lt-of-lt-of-le h (pow-mono n);
+  short = lt-of-lt-of-le h (pow-mono (n .most));
   most = most;
   top = λ a v e. when-some (ok a) a v e λ t q. most a t;
   back = λ v e. rw e;
   into = λ a v e. when-some (ok a) a v e λ t q. rw q at t;
 }
 
-pub range-lawful : (width least largest refusal : ℕ) → width ≤ 32 → largest < 2 ^ width → LawfulKind (range width least largest refusal)
+pub range-lawful : (width least largest refusal : ℕ) → Narrow width → largest < 2 ^ width → LawfulKind (range width least largest refusal)
 range-lawful width least largest refusal n h =
     same-lawful width largest refusal (λ v. leb least v && leb v largest) n h
     λ v e. leb-true v largest (and-right (leb least v) (leb v largest) e)
 
-pub upTo-lawful : (width largest : ℕ) → width ≤ 32 → largest < 2 ^ width → LawfulKind (upTo width largest)
+pub upTo-lawful : (width largest : ℕ) → Narrow width → largest < 2 ^ width → LawfulKind (upTo width largest)
 upTo-lawful width largest h m = range-lawful width 0 largest 4 h m
 
 pub operational-lawful : LawfulKind nidOperational
-operational-lawful = same-lawful 32 4294967295 4 (nidOperational .allowed) (lit≤ tt) (lit< tt) λ v e. omega (arith, digits-small 8 v e)
+operational-lawful = same-lawful 32 4294967295 4 (nidOperational .allowed) (narrow tt) (lit< tt) λ v e. omega (arith, digits-small 8 v e)
 
 pub location-lawful : (last lsp : ℕ) → lsp < 2 ^ 24 → LawfulKind (dLocation last lsp)
 location-lawful last lsp h =
-    same-lawful 24 16777215 5 (dLocation last lsp .allowed) (lit≤ tt) (lit< tt)
+    same-lawful 24 16777215 5 (dLocation last lsp .allowed) (narrow tt) (lit< tt)
     λ x e. omega (arith, ltb-true x lsp (and-right (ltb last x) (ltb x lsp) e))
 
 most-traction : (u : ℕ) → mostTraction u < 2 ^ 10
@@ -76,13 +89,13 @@ most-traction zero = lit< tt
 most-traction (suc u) = lit< tt
 
 pub traction-lawful : (u : ℕ) → LawfulKind (nidCTraction u)
-traction-lawful u = upTo-lawful 10 (mostTraction u) (lit≤ tt) (most-traction u)
+traction-lawful u = upTo-lawful 10 (mostTraction u) (narrow tt) (most-traction u)
 
 -- ---- steps
 
 pub speed-lawful : LawfulKind speed
 speed-lawful = record {
-  narrow = lit≤ tt;
+  narrow = narrow tt;
   holds = lit< tt;
   short = lit< tt;
   most = λ v e. leb-true v 120 e;
@@ -104,7 +117,7 @@ current-into a v e =
 
 pub current-lawful : LawfulKind mCurrent
 current-lawful = record {
-  narrow = lit≤ tt;
+  narrow = narrow tt;
   holds = lit< tt;
   short = lit< tt;
   most = λ v e. current-cases v e (λ q. omega arith) (λ n h. omega arith);
@@ -119,7 +132,7 @@ current-lawful = record {
 
 -- ---- tables
 
-entry-lawful : (width : ℕ) (table : List ℕ) → width ≤ 32 → length table - 1 < 2 ^ width → distinct table ≡ true → greatest table < 2 ^ 32 → LawfulKind (entryOf width table)
+entry-lawful : (width : ℕ) (table : List ℕ) → Narrow width → length table - 1 < 2 ^ width → distinct table ≡ true → greatest table < 2 ^ 32 → LawfulKind (entryOf width table)
 entry-lawful width table n h d g = record {
   narrow = n;
   holds = h;
@@ -131,8 +144,8 @@ entry-lawful width table n h d g = record {
 }
 
 pub voltage-lawful : LawfulKind mVoltage
-voltage-lawful = entry-lawful 4 volts (lit≤ tt) (lit< tt) volts-distinct (lit< tt)
+voltage-lawful = entry-lawful 4 volts (narrow tt) (lit< tt) volts-distinct (lit< tt)
 
 pub class-lawful : (q : ℕ) → LawfulKind (class q)
-class-lawful zero = entry-lawful 4 cantFigures (lit≤ tt) (lit< tt) cants-distinct (lit< tt)
-class-lawful (suc q) = upTo-lawful 4 2 (lit≤ tt) (lit< tt)
+class-lawful zero = entry-lawful 4 cantFigures (narrow tt) (lit< tt) cants-distinct (lit< tt)
+class-lawful (suc q) = upTo-lawful 4 2 (narrow tt) (lit< tt)

@@ -2,3 +2,4 @@ pub mod Generic
 pub mod Media
 pub mod Lawful
 pub mod Sized
+pub mod Stepping

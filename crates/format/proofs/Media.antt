@@ -77,7 +77,7 @@ packet-lawful = record { again = bits-again; only = bits-only }
 
 -- ---- groups
 
-bytes-drop : (n : ℕ) (s : List ℕ) → Bytes s → Bytes (drop n s)
+pub bytes-drop : (n : ℕ) (s : List ℕ) → Bytes s → Bytes (drop n s)
 bytes-drop zero s ok = ok
 bytes-drop (suc n) [] ok = ok
 bytes-drop (suc n) (b ∷ s) ok = bytes-drop n s (ok .1)

@@ -10,7 +10,7 @@ use lib.Dec.{leb, lit<, lit≤}
 use Rattle.bits.proofs.Tests.{and-right}
 use Rattle.kinds.specs.Kind.{Kind}
 use Rattle.kinds.specs.Kinds.{nidPacketAto, nidOperational, nidEngine, tTimestampDate, tTimestampSeconds, nPacketCounter, nidC, nidSp, mSpVersion, lSp, dEoAOffset, qUtcOffset, mSpAltitude, speed, qFront, nIter, qDiff, class, dLocation, mVoltage, nidCTraction, mCurrent}
-use Rattle.fields.proofs.Lawful.{LawfulKind, value-small, range-lawful, upTo-lawful, operational-lawful, location-lawful, traction-lawful, speed-lawful, current-lawful, voltage-lawful, class-lawful}
+use Rattle.fields.proofs.Lawful.{LawfulKind, narrow, value-small, range-lawful, upTo-lawful, operational-lawful, location-lawful, traction-lawful, speed-lawful, current-lawful, voltage-lawful, class-lawful}
 use Rattle.format.specs.Format.{Format, end, field}
 use Rattle.format.proofs.Sized.{Measured, over, plus, within}
 use Rattle.segment.specs.Segment.{entries, profile, voltage, current, changes, part, lists, body, fields, sheetFields}
@@ -59,7 +59,7 @@ module _ {lo hi : Kind → ℕ} (c : Costs lo hi) where
   iter-measured : {next : ℕ → Format} {a b : ℕ} (limit : ℕ) → limit ≤ 31 → ((n : ℕ) → n ≤ limit → Measured lo hi (next n) a b)
       → Measured lo hi (field (nIter limit) next) (c .iterLow + a) (c .iterHigh + b)
   iter-measured {a = a} {b = b} limit h rest =
-      within (c .iterLow + a) (c .iterHigh + b) (plus (upTo-lawful 5 limit (lit≤ tt) (omega arith)) λ n e. rest n (count n limit e))
+      within (c .iterLow + a) (c .iterHigh + b) (plus (upTo-lawful 5 limit (narrow tt) (omega arith)) λ n e. rest n (count n limit e))
       (omega (arith, c .iter-low limit)) (omega (arith, c .iter-high limit h))
 
   entries-measured : {f : Format} {a b : ℕ} → Measured lo hi f a b → (n : ℕ) → Measured lo hi (entries n f) a (n * entryHigh + b)
@@ -67,7 +67,7 @@ module _ {lo hi : Kind → ℕ} (c : Costs lo hi) where
   entries-measured {a = a} {b = b} m zero = within a (0 * entryHigh + b) m (omega arith) (omega arith)
   entries-measured {a = a} {b = b} m (suc n) =
       within a (suc n * entryHigh + b)
-      (plus (upTo-lawful 2 2 (lit≤ tt) (lit< tt)) λ q _. within a (c .classHigh + (hi speed + (n * entryHigh + b)))
+      (plus (upTo-lawful 2 2 (narrow tt) (lit< tt)) λ q _. within a (c .classHigh + (hi speed + (n * entryHigh + b)))
       (plus (class-lawful q) λ _ _. plus speed-lawful λ _ _. entries-measured m n) (omega arith) (omega (arith, c .class-high q)))
       (omega arith) (omega arith)
 
@@ -75,7 +75,7 @@ module _ {lo hi : Kind → ℕ} (c : Costs lo hi) where
   profile-measured = record {
     starts = λ {f} {low} {high} m.
         within (profileLow + low) (profileHigh + high)
-        (plus speed-lawful λ _ _. plus (upTo-lawful 1 1 (lit≤ tt) (lit< tt)) λ _ _. iter-measured 31 (lit≤ tt) λ n h.
+        (plus speed-lawful λ _ _. plus (upTo-lawful 1 1 (narrow tt) (lit< tt)) λ _ _. iter-measured 31 (lit≤ tt) λ n h.
         within low (31 * entryHigh + high) (entries-measured m n) (omega arith) (omega (arith, mul-le-mul-right entryHigh h))) (omega arith) (omega arith);
   }
 
@@ -127,22 +127,22 @@ module _ {lo hi : Kind → ℕ} (c : Costs lo hi) where
   pub body-measured : (limit : ℕ) → limit ≤ 31 → Measured lo hi (body limit) (bodySum lo listsLow) (bodySum hi (listsHigh limit))
   unfolding body
   body-measured limit k =
-      plus (upTo-lawful 10 1023 (lit≤ tt) (lit< tt)) λ _ _. plus (upTo-lawful 32 4294967295 (lit≤ tt) (lit< tt)) λ _ _.
-      plus (upTo-lawful 8 255 (lit≤ tt) (lit< tt)) λ _ _. plus (upTo-lawful 8 255 (lit≤ tt) (lit< tt)) λ _ _.
-      plus length-lawful λ lsp e. plus (upTo-lawful 24 16777215 (lit≤ tt) (lit< tt)) λ _ _.
-      plus (upTo-lawful 7 112 (lit≤ tt) (lit< tt)) λ _ _. plus (upTo-lawful 20 1048575 (lit≤ tt) (lit< tt)) λ _ _.
+      plus (upTo-lawful 10 1023 (narrow tt) (lit< tt)) λ _ _. plus (upTo-lawful 32 4294967295 (narrow tt) (lit< tt)) λ _ _.
+      plus (upTo-lawful 8 255 (narrow tt) (lit< tt)) λ _ _. plus (upTo-lawful 8 255 (narrow tt) (lit< tt)) λ _ _.
+      plus length-lawful λ lsp e. plus (upTo-lawful 24 16777215 (narrow tt) (lit< tt)) λ _ _.
+      plus (upTo-lawful 7 112 (narrow tt) (lit< tt)) λ _ _. plus (upTo-lawful 20 1048575 (narrow tt) (lit< tt)) λ _ _.
       lists-measured limit lsp k (value-small length-lawful lsp e)
     where
       length-lawful : LawfulKind lSp
-      length-lawful = range-lawful 24 1 16777215 4 (lit≤ tt) (lit< tt)
+      length-lawful = range-lawful 24 1 16777215 4 (narrow tt) (lit< tt)
 
   pub fields-measured : (limit : ℕ) → limit ≤ 31 → Measured lo hi (fields limit) (headerSum lo (bodySum lo listsLow)) (headerSum hi (bodySum hi (listsHigh limit)))
   unfolding fields
   fields-measured limit k =
-      plus operational-lawful λ _ _. plus (upTo-lawful 24 16777215 (lit≤ tt) (lit< tt)) λ _ _. plus (upTo-lawful 15 32767 (lit≤ tt) (lit< tt)) λ _ _.
-      plus (upTo-lawful 17 86399 (lit≤ tt) (lit< tt)) λ _ _. plus (upTo-lawful 8 255 (lit≤ tt) (lit< tt)) λ _ _. body-measured limit k
+      plus operational-lawful λ _ _. plus (upTo-lawful 24 16777215 (narrow tt) (lit< tt)) λ _ _. plus (upTo-lawful 15 32767 (narrow tt) (lit< tt)) λ _ _.
+      plus (upTo-lawful 17 86399 (narrow tt) (lit< tt)) λ _ _. plus (upTo-lawful 8 255 (narrow tt) (lit< tt)) λ _ _. body-measured limit k
 
   pub sheetFields-measured : (limit : ℕ) → limit ≤ 31
       → Measured lo hi (sheetFields limit) (lo nidPacketAto + headerSum lo (bodySum lo listsLow)) (hi nidPacketAto + headerSum hi (bodySum hi (listsHigh limit)))
   unfolding sheetFields
-  sheetFields-measured limit k = plus (range-lawful 8 6 6 2 (lit≤ tt) (lit< tt)) λ _ _. fields-measured limit k
+  sheetFields-measured limit k = plus (range-lawful 8 6 6 2 (narrow tt) (lit< tt)) λ _ _. fields-measured limit k

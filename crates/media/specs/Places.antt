@@ -1,0 +1,41 @@
+-- A field taken at a place: a bit of a packet, a byte of a sheet.
+-- Assumes nothing.
+use mathlib.Core.Bool.{Bool, true, false, cond}
+use mathlib.Core.List.{List}
+use Prim.Native.Nat.{ℕ, _+_, _*_, _-_, _^_, _≤_, _<_}
+use lib.Dec.{ltb}
+use lib.ListN.{length, take, drop}
+use Rattle.bits.specs.Bits.{bitsOfBytes, fieldAt}
+use Rattle.numbers.specs.declared.Number.{Number}
+use Rattle.numbers.specs.declared.Number.the-variants.{Value, Bad}
+use Rattle.numbers.specs.Numbers.{numberIn, groupsIn, refusalOf}
+use Rattle.kinds.specs.declared.Field.{Field}
+use Rattle.kinds.specs.declared.Field.the-variants as Judged
+use Rattle.kinds.specs.Kind.{Kind}
+use Rattle.kinds.specs.Judged.{fromPacket, fromSheet}
+use Rattle.media.specs.declared.Taken.{Taken}
+use Rattle.media.specs.declared.Taken.the-variants.{Is, Refused}
+
+-- the bits of a packet from the bit at up to the bit stop
+abbrev pub rest : List ℕ → ℕ → ℕ → List Bool
+rest s at stop = take (stop - at) (drop at (bitsOfBytes s))
+
+-- a place in a packet whose fields end at the bit stop
+pub record Placed (s : List ℕ) (at stop : ℕ) : Type 0 where
+  pub before : at ≤ stop
+  pub inside : stop ≤ 8 * length s
+  pub few : stop < 2 ^ 32
+
+abbrev pub takenAt : Field → ℕ → Taken
+takenAt (Judged.Is i) next = Is i next
+takenAt (Judged.Refused r) next = Refused r
+
+abbrev pub bitsTaken : Kind → List ℕ → ℕ → ℕ → Taken
+bitsTaken k s at stop = cond (ltb (stop - at) (k .width)) (Refused 6) (takenAt (fromPacket k (fieldAt s at (k .width))) (at + k .width))
+
+abbrev pub numbered : Kind → ℕ → Number → Taken
+numbered k at (Value a) = takenAt (fromSheet k a) (at + length (groupsIn a))
+numbered k at Bad = Refused (refusalOf Bad)
+
+abbrev pub numberTaken : Kind → List ℕ → ℕ → Taken
+numberTaken k s at = numbered k at (numberIn (drop at s))
