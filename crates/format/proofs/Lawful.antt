@@ -2,18 +2,18 @@
 -- Assumes nothing.
 use mathlib.Core.Path.{_≡_, refl, sym, ap, _∙_}
 use mathlib.Core.Bool.{Bool, true}
-use mathlib.Core.List.{List, [], _∷_, _++_, map}
+use mathlib.Core.List.{List, [], _∷_, _++_}
 use mathlib.Core.Logic.{_↔_}
 use Prim.Native.Nat.{ℕ}
 use native.Mathlib.Omega.{arith}
-use Rattle.bits.specs.Bits.{Bytes, bitsOf}
+use Rattle.bits.specs.Bits.{bitsOf}
 use Rattle.kinds.specs.declared.Item.{Item}
 use Rattle.kinds.specs.Kind.{Kind}
 use Rattle.fields.proofs.Lawful.{LawfulKind, value-small, raised-small}
-use Rattle.format.specs.Format.{Format, end, field, Read, accepted, read, write, packetValues}
+use Rattle.format.specs.Format.{Format, end, field, accepted, read, write, packetValues}
 use Rattle.format.specs.Media.{packet, sheet}
 use Rattle.format.specs.Conforming.{Conforming, done, also, InPacket, InSheet, lowered}
-use Rattle.format.proofs.Media.{packet-again, packet-only, sheet-again, sheet-only}
+use Rattle.format.proofs.Media.{packet-again, packet-only, sheet-again}
 
 pub data Lawful : Format → Type 0 where
   ends : Lawful end

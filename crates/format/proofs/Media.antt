@@ -1,10 +1,10 @@
 -- The two media are lawful: a packet's bits and a sheet's groups are taken as they are put, and no others are.
 -- Assumes nothing.
-use mathlib.Core.Path.{_≡_, refl, sym, ap, _∙_}
-use mathlib.Core.Bool.{Bool, true, false, cond}
+use mathlib.Core.Path.{_≡_, refl}
+use mathlib.Core.Bool.{Bool, true}
 use mathlib.Core.List.{List, [], _∷_, _++_}
 use mathlib.Core.Option.{Option, none, some}
-use Prim.Native.Nat.{ℕ, zero, suc, _^_, _<_, _≤_}
+use Prim.Native.Nat.{ℕ, zero, suc, _^_, _<_}
 use native.Mathlib.Nat.{mod-eq-of-lt}
 use native.Mathlib.Omega.{arith}
 use borrow.Author.Tests.{ltb-false, le-ltb}
@@ -23,8 +23,8 @@ use Rattle.kinds.specs.declared.Field.{Field}
 use Rattle.kinds.specs.declared.Field.the-variants.{Is, Refused}
 use Rattle.kinds.specs.Kind.{Kind}
 use Rattle.kinds.specs.Judged.{fromPacket, fromSheet, loweredTo}
-use Rattle.format.specs.Format.{Format, Read, accepted, Step, step, stop, read, write}
-use Rattle.format.specs.Media.{stepped, takeBits, putBits, packet, numbered, takeGroups, putGroups, sheet}
+use Rattle.format.specs.Format.{Format, accepted, Step, step, stop, read, write}
+use Rattle.format.specs.Media.{stepped, takeBits, putBits, packet, takeGroups, putGroups, sheet}
 use Rattle.format.specs.Conforming.{Conforming, InPacket, InSheet}
 use Rattle.format.proofs.Generic.{LawfulMedium, read-write, write-read}
 

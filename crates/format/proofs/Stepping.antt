@@ -2,17 +2,17 @@
 -- Assumes nothing.
 use mathlib.Core.Path.{_≡_, refl}
 use mathlib.Core.Bool.{true}
-use mathlib.Core.List.{List, [], _∷_, _++_}
-use mathlib.Core.Option.{Option, none, some}
+use mathlib.Core.List.{List, _∷_, _++_}
+use mathlib.Core.Option.{none, some}
 use Prim.Native.Nat.{ℕ}
 use native.Mathlib.Omega.{arith}
 use lib.ListN.{length}
 use Rattle.kinds.specs.declared.Item.{Item}
 use Rattle.kinds.specs.Kind.{Kind}
 use Rattle.fields.proofs.Lawful.{LawfulKind}
-use Rattle.format.specs.Format.{Format, end, field, Read, Medium, follow, read, write}
+use Rattle.format.specs.Format.{Format, end, field, Medium, follow, read, write}
 use Rattle.format.specs.Place.{next, after}
-use Rattle.format.proofs.Lawful.{Lawful, ends, goes}
+use Rattle.format.proofs.Lawful.{Lawful, goes}
 
 -- what holds of a tree whose next field has the kind k
 module _ {k : Kind} where

@@ -1,8 +1,9 @@
 -- A medium read at places: where a field is taken at a place, the medium takes it from what stands there.
 -- Assumes nothing.
+use native.Mathlib.Nat.{sub-self}
 use mathlib.Core.Path.{_≡_, refl, ap, _∙_}
 use mathlib.Core.Bool.{true}
-use mathlib.Core.List.{List}
+use mathlib.Core.List.{List, []}
 use Prim.Native.Nat.{ℕ, _+_, _-_, _^_, _≤_, _<_}
 use native.Mathlib.Omega.{arith}
 use borrow.Author.Tests.{ltb-true, ltb-false, lt-ltb, le-ltb}
@@ -56,8 +57,14 @@ taken-refused (Judged.Refused q) n r e c = c (cc)
 -- ---- a packet's bits
 
 module _ (s : List ℕ) (end : ℕ) where
-  rest-length : (at : ℕ) → Placed s at end → length (rest s at end) ≡ end - at
+  pub rest-length : (at : ℕ) → Placed s at end → length (rest s at end) ≡ end - at
   rest-length at h = length-take-le (end - at) (drop at (bitsOfBytes s)) (rw (length-drop, length-bytes) (omega arith))
+
+  pub rest-none : (at : ℕ) → at ≡ end → rest s at end ≡ []
+  rest-none at e = rw (e, sub-self)
+
+  pub rest-some : (at : ℕ) → Placed s at end → (at ≡ end → ⊥) → 0 < length (rest s at end)
+  rest-some at h n = rw (rest-length at h) (omega arith)
 
   take-short : (k : Kind) (at : ℕ) → Placed s at end → end - at < k .width → takeBits k (rest s at end) ≡ stop 6
   take-short k at h l = rw (rest-length at h, lt-ltb (end - at) (k .width) l)

@@ -1,11 +1,11 @@
 -- The ends: 185 to 15,884 bits of a body, 39 to 2,001 bytes of a packet, 5,608 bytes of a sheet, over the limit of wire changes; and that they are reached.
 -- Assumes nothing.
-use mathlib.Core.Path.{_≡_, refl, sym, ap, _∙_}
+use mathlib.Core.Path.{_≡_, refl, ap}
 use mathlib.Core.Bool.{Bool, true, false, _&&_}
 use mathlib.Core.List.{List, [], _∷_, _++_}
 use mathlib.Core.Option.{Option, none, some}
 use borrow.Author.Tests.{eqb-true, ltb-true}
-use Prim.Native.Nat.{ℕ, zero, suc, _+_, _*_, _-_, _/_, _≤_, _<_}
+use Prim.Native.Nat.{ℕ, zero, suc, _+_, _*_, _/_, _≤_}
 use native.Mathlib.Omega.{arith}
 use lib.Dec.{eqb, ltb, lit≤}
 use lib.ListN.{length}
@@ -19,7 +19,7 @@ use Rattle.format.specs.Format.{Format, end, field, write}
 use Rattle.format.specs.Media.{packet, sheet}
 use Rattle.format.specs.Conforming.{Conforming, done, also, InPacket, InSheet}
 use Rattle.format.proofs.Lawful.{Lawful}
-use Rattle.format.proofs.Sized.{Measured, within, lawful, size-least, size-most, packet-priced, sheet-priced}
+use Rattle.format.proofs.Sized.{Measured, Fitting, within, lawful, size-least, size-most, packet-priced, sheet-priced}
 use Rattle.kinds.specs.declared.Item.{Item}
 use Rattle.segment.specs.Segment.{entries, changes, lists, body, fields, sheetFields, wireChanges}
 use Rattle.segment.specs.Frame.{framed}
@@ -27,7 +27,7 @@ use Rattle.segment.specs.Judgement.{segmentNumber, afterNumber}
 use Rattle.segment.proofs.Framing.{framed-length}
 use Rattle.segment.proofs.Tree.{Costs, fields-measured, sheetFields-measured}
 
-abbrev bits : Kind → ℕ
+abbrev pub bits : Kind → ℕ
 bits k = k .width
 
 class-width : (q : ℕ) → class q .width ≡ 4
@@ -99,6 +99,12 @@ module _ (limit : ℕ) (h : limit ≤ 31) where
   pub fields-bits : Measured bits bits (fields limit) (96 + 185) (96 + (14228 + 72 * limit))
   unfolding bit-costs
   fields-bits = within (96 + 185) (96 + (14228 + 72 * limit)) (fields-measured bit-costs limit h) (lit≤ tt) (omega arith)
+
+  -- with the packet number's 8, as a sheet is judged
+  pub sheet-fitting : Fitting bits (sheetFields limit) 0 (104 + (14228 + 72 * limit))
+  unfolding bit-costs
+  sheet-fitting =
+      record { enough = omega arith; left = record { low = _; high = _; measured = sheetFields-measured bit-costs limit h; room = omega arith } }
 
   pub sheet-groups : Measured one groups (sheetFields limit) 23 (5263 + 15 * limit)
   unfolding groupsIn group-costs

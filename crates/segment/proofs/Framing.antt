@@ -1,20 +1,19 @@
 -- The frame, for every format whose bits L_PACKET_ATO can count: a framed packet is read as its values, and nothing else is accepted.
 -- Assumes nothing.
 use mathlib.Core.Path.{_≡_, refl, sym, ap, ap₂, _∙_}
-use mathlib.Core.Bool.{Bool, true, false, cond}
+use mathlib.Core.Bool.{Bool, true, false}
 use mathlib.Core.List.{List, [], _∷_, _++_, append-assoc}
-use Prim.Native.Nat.{ℕ, zero, suc, _+_, _*_, _-_, _/_, _%_, _^_, _<_, _≤_}
-use native.Mathlib.Nat.{mod-eq-of-lt, sub-zero, zero-sub}
+use Prim.Native.Nat.{ℕ, zero, suc, _+_, _*_, _-_, _/_, _^_, _<_, _≤_}
+use native.Mathlib.Nat.{mod-eq-of-lt, sub-zero}
 use native.Mathlib.Omega.{arith}
 use borrow.Author.Tests.{eqb-true, le-ltb, ltb-false, eq-eqb}
 use lib.Dec.{ltb, eqb}
-use lib.ListN.{length, take, drop, length-append, length-drop, take-append-drop}
-use lib.Seq.{take-at, drop-at, take-append-add, drop-append-add, length-take-le, take-add, drop-drop}
-use Rattle.bits.specs.Bits.{Bytes, bitsOf, number, bitsOfBytes, bytesOfBits, fieldAt, fill, pack}
+use lib.ListN.{length, take, drop, length-append, length-drop}
+use lib.Seq.{take-at, drop-at, length-take-le, take-add, drop-drop}
+use Rattle.bits.specs.Bits.{Bytes, bitsOf, number, bitsOfBytes, bytesOfBits, fieldAt, fill}
 use Rattle.bits.proofs.Tests.{by-cases}
 use Rattle.bits.proofs.Spelling.{length-bits, number-bits, bits-number}
 use Rattle.bits.proofs.Padding.{length-pack, length-bytes, unpack, pack-fill, pack-bytes}
-use Rattle.bits.proofs.Fields.{field-small}
 use Rattle.kinds.specs.declared.Item.{Item}
 use Rattle.format.specs.Format.{Format, Read, accepted, refused, read, write}
 use Rattle.format.specs.Media.{packet}

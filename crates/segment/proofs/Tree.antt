@@ -1,7 +1,7 @@
 -- The segment's tree, measured once for any costs of its kinds; so its kinds are lawful, and its size is known in any medium.
 -- Assumes nothing.
-use mathlib.Core.Path.{_≡_, refl}
-use mathlib.Core.Bool.{true, _&&_}
+use mathlib.Core.Path.{_≡_}
+use mathlib.Core.Bool.{true}
 use Prim.Native.Nat.{ℕ, zero, suc, _+_, _*_, _^_, _≤_, _<_}
 use native.Mathlib.Nat.{mul-le-mul-right}
 use native.Mathlib.Omega.{arith}
@@ -11,7 +11,7 @@ use Rattle.bits.proofs.Tests.{and-right}
 use Rattle.kinds.specs.Kind.{Kind}
 use Rattle.kinds.specs.Kinds.{nidPacketAto, nidOperational, nidEngine, tTimestampDate, tTimestampSeconds, nPacketCounter, nidC, nidSp, mSpVersion, lSp, dEoAOffset, qUtcOffset, mSpAltitude, speed, qFront, nIter, qDiff, class, dLocation, mVoltage, nidCTraction, mCurrent}
 use Rattle.fields.proofs.Lawful.{LawfulKind, narrow, value-small, range-lawful, upTo-lawful, operational-lawful, location-lawful, traction-lawful, speed-lawful, current-lawful, voltage-lawful, class-lawful}
-use Rattle.format.specs.Format.{Format, end, field}
+use Rattle.format.specs.Format.{Format, field}
 use Rattle.format.proofs.Sized.{Measured, over, plus, within}
 use Rattle.segment.specs.Segment.{entries, profile, voltage, current, changes, part, lists, body, fields, sheetFields}
 

@@ -1,0 +1,139 @@
+-- `judge::packet_fields` meets its contract.
+use Rattle.judge.proofs.Framing.{fieldsVerdict}
+use Rattle.numbers.proofs.Counting.{count-five}
+use Rattle.segment.proofs.Ends.{fields-lawful}
+use Rattle.segment.specs.Segment.{wireChanges}
+use Rattle.judge.proofs.Loops.{Judging, went, judging-on, judging-off, judging-end, judging-left}
+use Rattle.walk.specs.Walk.{asked, formatOf}
+use Rattle.media.proofs.Sources.{packet-source, rest-none, rest-some}
+use Rattle.segment.specs.Segment.{sheetFields}
+use Rattle.format.proofs.Stepping.{lawful-kind}
+use Rattle.format.specs.Media.{sheet}
+use lib.Dec.{lit≤}
+use Prim.Native.Nat.{_*_, _-_, _≤_}
+use mathlib.Core.Path.{refl, sym, ap, _∙_}
+use denote.Ref.{now}
+use native.Mathlib.Omega.{arith}
+use borrow.Author.Needs.{needs}
+use Rattle.judge.proofs.packet_fields.Statement.{statement}
+use Rattle.judge.proofs.packet_fields.Tie as tie
+
+abbrev Inv-loop : tie.InvT-loop
+Inv-loop s stop w₀ at₀ n₀ w at n = Judging (packet-source s stop) sheet (fieldsVerdict s stop) (formatOf w) at n × (n ≤ 5 * at)
+
+abbrev μ-loop : tie.MeasureT-loop
+μ-loop s stop w₀ at₀ n₀ w at n = stop - at
+
+start-requires : tie.Need-start-requires Inv-loop μ-loop
+start-requires c κs = tt
+
+next-requires : tie.Need-next-requires Inv-loop μ-loop
+next-requires c κs = tt
+
+loop-holds : tie.Need-loop-holds Inv-loop μ-loop
+unfolding sheetFields
+loop-holds c =
+    rw (c .next .ensures, c .before .start .ensures)
+    (record { lawful = fields-lawful wireChanges (lit≤ tt); here = c .before .before .before .pre; same = refl }, omega arith)
+
+rule-requires : tie.Need-rule-requires Inv-loop μ-loop
+rule-requires c κs = tt
+
+enum-told : tie.Need-enum-told Inv-loop μ-loop
+enum-told c = search needs
+
+returns : tie.Need-returns Inv-loop μ-loop
+returns c =
+    let a = c .before .before .before .before .before .before .before .before .args in
+    let l = c .before .before .before .before .loop in
+    let e = sym (c .before .before .before .rule .ensures) ∙ ap asked (c .before .enum-told .given .1) in
+    judging-end (packet-source (now (a .s)) (a .stop)) sheet (l .inv .0) e (rest-none (now (a .s)) (a .stop) (l .at) (c .if1 .taken))
+
+returns-2 : tie.Need-returns-2 Inv-loop μ-loop
+returns-2 c =
+    let a = c .before .before .before .before .before .before .before .before .args in
+    let l = c .before .before .before .before .loop in
+    let e = sym (c .before .before .before .rule .ensures) ∙ ap asked (c .before .enum-told .given .1) in
+    judging-left (packet-source (now (a .s)) (a .stop)) sheet (l .inv .0) e (rest-some (now (a .s)) (a .stop) (l .at) (l .inv .0 .here) (c .if1 .left))
+
+enum-known-rule : tie.Need-enum-known-rule Inv-loop μ-loop
+enum-known-rule c = search needs
+
+take-bits-requires : tie.Need-take-bits-requires Inv-loop μ-loop
+take-bits-requires c κs =
+    let l = c .before .before .before .before .loop in
+    let e = sym (c .before .before .before .rule .ensures) ∙ ap asked (c .before .rule2 .given .1) in
+    (l .inv .0 .here, lawful-kind (formatOf (l .w)) e (l .inv .0 .lawful) .narrow .most)
+
+enum-known-r : tie.Need-enum-known-r Inv-loop μ-loop
+enum-known-r c = search needs
+
+returns-3 : tie.Need-returns-3 Inv-loop μ-loop
+returns-3 c =
+    let a = c .before .before .before .before .before .before .before .before .before .before .before .before .args in
+    let l = c .before .before .before .before .before .before .before .before .loop in
+    let e = sym (c .before .before .before .before .before .before .before .rule .ensures) ∙ ap asked (c .before .before .before .before .before .rule2 .given .1) in
+    let t = sym (c .before .r .given .1) ∙ c .before .before .before .take-bits .ensures in
+    judging-off (packet-source (now (a .s)) (a .stop)) sheet (l .inv .0) e t
+
+enum-known-i : tie.Need-enum-known-i Inv-loop μ-loop
+enum-known-i c = search needs
+
+next-requires-2 : tie.Need-next-requires-2 Inv-loop μ-loop
+next-requires-2 c κs = tt
+
+groups-requires : tie.Need-groups-requires Inv-loop μ-loop
+groups-requires c κs = tt
+
+cast-n : tie.Need-cast-n Inv-loop μ-loop
+cast-n c = omega (arith, c .groups .ensures, count-five (c .before .before .before .i .given .0 .0 .sheet))
+
+add-n : tie.Need-add-n Inv-loop μ-loop
+add-n c =
+    let a = c .before .before .before .before .before .before .before .before .before .before .before .before .before .before .args in
+    omega (arith, c .groups .ensures, count-five (c .before .before .before .i .given .0 .0 .sheet), c .before .before .before .before .before .before .before .before .before .before .loop .inv .1, c .before .before .before .before .before .before .before .before .before .before .loop .inv .0 .here .before, c .before .before .before .before .before .before .before .before .before .before .before .before .before .before .pre .few)
+
+loop-less : tie.Need-loop-less Inv-loop μ-loop
+loop-less c =
+    let a = c .before .before .before .before .before .before .before .before .before .before .before .before .before .before .args in
+    let l = c .before .before .before .before .before .before .before .before .before .before .loop in
+    let e = sym (c .before .before .before .before .before .before .before .before .before .rule .ensures) ∙ ap asked (c .before .before .before .before .before .before .before .rule2 .given .1) in
+    let t = sym (c .before .before .before .i .given .1) ∙ c .before .before .before .before .before .take-bits .ensures in
+    let g = went (packet-source (now (a .s)) (a .stop)) (l .inv .0 .lawful) (l .inv .0 .here) e t in
+    omega (arith, g .further, g .here .before)
+
+loop-again : tie.Need-loop-again Inv-loop μ-loop
+loop-again c =
+    let a = c .before .before .before .before .before .before .before .before .before .before .before .before .before .before .args in
+    let l = c .before .before .before .before .before .before .before .before .before .before .loop in
+    let e = sym (c .before .before .before .before .before .before .before .before .before .rule .ensures) ∙ ap asked (c .before .before .before .before .before .before .before .rule2 .given .1) in
+    let t = sym (c .before .before .before .i .given .1) ∙ c .before .before .before .before .before .take-bits .ensures in
+    let p = packet-source (now (a .s)) (a .stop) in
+    let g = went p (l .inv .0 .lawful) (l .inv .0 .here) e t in
+    rw (c .before .next2 .ensures, c .groups .ensures)
+    (judging-on p sheet (l .inv .0) e t, omega (arith, l .inv .1, g .further, count-five (c .before .before .before .i .given .0 .0 .sheet)))
+
+pub packet-fields-spec : {M : Type 1} → statement M
+packet-fields-spec =
+    tie.close
+    (tie.spec
+    Inv-loop
+    μ-loop
+    start-requires
+    next-requires
+    loop-holds
+    rule-requires
+    enum-told
+    returns
+    returns-2
+    enum-known-rule
+    take-bits-requires
+    enum-known-r
+    returns-3
+    enum-known-i
+    next-requires-2
+    groups-requires
+    cast-n
+    add-n
+    loop-less
+    loop-again)
