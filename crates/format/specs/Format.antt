@@ -52,6 +52,11 @@ module _ {A : Type 0} where
   write m (field k next) [] = []
   write m (field k next) (i ∷ l) = m .put k i ++ write m (next (i .packet)) l
 
+-- the values that were read, and none where they were refused
+abbrev pub valuesOf : Read → List Item
+valuesOf (accepted l) = l
+valuesOf (refused r left) = []
+
 -- the fields' values in the packet, and in the sheet
 abbrev pub packetValues : List Item → List ℕ
 packetValues l = map (λ i. i .packet) l

@@ -53,7 +53,7 @@ module _ (s : List ℕ) where
     pub near : 8 * length s < stop + 8
     pub inside : stop ≤ 8 * length s
 
-  refused-not-end : {C : Type 0} (r stop : ℕ) → Frame.Refused r ≡ Frame.End stop → C
+  pub refused-not-end : {C : Type 0} (r stop : ℕ) → Frame.Refused r ≡ Frame.End stop → C
   refused-not-end r stop e = absurd (let z : _≡_ {A = ℕ} 0 1 = cc in omega arith)
 
   pub whole : (stop : ℕ) → Frame.End stop ≡ frameOf s → Whole stop

@@ -133,7 +133,7 @@ framed-again n f l small c low high =
 
 -- ---- write after read
 
-padded-accepted : {C : Type 0} (n : ℕ) (rest : List Bool) (r : Read) (l : List Item) → padded n rest r ≡ accepted l
+pub padded-accepted : {C : Type 0} (n : ℕ) (rest : List Bool) (r : Read) (l : List Item) → padded n rest r ≡ accepted l
     → ((m : List Item) → r ≡ accepted m → rest ≡ [] → l ≡ numberItem n ∷ m → C) → C
 padded-accepted n rest (refused r left) l e f = absurd (never e)
 padded-accepted n [] (accepted m) l e f = f m refl refl (cc)

@@ -1,0 +1,61 @@
+-- The two conversions: an answer and the whole room, for any bytes and any room.
+-- Assumes nothing.
+use mathlib.Core.Path.{_≡_}
+use mathlib.Core.Bool.{Bool, true, false, cond}
+use mathlib.Core.List.{List, _++_}
+use Prim.Native.Nat.{ℕ, _+_, _≤_}
+use lib.Dec.{ltb}
+use lib.ListN.{length, drop}
+use Rattle.kinds.specs.declared.Item.{Item}
+use Rattle.format.specs.Format.{Read, accepted, refused, read, write, valuesOf}
+use Rattle.format.specs.Media.{packet, sheet}
+use Rattle.segment.specs.Segment.{fields, wireChanges}
+use Rattle.segment.specs.Judgement.{fromPacket, fromSheet, toPacket, toSheet}
+use Rattle.media.specs.Places.{rest, Placed}
+use Rattle.convert.specs.declared.Converted.{Converted}
+
+pub record Outcome : Type 0 where
+  pub answer : Converted
+  pub room : List ℕ
+
+-- "It returns its number with length .. 0, and the lent room keeps every byte it had"
+abbrev pub refusedWith : ℕ → List ℕ → Outcome
+refusedWith r room = record { answer = record { refusal = r; length = 0 }; room = room }
+
+-- "Success returns the length, with the bytes past it as they were"
+abbrev pub placed : List ℕ → List ℕ → Outcome
+placed bytes room = record { answer = record { refusal = 0; length = length bytes }; room = bytes ++ drop (length bytes) room }
+
+-- "8: result longer than the lent room"
+abbrev pub fitted : List ℕ → List ℕ → Outcome
+fitted bytes room = cond (ltb (length room) (length bytes)) (refusedWith 8 room) (placed bytes room)
+
+-- "Conversions then judge 8"
+abbrev pub converted : (List Item → List ℕ) → Read → List ℕ → Outcome
+converted write (refused r left) room = refusedWith r room
+converted write (accepted l) room = fitted (write l) room
+
+unfoldable pub packetToSheet : List ℕ → List ℕ → Outcome
+packetToSheet s room = converted (toSheet wireChanges) (fromPacket wireChanges s) room
+
+unfoldable pub sheetToPacket : List ℕ → List ℕ → Outcome
+sheetToPacket s room = converted (toPacket wireChanges) (fromSheet wireChanges s) room
+
+-- ---- what the writers are held to, once everything is judged
+
+abbrev pub sheetOf : List ℕ → List ℕ
+sheetOf s = toSheet wireChanges (valuesOf (fromPacket wireChanges s))
+
+-- the packet was accepted, and the room holds its sheet
+pub record Writable (s room : List ℕ) : Type 0 where
+  pub accepts : fromPacket wireChanges s ≡ accepted (valuesOf (fromPacket wireChanges s))
+  pub holds : length (sheetOf s) ≤ length room
+
+-- the numbers of the fields after the packet number, where the fields end at the bit stop
+abbrev pub fieldsOf : List ℕ → ℕ → List ℕ
+fieldsOf s stop = write sheet (fields wireChanges) (valuesOf (read packet (fields wireChanges) (rest s 24 stop)))
+
+pub record FieldsWritable (s : List ℕ) (stop : ℕ) (room : List ℕ) (start : ℕ) : Type 0 where
+  pub place : Placed s 24 stop
+  pub accepts : read packet (fields wireChanges) (rest s 24 stop) ≡ accepted (valuesOf (read packet (fields wireChanges) (rest s 24 stop)))
+  pub holds : start + length (fieldsOf s stop) ≤ length room

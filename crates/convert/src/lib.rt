@@ -1,0 +1,26 @@
+// The two conversions: judged whole, and then written with nothing left to refuse.
+ghost use mathlib.Core.Path.{_≡_};
+
+pub mod to_sheet;
+
+// A refusal's number, or 0 and the length of the result.
+#[repr(C)]
+pub struct Converted {
+    pub refusal: u32,
+    pub length: u32,
+}
+
+// The result is longer than the lent room.
+pub const TOO_LONG: u32 = 8;
+
+fn refused(refusal: u32) -> Converted
+    ensures { λ r. ⌜ r ≡ record { refusal = refusal; length = 0 } ⌝ }
+{
+    Converted { refusal, length: 0 }
+}
+
+fn done(length: u32) -> Converted
+    ensures { λ r. ⌜ r ≡ record { refusal = 0; length = length } ⌝ }
+{
+    Converted { refusal: 0, length }
+}
