@@ -12,9 +12,9 @@ use lib.Dec.{eqb}
 use lib.ListN.{length, take, drop, getD, set, length-append, length-drop}
 use lib.Pow.{shr-shr}
 use lib.Seq.{sets, sets-eq, length-sets, take-suc, getD-drop, take-at, drop-at, length-take-le, take-take, drop-drop, take-nil}
-use Rattle.bits.specs.Bits.{Bytes, digit, bitsOf, number, bitsOfBytes, bytesOfBits, fieldAt, withField}
-use Rattle.bits.proofs.Spelling.{length-bits, number-bits, number-snoc, bits-snoc, few-small}
-use Rattle.bits.proofs.Padding.{length-bytes, bits-bytes, bytes-bits}
+use Rattle.bits.specs.Bits.{Bytes, digit, bitsOf, number, bitsOfBytes, bytesOfBits, fieldAt, withField, fill, pack}
+use Rattle.bits.proofs.Spelling.{length-bits, number-bits, number-snoc, bits-snoc, few-small, number-small}
+use Rattle.bits.proofs.Padding.{length-bytes, bits-bytes, bytes-bits, length-fill}
 use Rattle.bits.proofs.OneBit.{bit-at, stored, set-bit, set-small}
 
 -- what is read is below 2 to the width, and to any larger power
@@ -153,3 +153,12 @@ store-more s t at w v i h e =
 
 pub store-end : (s : List ℕ) (at w v : ℕ) → withField s at w (v / 2 ^ (w - w)) ≡ withField s at w v
 store-end s at w v = rw (sub-self, div-one)
+
+-- what a store leaves are bytes
+pub with-small : (s : List ℕ) (at w v : ℕ) → Bytes (withField s at w v)
+unfolding withField
+with-small s at w v = packed ((length (sets (bitsOfBytes s) at (bitsOf w v)) + 7) / 8) (sets (bitsOfBytes s) at (bitsOf w v))
+  where
+    packed : (n : ℕ) (t : List Bool) → Bytes (pack n t)
+    packed zero t = tt
+    packed (suc n) t = (rw (length-fill 8 t) at (number-small (fill 8 t)), packed n (drop 8 t))

@@ -5,12 +5,14 @@ use mathlib.Core.Bool.{Bool, true, false, cond}
 use mathlib.Core.List.{List, _++_}
 use Prim.Native.Nat.{ℕ, _+_, _≤_}
 use lib.Dec.{ltb}
-use lib.ListN.{length, drop}
+use lib.ListN.{length, take, drop}
+use Rattle.bits.specs.Bits.{bytesOfBits}
 use Rattle.kinds.specs.declared.Item.{Item}
 use Rattle.format.specs.Format.{Read, accepted, refused, read, write, valuesOf}
 use Rattle.format.specs.Media.{packet, sheet}
-use Rattle.segment.specs.Segment.{fields, wireChanges}
-use Rattle.segment.specs.Judgement.{fromPacket, fromSheet, toPacket, toSheet}
+use Rattle.segment.specs.Segment.{body, fields, wireChanges}
+use Rattle.segment.specs.Frame.{frame}
+use Rattle.segment.specs.Judgement.{segmentNumber, fromPacket, fromSheet, afterNumber, toPacket, toSheet}
 use Rattle.media.specs.Places.{rest, Placed}
 use Rattle.convert.specs.declared.Converted.{Converted}
 
@@ -59,3 +61,29 @@ pub record FieldsWritable (s : List ℕ) (stop : ℕ) (room : List ℕ) (start :
   pub place : Placed s 24 stop
   pub accepts : read packet (fields wireChanges) (rest s 24 stop) ≡ accepted (valuesOf (read packet (fields wireChanges) (rest s 24 stop)))
   pub holds : start + length (fieldsOf s stop) ≤ length room
+
+-- the bits of a sheet's fields after the packet number
+abbrev pub bitsOfSheet : List ℕ → List Bool
+bitsOfSheet s = write packet (fields wireChanges) (afterNumber (valuesOf (fromSheet wireChanges s)))
+
+-- the sheet was accepted
+abbrev pub Accepts : List ℕ → Type 0
+Accepts s = fromSheet wireChanges s ≡ accepted (valuesOf (fromSheet wireChanges s))
+
+-- the body's values, from its place in the sheet on
+abbrev pub bodyRead : List ℕ → ℕ → Read
+bodyRead s at = read sheet (body wireChanges) (drop at s)
+
+abbrev pub bodyBitsOf : List ℕ → ℕ → List Bool
+bodyBitsOf s at = write packet (body wireChanges) (valuesOf (bodyRead s at))
+
+-- the body's place in an accepted sheet
+pub record BodyAt (s : List ℕ) (at : ℕ) : Type 0 where
+  pub inside : at ≤ length s
+  pub accepts : bodyRead s at ≡ accepted (valuesOf (bodyRead s at))
+
+-- the first fifteen bytes, and the place of the body's first number
+pub record Headed (s header : List ℕ) (at : ℕ) : Type 0 where
+  pub bytes : header ≡ bytesOfBits (take 120 (frame segmentNumber (bitsOfSheet s)))
+  pub place : BodyAt s at
+  pub rest : drop 96 (bitsOfSheet s) ≡ bodyBitsOf s at

@@ -1,6 +1,7 @@
 // The two conversions: judged whole, and then written with nothing left to refuse.
 ghost use mathlib.Core.Path.{_≡_};
 
+pub mod to_packet;
 pub mod to_sheet;
 
 // A refusal's number, or 0 and the length of the result.

@@ -61,30 +61,40 @@ module _ {A : Type 0} {m : Medium A} {view : ℕ → List A} {took : Kind → �
   -- ---- with what is written of the values
 
   module _ {B : Type 0} (out : Medium B) where
-    -- the cells so far, written up to n, in a room of so many
-    pub record Writing (goal : List B) (room : ℕ) (f : Format) (at n : ℕ) (cells : List B) : Type 0 where
+    -- the cells so far, written up to n, and what the whole comes to
+    pub record Writing (goal : List B) (total : ℕ) (f : Format) (at n : ℕ) (cells : List B) : Type 0 where
       pub reading : Reading f at
       pub makes : sets cells n (write out f (reading .values)) ≡ goal
-      pub fits : n + length (write out f (reading .values)) ≤ room
+      pub ends : n + length (write out f (reading .values)) ≡ total
 
-    module _ {goal : List B} {room : ℕ} {f : Format} {at n : ℕ} {cells : List B} (w : Writing goal room f at n cells) where
+    module _ {goal : List B} {total : ℕ} {f : Format} {at n : ℕ} {cells : List B} (w : Writing goal total f at n cells) where
       module _ {k : Kind} (e : next f ≡ some k) {i : Item} {to : ℕ} (t : Is i to ≡ took k at) where
         written : (h : Reading (after f (i .packet)) to) → w .reading .values ≡ i ∷ h .values
             → write out f (w .reading .values) ≡ out .put k i ++ write out (after f (i .packet)) (h .values)
         written h q = ap (write out f) q ∙ write-next out f e i (h .values)
 
-        pub writing-on : Writing goal room (after f (i .packet)) to (n + length (out .put k i)) (sets cells n (out .put k i))
+        pub writing-on : Writing goal total (after f (i .packet)) to (n + length (out .put k i)) (sets cells n (out .put k i))
         writing-on =
             let (h, q) = reading-on (w .reading) e t in
             record {
               reading = h;
               makes = sym (sets-append cells n (out .put k i) (write out (after f (i .packet)) (h .values))) ∙ ap (sets cells n) (sym (written h q)) ∙ w .makes;
-              fits = omega (arith, w .fits, ap length (written h q) ∙ length-append (out .put k i) (write out (after f (i .packet)) (h .values)));
+              ends = omega (arith, w .ends, ap length (written h q) ∙ length-append (out .put k i) (write out (after f (i .packet)) (h .values)));
             }
 
+        -- what was still to be written: the field, and the rest
+        pub writing-rest : write out f (w .reading .values) ≡ out .put k i ++ write out (after f (i .packet)) (writing-on .reading .values)
+        unfolding writing-on
+        writing-rest = let (h, q) = reading-on (w .reading) e t in written h q
+
         -- the field fits
-        pub field-fits : n + length (out .put k i) ≤ room
-        field-fits = omega (arith, writing-on .fits)
+        pub field-fits : n + length (out .put k i) ≤ total
+        field-fits = omega (arith, writing-on .ends)
+
+      pub writing-all : next f ≡ none → n ≡ total
+      writing-all e =
+          let d : f ≡ end = ended f e in
+          let s : n + length (write out end (w .reading .values)) ≡ total = rw d at (w .ends) in omega arith
 
       pub writing-end : next f ≡ none → cells ≡ goal
       writing-end e =

@@ -34,7 +34,7 @@ class-width : (q : ℕ) → class q .width ≡ 4
 class-width zero = refl
 class-width (suc q) = refl
 
-bit-costs : Costs bits bits
+pub bit-costs : Costs bits bits
 bit-costs = record {
   classLow = 4;
   classHigh = 4;

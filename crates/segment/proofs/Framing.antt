@@ -4,7 +4,7 @@ use mathlib.Core.Path.{_≡_, refl, sym, ap, ap₂, _∙_}
 use mathlib.Core.Bool.{Bool, true, false}
 use mathlib.Core.List.{List, [], _∷_, _++_, append-assoc}
 use Prim.Native.Nat.{ℕ, zero, suc, _+_, _*_, _-_, _/_, _^_, _<_, _≤_}
-use native.Mathlib.Nat.{mod-eq-of-lt, sub-zero}
+use native.Mathlib.Nat.{mod-eq-of-lt}
 use native.Mathlib.Omega.{arith}
 use borrow.Author.Tests.{eqb-true, le-ltb, ltb-false, eq-eqb}
 use lib.Dec.{ltb, eqb}
@@ -13,20 +13,16 @@ use lib.Seq.{take-at, drop-at, length-take-le, take-add, drop-drop}
 use Rattle.bits.specs.Bits.{Bytes, bitsOf, number, bitsOfBytes, bytesOfBits, fieldAt, fill}
 use Rattle.bits.proofs.Tests.{by-cases}
 use Rattle.bits.proofs.Spelling.{length-bits, number-bits, bits-number}
-use Rattle.bits.proofs.Padding.{length-pack, length-bytes, unpack, pack-fill, pack-bytes}
+use Rattle.bits.proofs.Padding.{zeros, fill-zeros, length-pack, length-bytes, unpack, pack-fill, pack-bytes}
 use Rattle.kinds.specs.declared.Item.{Item}
 use Rattle.format.specs.Format.{Format, Read, accepted, refused, read, write}
 use Rattle.format.specs.Media.{packet}
 use Rattle.format.specs.Conforming.{Conforming, InPacket}
 use Rattle.format.proofs.Generic.{never}
 use Rattle.format.proofs.Media.{packet-again, packet-only}
-use Rattle.segment.specs.Frame.{packetNumber, bodyBits, fieldBits, padding, fromOne, numberItem, padded, unframed, framed}
+use Rattle.segment.specs.Frame.{packetNumber, bodyBits, fieldBits, padding, fromOne, numberItem, padded, unframed, frame, framed}
 
--- the frame's bits
-abbrev frame : ℕ → List Bool → List Bool
-frame n b = bitsOf 8 n ++ (bitsOf 16 (length b - 96) ++ b)
-
-frame-length : (n : ℕ) (b : List Bool) → length (frame n b) ≡ 24 + length b
+pub frame-length : (n : ℕ) (b : List Bool) → length (frame n b) ≡ 24 + length b
 frame-length n b =
     length-append (bitsOf 8 n) (bitsOf 16 (length b - 96) ++ b) ∙ ap (λ (x : ℕ). 8 + x) (length-append (bitsOf 16 (length b - 96)) b) ∙ omega arith
 
@@ -34,15 +30,6 @@ pub framed-length : (n : ℕ) (b : List Bool) → length (framed n b) ≡ (24 + 
 framed-length n b = length-pack ((length (frame n b) + 7) / 8) (frame n b) ∙ rw (frame-length n b)
 
 -- ---- zero bits
-
-zeros : ℕ → List Bool
-zeros n = fill n []
-
-fill-zeros : (s : List Bool) (n : ℕ) → length s ≤ n → fill n s ≡ s ++ zeros (n - length s)
-unfolding zeros
-fill-zeros [] n h = rw sub-zero
-fill-zeros (b ∷ s) zero h = absurd (omega arith)
-fill-zeros (b ∷ s) (suc n) h = let e : suc n - suc (length s) ≡ n - length s = omega arith in rw e (ap (λ (l : List Bool). b ∷ l) (fill-zeros s n (omega arith)))
 
 no-one : (n : ℕ) → fromOne (zeros n) ≡ []
 unfolding zeros

@@ -50,6 +50,10 @@ unframed n f s =
     (cond (eqb (length s) (15 + (bodyBits s + 7) / 8)) fieldByField (refused 3 0))
     (refused 2 0))
 
+-- the packet number, L_PACKET_ATO, and the fields' bits
+abbrev pub frame : ℕ → List Bool → List Bool
+frame n bits = bitsOf 8 n ++ (bitsOf 16 (length bits - 96) ++ bits)
+
 -- the packet of the fields' bits
 abbrev pub framed : ℕ → List Bool → List ℕ
-framed n bits = bytesOfBits (bitsOf 8 n ++ (bitsOf 16 (length bits - 96) ++ bits))
+framed n bits = bytesOfBits (frame n bits)

@@ -1,7 +1,7 @@
 // The walk: a place in the segment's tree, one value on at a time.
 ghost use mathlib.Core.Path.{_≡_};
 ghost use Rattle.format.specs.Place.{next, after};
-ghost use Rattle.segment.specs.Segment.{entries, sheetFields, wireChanges};
+ghost use Rattle.segment.specs.Segment.{body, entries, sheetFields, wireChanges};
 ghost use Rattle.walk.specs.Walk.{asked, startOf, firstPhase, limitOf, afterPart, changesLeft, rest, restOf, formatOf, moved};
 use kinds::Rule;
 use kinds::body;
@@ -82,6 +82,13 @@ pub fn start() -> Walk
         more: 0,
         chosen: 0,
     }
+}
+
+// Before the body's first field.
+pub fn body_start() -> Walk
+    ensures { λ r. ⌜ formatOf r ≡ body wireChanges ⌝ }
+{
+    start().at(Phase::NidC, 0)
 }
 
 fn limit(part: Part) -> u32

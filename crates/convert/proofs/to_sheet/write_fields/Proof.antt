@@ -11,7 +11,7 @@ use Rattle.numbers.specs.Numbers.{Put, groupsIn}
 use lib.Seq.{sets, length-sets}
 use lib.ListN.{length}
 use lib.Dec.{lit≤}
-use Prim.Native.Nat.{_-_}
+use Prim.Native.Nat.{_-_, _+_}
 use mathlib.Core.Path.{_≡_, refl, sym, ap, _∙_}
 use denote.Ref.{now}
 use native.Mathlib.Omega.{arith}
@@ -20,7 +20,7 @@ use Rattle.convert.proofs.to_sheet.write_fields.Statement.{statement}
 use Rattle.convert.proofs.to_sheet.write_fields.Tie as tie
 
 abbrev Inv-loop : tie.InvT-loop
-Inv-loop packet stop room₀ start w₀ at₀ n₀ room w at n = Writing (packet-source packet stop) sheet (sets room₀ start (fieldsOf packet stop)) (length room₀) (formatOf w) at n room × (length room ≡ length room₀)
+Inv-loop packet stop room₀ start w₀ at₀ n₀ room w at n = Writing (packet-source packet stop) sheet (sets room₀ start (fieldsOf packet stop)) (start + length (fieldsOf packet stop)) (formatOf w) at n room × (length room ≡ length room₀)
 
 abbrev μ-loop : tie.MeasureT-loop
 μ-loop packet stop room₀ start w₀ at₀ n₀ room w at n = stop - at
@@ -36,7 +36,7 @@ unfolding sheetFields
 loop-holds c =
     let p = c .before .before .before .before .pre in
     rw (c .next .ensures, c .before .start .ensures)
-    (record { reading = record { lawful = fields-lawful wireChanges (lit≤ tt); here = p .place; values = _; reads = p .accepts }; makes = refl; fits = p .holds }, refl)
+    (record { reading = record { lawful = fields-lawful wireChanges (lit≤ tt); here = p .place; values = _; reads = p .accepts }; makes = refl; ends = refl }, refl)
 
 rule-requires : tie.Need-rule-requires Inv-loop μ-loop
 rule-requires c κs = tt
@@ -86,7 +86,7 @@ put-number-requires c κs =
     let l = c .before .before .before .before .before .before .before .before .before .loop in
     let e = sym (c .before .before .before .before .before .before .before .before .rule .ensures) ∙ ap asked (c .before .before .before .before .before .before .rule2 .given .1) in
     let t = sym (c .before .before .i .given .1) ∙ c .before .before .before .before .take-bits .ensures in
-    omega (arith, field-fits (packet-source (now (a .packet)) (a .stop)) sheet (l .inv .0) e t, l .inv .1)
+    omega (arith, field-fits (packet-source (now (a .packet)) (a .stop)) sheet (l .inv .0) e t, l .inv .1, c .before .before .before .before .before .before .before .before .before .before .before .before .before .before .pre .holds)
 
 next-requires-2 : tie.Need-next-requires-2 Inv-loop μ-loop
 next-requires-2 c κs = tt
