@@ -1,7 +1,7 @@
 -- The kind's law, proved for every kind: lowering undoes raising, allowed values fit the width, what is lowered is allowed.
 -- Assumes nothing.
-use mathlib.Core.Path.{_≡_, refl}
-use mathlib.Core.Bool.{Bool, true, false, _&&_}
+use mathlib.Core.Path.{_≡_, refl, sym, ap}
+use mathlib.Core.Bool.{Bool, true, false, _&&_, cond}
 use mathlib.Core.List.{List}
 use mathlib.Core.Option.{some}
 use Prim.Native.Nat.{ℕ, zero, suc, _+_, _*_, _-_, _/_, _^_, _<_, _≤_}
@@ -16,7 +16,7 @@ use Rattle.kinds.specs.Kind.{Kind, when, same, range, upTo}
 use Rattle.kinds.specs.Tables.{cantFigures, volts, entryOf, greatest}
 use Rattle.kinds.specs.Kinds.{nidOperational, speed, class, dLocation, mVoltage, mostTraction, nidCTraction, mCurrent}
 use Rattle.fields.proofs.Digits.{digits-small}
-use Rattle.fields.proofs.Lookup.{distinct, place-small, place-top, place-again, cants-distinct, volts-distinct}
+use Rattle.fields.proofs.Lookup.{distinct, place-small, place-top, place-again, cants-distinct, volts-distinct, place-stands}
 
 T-true : (b : Bool) → T b → b ≡ true
 T-true true t = refl
@@ -38,6 +38,8 @@ pub record LawfulKind (k : Kind) : Type 0 where
   pub short : k .highest < 2 ^ 32
   pub most : (v : ℕ) → k .allowed v ≡ true → v ≤ k .largest
   pub top : (a v : ℕ) → k .lower a ≡ some v → a ≤ k .highest
+  -- a refusal is not 0
+  pub refuses : 1 ≤ k .refusal
   -- lowering undoes raising
   pub back : (v : ℕ) → k .allowed v ≡ true → k .lower (k .raise v) ≡ some v
   -- what is lowered is allowed
@@ -56,9 +58,10 @@ when-some false a v e f = absurd (let z : _≡_ {A = ℕ} 0 1 = cc in omega arit
 
 -- ---- the same number in both
 
-same-lawful : (width largest refusal : ℕ) (ok : ℕ → Bool) → Narrow width → largest < 2 ^ width → ((v : ℕ) → ok v ≡ true → v ≤ largest)
+same-lawful : (width largest refusal : ℕ) (ok : ℕ → Bool) → Narrow width → largest < 2 ^ width → 1 ≤ refusal → ((v : ℕ) → ok v ≡ true → v ≤ largest)
     → LawfulKind (same width largest refusal ok)
-same-lawful width largest refusal ok n h most = record {
+same-lawful width largest refusal ok n h pos most = record {
+  refuses = pos;
   narrow = n;
   holds = h;
   short = lt-of-lt-of-le h (pow-mono (n .most));
@@ -68,20 +71,20 @@ same-lawful width largest refusal ok n h most = record {
   into = λ a v e. when-some (ok a) a v e λ t q. rw q at t;
 }
 
-pub range-lawful : (width least largest refusal : ℕ) → Narrow width → largest < 2 ^ width → LawfulKind (range width least largest refusal)
-range-lawful width least largest refusal n h =
-    same-lawful width largest refusal (λ v. leb least v && leb v largest) n h
+pub range-lawful : (width least largest refusal : ℕ) → Narrow width → largest < 2 ^ width → 1 ≤ refusal → LawfulKind (range width least largest refusal)
+range-lawful width least largest refusal n h pos =
+    same-lawful width largest refusal (λ v. leb least v && leb v largest) n h pos
     λ v e. leb-true v largest (and-right (leb least v) (leb v largest) e)
 
 pub upTo-lawful : (width largest : ℕ) → Narrow width → largest < 2 ^ width → LawfulKind (upTo width largest)
-upTo-lawful width largest h m = range-lawful width 0 largest 4 h m
+upTo-lawful width largest h m = range-lawful width 0 largest 4 h m (lit≤ tt)
 
 pub operational-lawful : LawfulKind nidOperational
-operational-lawful = same-lawful 32 4294967295 4 (nidOperational .allowed) (narrow tt) (lit< tt) λ v e. omega (arith, digits-small 8 v e)
+operational-lawful = same-lawful 32 4294967295 4 (nidOperational .allowed) (narrow tt) (lit< tt) (lit≤ tt) λ v e. omega (arith, digits-small 8 v e)
 
 pub location-lawful : (last lsp : ℕ) → lsp < 2 ^ 24 → LawfulKind (dLocation last lsp)
 location-lawful last lsp h =
-    same-lawful 24 16777215 5 (dLocation last lsp .allowed) (narrow tt) (lit< tt)
+    same-lawful 24 16777215 5 (dLocation last lsp .allowed) (narrow tt) (lit< tt) (lit≤ tt)
     λ x e. omega (arith, ltb-true x lsp (and-right (ltb last x) (ltb x lsp) e))
 
 most-traction : (u : ℕ) → mostTraction u < 2 ^ 10
@@ -95,6 +98,7 @@ traction-lawful u = upTo-lawful 10 (mostTraction u) (narrow tt) (most-traction u
 
 pub speed-lawful : LawfulKind speed
 speed-lawful = record {
+  refuses = lit≤ tt;
   narrow = narrow tt;
   holds = lit< tt;
   short = lit< tt;
@@ -117,6 +121,7 @@ current-into a v e =
 
 pub current-lawful : LawfulKind mCurrent
 current-lawful = record {
+  refuses = lit≤ tt;
   narrow = narrow tt;
   holds = lit< tt;
   short = lit< tt;
@@ -134,6 +139,7 @@ current-lawful = record {
 
 entry-lawful : (width : ℕ) (table : List ℕ) → Narrow width → length table - 1 < 2 ^ width → distinct table ≡ true → greatest table < 2 ^ 32 → LawfulKind (entryOf width table)
 entry-lawful width table n h d g = record {
+  refuses = lit≤ tt;
   narrow = n;
   holds = h;
   short = g;
@@ -149,3 +155,25 @@ voltage-lawful = entry-lawful 4 volts (narrow tt) (lit< tt) volts-distinct (lit<
 pub class-lawful : (q : ℕ) → LawfulKind (class q)
 class-lawful zero = entry-lawful 4 cantFigures (narrow tt) (lit< tt) cants-distinct (lit< tt)
 class-lawful (suc q) = upTo-lawful 4 2 (narrow tt) (lit< tt)
+
+-- ---- what lowering and raising make of a sheet's number
+
+-- speeds are lowered to multiples of 5
+pub speed-lowered : (a v : ℕ) → speed .lower a ≡ some v → speed .raise v ≡ a / 5 * 5
+speed-lowered a v e = when-some (leb a 604) (a / 5) v e λ t q. ap (λ (n : ℕ). n * 5) (sym q)
+
+-- currents, amperes + 1, to multiples of 10 A; no limit stays
+pub current-lowered : (a v : ℕ) → mCurrent .lower a ≡ some v → mCurrent .raise v ≡ cond (eqb a 0) 0 ((a - 1) / 10 * 10 + 1)
+current-lowered a v e =
+    by-cases (eqb a 0)
+    (λ z. let f : some 1023 ≡ some v = rw z at e in let q : v ≡ 1023 = cc in rw (z, q))
+    (λ z. when-some (leb (a - 1) 10009) ((a - 1) / 10) v (rw z at e) λ t q.
+    let n : v ≡ 1023 → ⊥ = λ b. omega (arith, leb-true (a - 1) 10009 t) in
+    rw (z, ne-eqb v 1023 n) (omega arith))
+
+-- every other number stays: those that are the same in both, and those that stand in a table
+pub same-lowered : (width largest refusal : ℕ) (ok : ℕ → Bool) (a v : ℕ) → same width largest refusal ok .lower a ≡ some v → same width largest refusal ok .raise v ≡ a
+same-lowered width largest refusal ok a v e = when-some (ok a) a v e λ t q. sym q
+
+pub entry-lowered : (width : ℕ) (table : List ℕ) (a v : ℕ) → entryOf width table .lower a ≡ some v → entryOf width table .raise v ≡ a
+entry-lowered width table a v e = let z : v - 0 ≡ v = omega arith in rw z at (place-stands 0 table a v e)

@@ -4,7 +4,7 @@ use mathlib.Core.Path.{_≡_, refl, sym, ap, _∙_}
 use mathlib.Core.Bool.{Bool, true, false, not, _&&_}
 use mathlib.Core.List.{List, [], _∷_}
 use mathlib.Core.Option.{none, some}
-use Prim.Native.Nat.{ℕ, zero, suc, _+_, _<_, _≤_}
+use Prim.Native.Nat.{ℕ, zero, suc, _+_, _<_, _≤_, _-_}
 use native.Mathlib.Numerals.{add-one}
 use native.Mathlib.Omega.{arith}
 use borrow.Author.Tests.{eq-eqb, ne-eqb, eqb-true}
@@ -87,3 +87,25 @@ cants-distinct = and-left (distinct cantFigures) (distinct volts) tables-distinc
 
 pub volts-distinct : distinct volts ≡ true
 volts-distinct = and-right (distinct cantFigures) (distinct volts) tables-distinct
+
+-- a figure stands where it is found
+pub place-stands : (i : ℕ) (table : List ℕ) (a v : ℕ) → place i table a ≡ some v → getD table (v - i) 0 ≡ a
+unfolding place
+place-stands i [] a v e = absurd (let z : _≡_ {A = ℕ} 0 1 = cc in omega arith)
+place-stands i (t ∷ ts) a v e =
+    by-cases (eqb a t)
+    (λ d. let f : some i ≡ some v = rw d at e in
+    let q : i ≡ v = cc in
+    let z : v - i ≡ 0 = omega arith in
+    rw z (sym (eqb-true a t d)))
+    (λ d. let h : place (suc i) ts a ≡ some v = rw d at e in
+    let l : suc i ≤ v = place-from (suc i) ts a v h in
+    let z : v - i ≡ suc (v - suc i) = omega arith in
+    rw z (place-stands (suc i) ts a v h))
+  where
+    place-from : (j : ℕ) (us : List ℕ) (b w : ℕ) → place j us b ≡ some w → j ≤ w
+    place-from j [] b w p = absurd (let z : _≡_ {A = ℕ} 0 1 = cc in omega arith)
+    place-from j (u ∷ us) b w p =
+        by-cases (eqb b u)
+        (λ d. let f : some j ≡ some w = rw d at p in let q : j ≡ w = cc in omega arith)
+        (λ d. omega (arith, place-from (suc j) us b w (rw d at p)))
