@@ -1,0 +1,20 @@
+// The public operations, under the names that the customer's server links.
+ghost use mathlib.Core.Path.{_≡_};
+ghost use Rattle.convert.specs.Convert.{packetToSheet, sheetToPacket};
+use convert::Converted;
+
+// The sheet of a packet, in a lent room: a refusal's number, or 0 and the sheet's length.
+#[no_mangle]
+pub extern "C" fn seglink_packet_to_sheet(packet: &[u8], room: &mut [u8]) -> Converted
+    ensures { λ r. ⌜ record { answer = r; room = now (room .exit) } ≡ packetToSheet (now (packet .entry)) (now (room .entry)) ⌝ }
+{
+    convert::to_sheet::packet_to_sheet(packet, room)
+}
+
+// The packet of a sheet, in a lent room: a refusal's number, or 0 and the packet's length.
+#[no_mangle]
+pub extern "C" fn seglink_sheet_to_packet(sheet: &[u8], room: &mut [u8]) -> Converted
+    ensures { λ r. ⌜ record { answer = r; room = now (room .exit) } ≡ sheetToPacket (now (sheet .entry)) (now (room .entry)) ⌝ }
+{
+    convert::to_packet::sheet_to_packet(sheet, room)
+}
