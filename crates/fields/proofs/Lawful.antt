@@ -44,6 +44,8 @@ pub record LawfulKind (k : Kind) : Type 0 where
   pub back : (v : ℕ) → k .allowed v ≡ true → k .lower (k .raise v) ≡ some v
   -- what is lowered is allowed
   pub into : (a v : ℕ) → k .lower a ≡ some v → k .allowed v ≡ true
+  -- a number that is no speed and no current stays
+  pub stays : (k ≡ speed → ⊥) → (k ≡ mCurrent → ⊥) → (a v : ℕ) → k .lower a ≡ some v → k .raise v ≡ a
 
 -- allowed values fit the width, and their sheet numbers 32 bits
 pub value-small : {k : Kind} → LawfulKind k → (v : ℕ) → k .allowed v ≡ true → v < 2 ^ k .width
@@ -69,6 +71,7 @@ same-lawful width largest refusal ok n h pos most = record {
   top = λ a v e. when-some (ok a) a v e λ t q. most a t;
   back = λ v e. rw e;
   into = λ a v e. when-some (ok a) a v e λ t q. rw q at t;
+  stays = λ _ _ a v e. when-some (ok a) a v e λ t q. sym q;
 }
 
 pub range-lawful : (width least largest refusal : ℕ) → Narrow width → largest < 2 ^ width → 1 ≤ refusal → LawfulKind (range width least largest refusal)
@@ -106,6 +109,7 @@ speed-lawful = record {
   top = λ a v e. when-some (leb a 604) (a / 5) v e λ t q. leb-true a 604 t;
   back = λ v e. rw (le-leb (v * 5) 604 (omega (arith, leb-true v 120 e)), mul-div-cancel v (lit< tt));
   into = λ a v e. when-some (leb a 604) (a / 5) v e λ t q. le-leb v 120 (omega (arith, leb-true a 604 t));
+  stays = λ n _ _ _ _. absurd (n refl);
 }
 
 -- what is known of an allowed current, by cases
@@ -133,6 +137,7 @@ current-lawful = record {
       let d : v * 10 + 1 - 1 ≡ v * 10 = omega arith in
       rw (ne-eqb v 1023 n, ne-eqb (v * 10 + 1) 0 (λ z. omega arith), d, le-leb (v * 10) 10009 (omega arith), mul-div-cancel v (lit< tt)));
   into = current-into;
+  stays = λ _ n _ _ _. absurd (n refl);
 }
 
 -- ---- tables
@@ -147,6 +152,7 @@ entry-lawful width table n h d g = record {
   top = λ a v e. place-top 0 table a v e;
   back = λ v e. place-again table d v (ltb-true v (length table) e);
   into = λ a v e. lt-ltb v (length table) (omega (arith, place-small 0 table a v e));
+  stays = λ _ _ a v e. let z : v - 0 ≡ v = omega arith in rw z at (place-stands 0 table a v e);
 }
 
 pub voltage-lawful : LawfulKind mVoltage
@@ -170,10 +176,3 @@ current-lowered a v e =
     (λ z. when-some (leb (a - 1) 10009) ((a - 1) / 10) v (rw z at e) λ t q.
     let n : v ≡ 1023 → ⊥ = λ b. omega (arith, leb-true (a - 1) 10009 t) in
     rw (z, ne-eqb v 1023 n) (omega arith))
-
--- every other number stays: those that are the same in both, and those that stand in a table
-pub same-lowered : (width largest refusal : ℕ) (ok : ℕ → Bool) (a v : ℕ) → same width largest refusal ok .lower a ≡ some v → same width largest refusal ok .raise v ≡ a
-same-lowered width largest refusal ok a v e = when-some (ok a) a v e λ t q. sym q
-
-pub entry-lowered : (width : ℕ) (table : List ℕ) (a v : ℕ) → entryOf width table .lower a ≡ some v → entryOf width table .raise v ≡ a
-entry-lowered width table a v e = let z : v - 0 ≡ v = omega arith in rw z at (place-stands 0 table a v e)

@@ -3,3 +3,4 @@ pub mod Media
 pub mod Lawful
 pub mod Sized
 pub mod Stepping
+pub mod Refusals

@@ -2,3 +2,4 @@ pub mod Tree
 pub mod Framing
 pub mod Ends
 pub mod Desk
+pub mod Refusals
