@@ -1,0 +1,168 @@
+-- The customer's demands as theorems, in the customer's order, over the definitions that the contracts cite.
+-- Assumes nothing.
+use mathlib.Core.Path.{_≡_, refl, sym, ap, _∙_}
+use mathlib.Core.List.{List}
+use mathlib.Core.Logic.{_↔_}
+use Prim.Native.Nat.{ℕ, _≤_}
+use native.Mathlib.Omega.{arith}
+use lib.Dec.{lit≤}
+use lib.ListN.{length}
+use Rattle.bits.specs.Bits.{Bytes}
+use Rattle.kinds.specs.declared.Item.{Item}
+use Rattle.format.specs.Format.{Read, accepted, refused, sheetNumbers, write}
+use Rattle.format.specs.Media.{sheet}
+use Rattle.format.specs.Conforming.{lowered}
+use Rattle.format.proofs.Lawful.{to-sheet}
+use Rattle.segment.specs.Segment.{sheetFields, wireChanges}
+use Rattle.segment.specs.Judgement.{fromPacket, fromSheet, toPacket, toSheet}
+use Rattle.segment.proofs.Ends.{sheetFields-lawful}
+use Rattle.segment.proofs.Refusals.{packet-refusal, sheet-refusal}
+use Rattle.convert.specs.Convert.{Outcome, refusedWith, placed, fitted, converted, packetToSheet, sheetToPacket}
+use Rattle.seglink.specs.Promised.{PacketValues, SheetValues, ConvertiblePacket, ConvertibleSheet, loweredNumbers, Done, result, spelled, Lowering}
+use Rattle.seglink.proofs.Values.{packet-values, packet-taken, sheet-values, sheet-taken, lowered-packet, lowered-good, written, kept, done-only, placed-result, numbers-spelled, lowering}
+
+-- ==== 1. "Whatever bytes come in, every public operation ends with an answer or the one refusal the rules name."
+
+-- any two outcomes that satisfy an operation's contract coincide
+pub one-outcome : (operation : List ℕ → List ℕ → Outcome) (s room : List ℕ) (o p : Outcome) → o ≡ operation s room → p ≡ operation s room → o ≡ p
+one-outcome operation s room o p e f = e ∙ sym f
+
+-- "A refusal returns its number and writes nothing into the lent room."
+pub packet-refused : (s room : List ℕ) → (Done (packetToSheet s room) → ⊥) → packetToSheet s room ≡ refusedWith (packetToSheet s room .answer .refusal) room
+unfolding packetToSheet
+packet-refused s room n = kept (toSheet wireChanges) (fromPacket wireChanges s) room n
+
+pub sheet-refused : (s room : List ℕ) → (Done (sheetToPacket s room) → ⊥) → sheetToPacket s room ≡ refusedWith (sheetToPacket s room .answer .refusal) room
+unfolding sheetToPacket
+sheet-refused s room n = kept (toPacket wireChanges) (fromSheet wireChanges s) room n
+
+-- ==== 2. "Every packet and sheet that keeps the published widths and ranges and the stated rules is converted if the room holds the result, and nothing else is."
+
+module _ (s room : List ℕ) where
+  -- a packet of good values, whose sheet the room holds, leaves exactly that sheet, and the room's bytes past it
+  pub packet-result : (c : ConvertiblePacket s room)
+      → packetToSheet s room ≡ placed (toSheet wireChanges (c .values)) room
+  unfolding packetToSheet
+  packet-result c =
+      written (toSheet wireChanges) (fromPacket wireChanges s) room (c .values)
+      (ap (fromPacket wireChanges) (c .whole) ∙ packet-taken (c .values) (c .good)) (c .holds)
+
+  pub packet-converted : Bytes s → Done (packetToSheet s room) ↔ ConvertiblePacket s room
+  unfolding packetToSheet
+  packet-converted ok = (only, λ c. ap (λ (o : Outcome). o .answer .refusal) (packet-result c))
+    where
+      only : Done (packetToSheet s room) → ConvertiblePacket s room
+      only d =
+          done-only (toSheet wireChanges) (fromPacket wireChanges s) room (λ q left e. packet-refusal wireChanges (lit≤ tt) s q left e) d λ l e h.
+          let p = packet-values s l ok e in
+          record { values = l; good = p .0; whole = p .1; holds = h }
+
+  -- the same for sheets
+  pub sheet-result : (c : ConvertibleSheet s room)
+      → sheetToPacket s room ≡ placed (toPacket wireChanges (c .values)) room
+  unfolding sheetToPacket
+  sheet-result c =
+      written (toPacket wireChanges) (fromSheet wireChanges s) room (c .values)
+      (ap (fromSheet wireChanges) (c .whole) ∙ sheet-taken (c .values) (c .good)) (c .holds)
+
+  pub sheet-converted : Bytes s → Done (sheetToPacket s room) ↔ ConvertibleSheet s room
+  unfolding sheetToPacket
+  sheet-converted ok = (only, λ c. ap (λ (o : Outcome). o .answer .refusal) (sheet-result c))
+    where
+      only : Done (sheetToPacket s room) → ConvertibleSheet s room
+      only d =
+          done-only (toPacket wireChanges) (fromSheet wireChanges s) room (λ q left e. sheet-refusal wireChanges (lit≤ tt) s q left ok e) d λ l e h.
+          let p = sheet-values s l ok e in
+          record { values = l; good = p .0; whole = p .1; holds = h }
+
+-- the sheet of a packet is the number of every field of every change, in order, and nothing else
+pub every-field : (l : List Item) → PacketValues l → toSheet wireChanges l ≡ spelled (sheetNumbers l)
+unfolding toSheet
+every-field l c = numbers-spelled c
+
+-- "Packet read and written again: the same packet."
+pub packet-again : (s room back : List ℕ) → Bytes s → Done (packetToSheet s room) → length s ≤ length back
+    → sheetToPacket (result (packetToSheet s room)) back ≡ placed s back
+packet-again s room back ok d h =
+    let c = packet-converted s room ok .0 d in
+    let l = c .values in
+    let t : result (packetToSheet s room) ≡ toSheet wireChanges l = ap result (packet-result s room c) ∙ placed-result (toSheet wireChanges l) room in
+    let g : SheetValues l = to-sheet (sheetFields-lawful wireChanges (lit≤ tt)) (c .good) in
+    let k : length (toPacket wireChanges l) ≤ length back = omega (arith, ap length (c .whole)) in
+    sheet-result (result (packetToSheet s room)) back (record { values = l; good = g; whole = t; holds = k }) ∙ ap (λ (x : List ℕ). placed x back) (sym (c .whole))
+
+-- "Sheet written and read again: the same sheet, speeds lowered to multiples of 5 km/h and currents to multiples of 10 A."
+pub record Again (s room back : List ℕ) : Type 0 where
+  -- the sheet's values, and those lowered
+  pub values : List Item
+  pub lower : List Item
+  pub whole : s ≡ toSheet wireChanges values
+  pub lowers : Lowering (sheetFields wireChanges) values lower
+  pub again : packetToSheet (result (sheetToPacket s room)) back ≡ fitted (toSheet wireChanges lower) back
+
+pub sheet-again : (s room back : List ℕ) → Bytes s → Done (sheetToPacket s room) → Again s room back
+unfolding packetToSheet
+sheet-again s room back ok d =
+    let c = sheet-converted s room ok .0 d in
+    let l = c .values in
+    let m : List Item = lowered (sheetFields wireChanges) l in
+    let t : result (sheetToPacket s room) ≡ toPacket wireChanges m =
+    ap result (sheet-result s room c) ∙ placed-result (toPacket wireChanges l) room ∙ sym (lowered-packet l) in
+    record {
+      values = l;
+      lower = m;
+      whole = c .whole;
+      lowers = lowering (sheetFields-lawful wireChanges (lit≤ tt)) (c .good);
+      again = ap (λ (r : Read). converted (toSheet wireChanges) r back) (ap (fromPacket wireChanges) t ∙ packet-taken m (lowered-good (c .good)));
+    }
+
+-- ==== 3. "Two accepted sheets make the same packet exactly when they agree in every field after that lowering."
+
+pub same-packet : (l m : List Item) → SheetValues l → SheetValues m
+    → (toPacket wireChanges l ≡ toPacket wireChanges m)
+    ↔ (loweredNumbers l ≡ loweredNumbers m)
+same-packet l m cl cm = (there, back)
+  where
+    pl : PacketValues (lowered (sheetFields wireChanges) l)
+    pl = lowered-good cl
+
+    pm : PacketValues (lowered (sheetFields wireChanges) m)
+    pm = lowered-good cm
+
+    accepted-same : {a b : List Item} → accepted a ≡ accepted b → a ≡ b
+    accepted-same e = cc
+
+    there : toPacket wireChanges l ≡ toPacket wireChanges m → loweredNumbers l ≡ loweredNumbers m
+    there e =
+        let x : List Item = lowered (sheetFields wireChanges) l in
+        let y : List Item = lowered (sheetFields wireChanges) m in
+        let p : toPacket wireChanges x ≡ toPacket wireChanges y = lowered-packet l ∙ e ∙ sym (lowered-packet m) in
+        ap sheetNumbers (accepted-same (sym (packet-taken x pl) ∙ ap (fromPacket wireChanges) p ∙ packet-taken y pm))
+
+    back : loweredNumbers l ≡ loweredNumbers m → toPacket wireChanges l ≡ toPacket wireChanges m
+    back e =
+        let x : List Item = lowered (sheetFields wireChanges) l in
+        let y : List Item = lowered (sheetFields wireChanges) m in
+        let w = sheetFields-lawful wireChanges (lit≤ tt) in
+        let p : toSheet wireChanges x ≡ toSheet wireChanges y = every-field x pl ∙ ap spelled e ∙ sym (every-field y pm) in
+        let q : x ≡ y = accepted-same (sym (sheet-taken x (to-sheet w pl)) ∙ ap (fromSheet wireChanges) p ∙ sheet-taken y (to-sheet w pm)) in
+        sym (lowered-packet l) ∙ ap (toPacket wireChanges) q ∙ lowered-packet m
+
+-- in the words of the operation: two sheets that are converted into the same room leave it the same exactly then
+pub same-outcome : (s t room : List ℕ) → (c : ConvertibleSheet s room)
+    → (d : ConvertibleSheet t room)
+    → (sheetToPacket s room ≡ sheetToPacket t room)
+    ↔ (loweredNumbers (c .values) ≡ loweredNumbers (d .values))
+same-outcome s t room c d = (there, back)
+  where
+    law : (toPacket wireChanges (c .values) ≡ toPacket wireChanges (d .values))
+        ↔ (loweredNumbers (c .values) ≡ loweredNumbers (d .values))
+    law = same-packet (c .values) (d .values) (c .good) (d .good)
+
+    there : sheetToPacket s room ≡ sheetToPacket t room → loweredNumbers (c .values) ≡ loweredNumbers (d .values)
+    there e =
+        law .0 (sym (placed-result (toPacket wireChanges (c .values)) room) ∙ ap result (sym (sheet-result s room c) ∙ e ∙ sheet-result t room d)
+        ∙ placed-result (toPacket wireChanges (d .values)) room)
+
+    back : loweredNumbers (c .values) ≡ loweredNumbers (d .values) → sheetToPacket s room ≡ sheetToPacket t room
+    back e = sheet-result s room c ∙ ap (λ (x : List ℕ). placed x room) (law .1 e) ∙ sym (sheet-result t room d)

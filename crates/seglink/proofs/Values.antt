@@ -1,0 +1,127 @@
+-- What the promises rest on: packets and sheets of good values, a conversion's outcomes, and the lowering of any tree's numbers.
+-- Assumes nothing.
+use mathlib.Core.Path.{_≡_, refl, sym, ap, _∙_}
+use mathlib.Core.Bool.{Bool, true, _&&_}
+use mathlib.Core.List.{List, [], _∷_, _++_}
+use mathlib.Core.Option.{some}
+use Prim.Native.Nat.{ℕ, _+_, _*_, _-_, _/_, _<_, _≤_}
+use native.Mathlib.Omega.{arith}
+use borrow.Author.Tests.{leb-true, ltb-false, ltb-true, le-ltb}
+use lib.Dec.{leb, ltb, lit<, lit≤}
+use lib.ListN.{length, take, drop}
+use lib.Seq.{take-at}
+use Rattle.bits.specs.Bits.{Bytes}
+use Rattle.bits.proofs.Tests.{by-cases, and-left, and-right}
+use Rattle.numbers.specs.Numbers.{groupsIn}
+use Rattle.kinds.specs.declared.Item.{Item}
+use Rattle.kinds.specs.Kind.{Kind}
+use Rattle.kinds.specs.Kinds.{speed, mCurrent}
+use Rattle.fields.proofs.Lawful.{LawfulKind, speed-lowered, current-lowered}
+use Rattle.format.specs.Format.{Format, end, field, Read, accepted, refused, read, write, sheetNumbers}
+use Rattle.format.specs.Media.{packet, sheet}
+use Rattle.format.specs.Conforming.{Conforming, done, also, InPacket, InSheet, lowered}
+use Rattle.format.proofs.Lawful.{Lawful, ends, goes, to-packet, lowered-bits}
+use Rattle.format.proofs.Media.{sheet-again, sheet-only}
+use Rattle.segment.specs.Segment.{fields, sheetFields, wireChanges}
+use Rattle.segment.specs.Frame.{framed, numberItem}
+use Rattle.segment.specs.Judgement.{segmentNumber, fromPacket, fromSheet, toPacket, toSheet, afterNumber}
+use Rattle.segment.proofs.Framing.{framed-again, framed-only}
+use Rattle.segment.proofs.Ends.{fields-lawful, sheetFields-lawful, bits-least, bits-most}
+use Rattle.convert.specs.Convert.{Outcome, refusedWith, placed, fitted, converted}
+use Rattle.seglink.specs.Promised.{PacketValues, SheetValues, Convertible, Done, result, spelled, LoweredTo, Lowering, over, one}
+
+-- ---- packets and sheets of good values
+
+-- the packet number's item
+number-is : (i : Item) → (leb 6 (i .packet) && leb (i .packet) 6) ≡ true → i .sheet ≡ i .packet → i ≡ numberItem 6
+number-is i a r =
+    let l : 6 ≤ i .packet = leb-true 6 (i .packet) (and-left (leb 6 (i .packet)) (leb (i .packet) 6) a) in
+    let h : i .packet ≤ 6 = leb-true (i .packet) 6 (and-right (leb 6 (i .packet)) (leb (i .packet) 6) a) in
+    let p : i .packet ≡ 6 = omega arith in
+    let q : i .sheet ≡ 6 = omega arith in
+    λ j. record { sheet = q j; packet = p j }
+
+pub packet-values : (s : List ℕ) (l : List Item) → Bytes s → fromPacket wireChanges s ≡ accepted l → PacketValues l × (s ≡ toPacket wireChanges l)
+unfolding fromPacket toPacket sheetFields
+packet-values s l ok e =
+    let r = framed-only segmentNumber (fields wireChanges) s l ok e in
+    let c : PacketValues (numberItem 6 ∷ r .values) = also {i = numberItem 6} (record { allowed = refl; fits = lit< tt; raised = refl }) (r .good) in
+    rw (r .all) (c, r .bytes)
+
+pub packet-taken : (l : List Item) → PacketValues l → fromPacket wireChanges (toPacket wireChanges l) ≡ accepted l
+unfolding fromPacket toPacket sheetFields
+packet-taken (i ∷ l) (also g c) =
+    let q : i ≡ numberItem 6 = number-is i (g .allowed) (g .raised) in
+    let low = bits-least wireChanges (lit≤ tt) c in
+    let high = bits-most wireChanges (lit≤ tt) c in
+    framed-again segmentNumber (fields wireChanges) l (lit< tt) c (omega arith) (omega arith) ∙ ap (λ (j : Item). accepted (j ∷ l)) (sym q)
+
+pub sheet-values : (s : List ℕ) (l : List Item) → Bytes s → fromSheet wireChanges s ≡ accepted l → SheetValues l × (s ≡ toSheet wireChanges l)
+unfolding fromSheet toSheet
+sheet-values s l ok e = sheet-only (sheetFields wireChanges) s l ok e
+
+pub sheet-taken : (l : List Item) → SheetValues l → fromSheet wireChanges (toSheet wireChanges l) ≡ accepted l
+unfolding fromSheet toSheet
+sheet-taken l c = sheet-again c
+
+-- lowering leaves the packet
+pub lowered-packet : (l : List Item) → toPacket wireChanges (lowered (sheetFields wireChanges) l) ≡ toPacket wireChanges l
+unfolding toPacket sheetFields
+lowered-packet [] = refl
+lowered-packet (i ∷ l) = ap (framed segmentNumber) (lowered-bits (fields wireChanges) l)
+
+pub lowered-good : {l : List Item} → SheetValues l → PacketValues (lowered (sheetFields wireChanges) l)
+lowered-good c = to-packet (sheetFields-lawful wireChanges (lit≤ tt)) c
+
+-- ---- a conversion's outcomes, whatever judges and writes
+
+module _ (write : List Item → List ℕ) (r : Read) (room : List ℕ) where
+  pub written : (l : List Item) → r ≡ accepted l → length (write l) ≤ length room → converted write r room ≡ placed (write l) room
+  written l e h = ap (λ (t : Read). converted write t room) e ∙ rw (le-ltb (length room) (length (write l)) h)
+
+  -- "A refusal returns its number and writes nothing"
+  pub kept : (Done (converted write r room) → ⊥) → converted write r room ≡ refusedWith (converted write r room .answer .refusal) room
+  kept n = go r n
+    where
+      short : (l : List Item) → (Done (fitted (write l) room) → ⊥) → fitted (write l) room ≡ refusedWith (fitted (write l) room .answer .refusal) room
+      short l m = by-cases (ltb (length room) (length (write l))) (λ d. rw d) (λ d. absurd (m (rw d)))
+
+      go : (t : Read) → (Done (converted write t room) → ⊥) → converted write t room ≡ refusedWith (converted write t room .answer .refusal) room
+      go (refused q left) m = refl
+      go (accepted l) m = short l m
+
+  -- what is done was accepted, and fits
+  pub done-only : {C : Type 0} → ((q left : ℕ) → r ≡ refused q left → 1 ≤ q) → Done (converted write r room)
+      → ((l : List Item) → r ≡ accepted l → length (write l) ≤ length room → C) → C
+  done-only {C} least d k = go r refl
+    where
+      go : (t : Read) → r ≡ t → C
+      go (refused q left) e = absurd (let z : q ≡ 0 = rw e at d in omega (arith, least q left e))
+      go (accepted l) e =
+          let f : Done (fitted (write l) room) = rw e at d in
+          by-cases (ltb (length room) (length (write l)))
+          (λ x. let z : _≡_ {A = ℕ} 8 0 = rw x at f in absurd (omega arith))
+          (λ x. k l e (ltb-false (length room) (length (write l)) x))
+
+-- the result of what is placed
+pub placed-result : (bytes room : List ℕ) → result (placed bytes room) ≡ bytes
+placed-result bytes room = take-at bytes (drop (length bytes) room) (length bytes) refl
+
+-- ---- the numbers of any tree's fields
+
+-- what a sheet says: every field's number, and nothing else
+pub numbers-spelled : {f : Format} {l : List Item} {Good : Kind → Item → Type 0} → Conforming Good f l → write sheet f l ≡ spelled (sheetNumbers l)
+numbers-spelled done = refl
+numbers-spelled (also {i = i} g c) = ap (λ (s : List ℕ). groupsIn (i .sheet) ++ s) (numbers-spelled c)
+
+lowered-to : (k : Kind) → LawfulKind k → (a v : ℕ) → k .lower a ≡ some v → LoweredTo k a (k .raise v)
+lowered-to k w a v e = record {
+  speeds = λ q. let d : speed .lower a ≡ some v = rw q at e in rw q (speed-lowered a v d);
+  currents = λ q. let d : mCurrent .lower a ≡ some v = rw q at e in rw q (current-lowered a v d);
+  others = λ m n. w .stays m n a v e;
+}
+
+pub lowering : {f : Format} {l : List Item} → Lawful f → Conforming InSheet f l → Lowering f l (lowered f l)
+lowering w done = over
+lowering (goes {k = k} lawful rest) (also {i = i} g c) =
+    one {i = i} (lowered-to k lawful (i .sheet) (i .packet) (g .lowered)) (lowering (rest (i .packet) (lawful .into (i .sheet) (i .packet) (g .lowered))) c)

@@ -1,0 +1,70 @@
+-- The words of the promises: what is converted, and what lowering makes of a sheet's numbers.
+-- Assumes nothing.
+use mathlib.Core.Path.{_≡_}
+use mathlib.Core.Bool.{cond}
+use mathlib.Core.List.{List, [], _∷_, _++_}
+use Prim.Native.Nat.{ℕ, _+_, _*_, _-_, _/_, _≤_}
+use lib.Dec.{eqb}
+use lib.ListN.{length, take}
+use Rattle.numbers.specs.Numbers.{groupsIn}
+use Rattle.kinds.specs.declared.Item.{Item}
+use Rattle.kinds.specs.Kind.{Kind}
+use Rattle.kinds.specs.Kinds.{speed, mCurrent}
+use Rattle.format.specs.Format.{Format, end, field, sheetNumbers}
+use Rattle.format.specs.Conforming.{Conforming, InPacket, InSheet, lowered}
+use Rattle.segment.specs.Segment.{sheetFields, wireChanges}
+use Rattle.segment.specs.Judgement.{toPacket, toSheet}
+use Rattle.convert.specs.Convert.{Outcome}
+
+-- "keeps the published widths and ranges and the stated rules": one good value for each field of the tree, and no more
+abbrev pub PacketValues : List Item → Type 0
+PacketValues l = Conforming InPacket (sheetFields wireChanges) l
+
+abbrev pub SheetValues : List Item → Type 0
+SheetValues l = Conforming InSheet (sheetFields wireChanges) l
+
+-- the input is written of good values, and the room holds the result that is written of them
+pub record Convertible (Good : List Item → Type 0) (input result : List Item → List ℕ) (s room : List ℕ) : Type 0 where
+  pub values : List Item
+  pub good : Good values
+  pub whole : s ≡ input values
+  pub holds : length (result values) ≤ length room
+
+abbrev pub ConvertiblePacket : List ℕ → List ℕ → Type 0
+ConvertiblePacket s room = Convertible PacketValues (toPacket wireChanges) (toSheet wireChanges) s room
+
+abbrev pub ConvertibleSheet : List ℕ → List ℕ → Type 0
+ConvertibleSheet s room = Convertible SheetValues (toSheet wireChanges) (toPacket wireChanges) s room
+
+-- "converted": the answer is no refusal
+abbrev pub Done : Outcome → Type 0
+Done o = o .answer .refusal ≡ 0
+
+-- the bytes of the result: as many of the room's as the answer says
+abbrev pub result : Outcome → List ℕ
+result o = take (o .answer .length) (o .room)
+
+-- every number in its groups, one after the other
+abbrev pub spelled : List ℕ → List ℕ
+spelled [] = []
+spelled (a ∷ l) = groupsIn a ++ spelled l
+
+-- "amperes + 1", lowered "to multiples of 10 A"; 0, for no limit, stays
+abbrev pub loweredCurrent : ℕ → ℕ
+loweredCurrent a = cond (eqb a 0) 0 ((a - 1) / 10 * 10 + 1)
+
+-- "speeds lowered to multiples of 5 km/h and currents to multiples of 10 A", and every other number the same
+pub record LoweredTo (k : Kind) (a b : ℕ) : Type 0 where
+  pub speeds : k ≡ speed → b ≡ a / 5 * 5
+  pub currents : k ≡ mCurrent → b ≡ loweredCurrent a
+  pub others : (k ≡ speed → ⊥) → (k ≡ mCurrent → ⊥) → b ≡ a
+
+-- the numbers of a sheet's values, lowered: as its packet gives them back
+abbrev pub loweredNumbers : List Item → List ℕ
+loweredNumbers l = sheetNumbers (lowered (sheetFields wireChanges) l)
+
+-- field by field
+pub data Lowering : Format → List Item → List Item → Type 0 where
+  over : Lowering end [] []
+  one : {k : Kind} {next : ℕ → Format} {i j : Item} {l m : List Item} → LoweredTo k (i .sheet) (j .sheet) → Lowering (next (i .packet)) l m
+      → Lowering (field k next) (i ∷ l) (j ∷ m)
