@@ -1,6 +1,6 @@
 -- The customer's demands as theorems, in the customer's order, over the definitions that the contracts cite.
 -- Assumes nothing.
-use mathlib.Core.Path.{_≡_, refl, sym, ap, _∙_}
+use mathlib.Core.Path.{_≡_, sym, ap, _∙_}
 use mathlib.Core.List.{List}
 use mathlib.Core.Logic.{_↔_}
 use Prim.Native.Nat.{ℕ, _≤_}
@@ -9,17 +9,16 @@ use lib.Dec.{lit≤}
 use lib.ListN.{length}
 use Rattle.bits.specs.Bits.{Bytes}
 use Rattle.kinds.specs.declared.Item.{Item}
-use Rattle.format.specs.Format.{Read, accepted, refused, sheetNumbers, write}
+use Rattle.format.specs.Format.{Read, accepted, sheetNumbers}
 use Rattle.format.specs.Media.{sheet}
 use Rattle.format.specs.Conforming.{lowered}
 use Rattle.format.proofs.Lawful.{to-sheet}
 use Rattle.segment.specs.Segment.{sheetFields, wireChanges}
 use Rattle.segment.specs.Judgement.{fromPacket, fromSheet, toPacket, toSheet}
 use Rattle.segment.proofs.Ends.{sheetFields-lawful}
-use Rattle.segment.proofs.Refusals.{packet-refusal, sheet-refusal}
 use Rattle.convert.specs.Convert.{Outcome, refusedWith, placed, fitted, converted, packetToSheet, sheetToPacket}
 use Rattle.seglink.specs.Promised.{PacketValues, SheetValues, ConvertiblePacket, ConvertibleSheet, loweredNumbers, Done, result, spelled, Lowering}
-use Rattle.seglink.proofs.Values.{packet-values, packet-taken, sheet-values, sheet-taken, lowered-packet, lowered-good, written, kept, done-only, placed-result, numbers-spelled, lowering}
+use Rattle.seglink.proofs.Values.{packet-taken, sheet-taken, lowered-packet, lowered-good, kept, packets, sheets, side-result, side-converted, placed-result, numbers-spelled, lowering}
 
 -- ==== 1. "Whatever bytes come in, every public operation ends with an answer or the one refusal the rules name."
 
@@ -39,41 +38,24 @@ sheet-refused s room n = kept (toPacket wireChanges) (fromSheet wireChanges s) r
 -- ==== 2. "Every packet and sheet that keeps the published widths and ranges and the stated rules is converted if the room holds the result, and nothing else is."
 
 module _ (s room : List ℕ) where
-  -- a packet of good values, whose sheet the room holds, leaves exactly that sheet, and the room's bytes past it
-  pub packet-result : (c : ConvertiblePacket s room)
-      → packetToSheet s room ≡ placed (toSheet wireChanges (c .values)) room
-  unfolding packetToSheet
-  packet-result c =
-      written (toSheet wireChanges) (fromPacket wireChanges s) room (c .values)
-      (ap (fromPacket wireChanges) (c .whole) ∙ packet-taken (c .values) (c .good)) (c .holds)
-
+  -- a packet is converted exactly when it is the packet of good values and the room holds their sheet
   pub packet-converted : Bytes s → Done (packetToSheet s room) ↔ ConvertiblePacket s room
   unfolding packetToSheet
-  packet-converted ok = (only, λ c. ap (λ (o : Outcome). o .answer .refusal) (packet-result c))
-    where
-      only : Done (packetToSheet s room) → ConvertiblePacket s room
-      only d =
-          done-only (toSheet wireChanges) (fromPacket wireChanges s) room (λ q left e. packet-refusal wireChanges (lit≤ tt) s q left e) d λ l e h.
-          let p = packet-values s l ok e in
-          record { values = l; good = p .0; whole = p .1; holds = h }
+  packet-converted ok = side-converted packets (toSheet wireChanges) s room ok
+
+  -- and then the room begins with exactly that sheet, and keeps the bytes past it
+  pub packet-result : (c : ConvertiblePacket s room) → packetToSheet s room ≡ placed (toSheet wireChanges (c .values)) room
+  unfolding packetToSheet
+  packet-result c = side-result packets (toSheet wireChanges) s room c
 
   -- the same for sheets
-  pub sheet-result : (c : ConvertibleSheet s room)
-      → sheetToPacket s room ≡ placed (toPacket wireChanges (c .values)) room
-  unfolding sheetToPacket
-  sheet-result c =
-      written (toPacket wireChanges) (fromSheet wireChanges s) room (c .values)
-      (ap (fromSheet wireChanges) (c .whole) ∙ sheet-taken (c .values) (c .good)) (c .holds)
-
   pub sheet-converted : Bytes s → Done (sheetToPacket s room) ↔ ConvertibleSheet s room
   unfolding sheetToPacket
-  sheet-converted ok = (only, λ c. ap (λ (o : Outcome). o .answer .refusal) (sheet-result c))
-    where
-      only : Done (sheetToPacket s room) → ConvertibleSheet s room
-      only d =
-          done-only (toPacket wireChanges) (fromSheet wireChanges s) room (λ q left e. sheet-refusal wireChanges (lit≤ tt) s q left ok e) d λ l e h.
-          let p = sheet-values s l ok e in
-          record { values = l; good = p .0; whole = p .1; holds = h }
+  sheet-converted ok = side-converted sheets (toPacket wireChanges) s room ok
+
+  pub sheet-result : (c : ConvertibleSheet s room) → sheetToPacket s room ≡ placed (toPacket wireChanges (c .values)) room
+  unfolding sheetToPacket
+  sheet-result c = side-result sheets (toPacket wireChanges) s room c
 
 -- the sheet of a packet is the number of every field of every change, in order, and nothing else
 pub every-field : (l : List Item) → PacketValues l → toSheet wireChanges l ≡ spelled (sheetNumbers l)

@@ -1,14 +1,15 @@
 -- What the promises rest on: packets and sheets of good values, a conversion's outcomes, and the lowering of any tree's numbers.
 -- Assumes nothing.
 use mathlib.Core.Path.{_≡_, refl, sym, ap, _∙_}
-use mathlib.Core.Bool.{Bool, true, _&&_}
+use mathlib.Core.Bool.{true, _&&_}
 use mathlib.Core.List.{List, [], _∷_, _++_}
 use mathlib.Core.Option.{some}
-use Prim.Native.Nat.{ℕ, _+_, _*_, _-_, _/_, _<_, _≤_}
+use mathlib.Core.Logic.{_↔_}
+use Prim.Native.Nat.{ℕ, _≤_}
 use native.Mathlib.Omega.{arith}
-use borrow.Author.Tests.{leb-true, ltb-false, ltb-true, le-ltb}
+use borrow.Author.Tests.{leb-true, ltb-false, le-ltb}
 use lib.Dec.{leb, ltb, lit<, lit≤}
-use lib.ListN.{length, take, drop}
+use lib.ListN.{length, drop}
 use lib.Seq.{take-at}
 use Rattle.bits.specs.Bits.{Bytes}
 use Rattle.bits.proofs.Tests.{by-cases, and-left, and-right}
@@ -17,16 +18,17 @@ use Rattle.kinds.specs.declared.Item.{Item}
 use Rattle.kinds.specs.Kind.{Kind}
 use Rattle.kinds.specs.Kinds.{speed, mCurrent}
 use Rattle.fields.proofs.Lawful.{LawfulKind, speed-lowered, current-lowered}
-use Rattle.format.specs.Format.{Format, end, field, Read, accepted, refused, read, write, sheetNumbers}
+use Rattle.format.specs.Format.{Format, Read, accepted, refused, write, sheetNumbers}
 use Rattle.format.specs.Media.{packet, sheet}
-use Rattle.format.specs.Conforming.{Conforming, done, also, InPacket, InSheet, lowered}
-use Rattle.format.proofs.Lawful.{Lawful, ends, goes, to-packet, lowered-bits}
+use Rattle.format.specs.Conforming.{Conforming, done, also, InSheet, lowered}
+use Rattle.format.proofs.Lawful.{Lawful, goes, to-packet, lowered-bits}
 use Rattle.format.proofs.Media.{sheet-again, sheet-only}
 use Rattle.segment.specs.Segment.{fields, sheetFields, wireChanges}
 use Rattle.segment.specs.Frame.{framed, numberItem}
-use Rattle.segment.specs.Judgement.{segmentNumber, fromPacket, fromSheet, toPacket, toSheet, afterNumber}
+use Rattle.segment.specs.Judgement.{segmentNumber, fromPacket, fromSheet, toPacket, toSheet}
 use Rattle.segment.proofs.Framing.{framed-again, framed-only}
-use Rattle.segment.proofs.Ends.{fields-lawful, sheetFields-lawful, bits-least, bits-most}
+use Rattle.segment.proofs.Ends.{sheetFields-lawful, bits-least, bits-most}
+use Rattle.segment.proofs.Refusals.{packet-refusal, sheet-refusal}
 use Rattle.convert.specs.Convert.{Outcome, refusedWith, placed, fitted, converted}
 use Rattle.seglink.specs.Promised.{PacketValues, SheetValues, Convertible, Done, result, spelled, LoweredTo, Lowering, over, one}
 
@@ -102,6 +104,32 @@ module _ (write : List Item → List ℕ) (r : Read) (room : List ℕ) where
           by-cases (ltb (length room) (length (write l)))
           (λ x. let z : _≡_ {A = ℕ} 8 0 = rw x at f in absurd (omega arith))
           (λ x. k l e (ltb-false (length room) (length (write l)) x))
+
+-- ---- one side: what judges it, and what it is written of
+
+pub record Side (judge : List ℕ → Read) (Good : List Item → Type 0) (input : List Item → List ℕ) : Type 0 where
+  pub only : (s : List ℕ) (l : List Item) → Bytes s → judge s ≡ accepted l → Good l × (s ≡ input l)
+  pub again : (l : List Item) → Good l → judge (input l) ≡ accepted l
+  pub refuses : (s : List ℕ) → Bytes s → (q left : ℕ) → judge s ≡ refused q left → 1 ≤ q
+
+pub packets : Side (fromPacket wireChanges) PacketValues (toPacket wireChanges)
+packets = record { only = packet-values; again = packet-taken; refuses = λ s ok q left e. packet-refusal wireChanges (lit≤ tt) s q left e }
+
+pub sheets : Side (fromSheet wireChanges) SheetValues (toSheet wireChanges)
+sheets = record { only = sheet-values; again = sheet-taken; refuses = λ s ok q left e. sheet-refusal wireChanges (lit≤ tt) s q left ok e }
+
+module _ {judge : List ℕ → Read} {Good : List Item → Type 0} {input : List Item → List ℕ} (side : Side judge Good input) (write : List Item → List ℕ) (s room : List ℕ) where
+  pub side-result : (c : Convertible Good input write s room) → converted write (judge s) room ≡ placed (write (c .values)) room
+  side-result c = written write (judge s) room (c .values) (ap judge (c .whole) ∙ side .again (c .values) (c .good)) (c .holds)
+
+  pub side-converted : Bytes s → Done (converted write (judge s) room) ↔ Convertible Good input write s room
+  side-converted ok = (only, λ c. ap (λ (o : Outcome). o .answer .refusal) (side-result c))
+    where
+      only : Done (converted write (judge s) room) → Convertible Good input write s room
+      only d =
+          done-only write (judge s) room (side .refuses s ok) d λ l e h.
+          let p = side .only s l ok e in
+          record { values = l; good = p .0; whole = p .1; holds = h }
 
 -- the result of what is placed
 pub placed-result : (bytes room : List ℕ) → result (placed bytes room) ≡ bytes
