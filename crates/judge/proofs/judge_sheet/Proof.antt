@@ -123,7 +123,6 @@ loop-again c =
     let ok = bytes-of (now (a .s)) (λ i. c .before .before .before .before .before .before .before .before .before .before .before .before .shared-slice-known .given i .fits) in
     let e = sym (c .before .before .before .before .before .before .before .before .before .rule .ensures) ∙ ap asked (c .before .before .before .before .before .before .before .rule2 .given .1) in
     let t = sym (c .before .before .before .i .given .1) ∙ c .before .before .before .before .before .take-number .ensures in
-    let k = lawful-kind (formatOf (l .w)) e (l .inv .0 ok .lawful) in
     let g = went (sheet-source (now (a .s)) ok) (l .inv .0 ok .lawful) (l .inv .1) e t in
     let v = c .before .before .before .i .given .0 .0 .packet in
     rw (c .before .next .ensures, c .width .ensures)

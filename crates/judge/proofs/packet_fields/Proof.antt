@@ -90,7 +90,6 @@ cast-n c = omega (arith, c .groups .ensures, count-five (c .before .before .befo
 
 add-n : tie.Need-add-n Inv-loop μ-loop
 add-n c =
-    let a = c .before .before .before .before .before .before .before .before .before .before .before .before .before .before .args in
     omega (arith, c .groups .ensures, count-five (c .before .before .before .i .given .0 .0 .sheet), c .before .before .before .before .before .before .before .before .before .before .loop .inv .1, c .before .before .before .before .before .before .before .before .before .before .loop .inv .0 .here .before, c .before .before .before .before .before .before .before .before .before .before .before .before .before .before .pre .few)
 
 loop-less : tie.Need-loop-less Inv-loop μ-loop

@@ -54,9 +54,6 @@ slice-relend-prefix-write-header c = search needs
 slice-aggregate-write-header : tie.Need-slice-aggregate-write-header
 slice-aggregate-write-header c =
     let a = c .before .before .before .before .before .before .before .before .args in
-    let s = now (a .sheet) in
-    let ok = bytes-of s (λ i. c .before .before .before .before .before .before .before .shared-slice-known .given i .fits) in
-    let e = sym (c .before .before .before .n .given .1) ∙ c .before .before .before .before .before .judge-sheet .ensures in
     sym (length-take-le 15 (now (a .room)) (omega (arith, c .before .if1 .left)))
 
 cast-write-header : tie.Need-cast-write-header
@@ -110,7 +107,6 @@ returns-2 : tie.Need-returns-2
 returns-2 c =
     let a = c .before .before .before .before .before .before .before .args in
     let s = now (a .sheet) in
-    let ok = bytes-of s (λ i. c .before .before .before .before .before .before .shared-slice-known .given i .fits) in
     let e = sym (c .before .before .r .given .1) ∙ c .before .before .before .before .judge-sheet .ensures in
     rw (c .refused .ensures) (packet-refused s (now (a .room)) _ e)
 

@@ -60,11 +60,7 @@ store-field-requires c κs =
 
 same-length : tie.Need-same-length Inv-loop μ-loop
 same-length c =
-    let a = c .before .before .before .before .before .before .before .before .before .before .before .args in
     let l = c .before .before .before .before .before .before .before .loop in
-    let ok = bytes-of (now (a .sheet)) (λ i. c .before .before .before .before .before .before .before .before .before .before .shared-slice-known .given i .fits) in
-    let w = l .inv .0 ok in
-    let e = sym (c .before .before .before .before .before .before .rule .ensures) ∙ ap asked (c .before .before .before .before .enum-told .given .1) in
     ap length (c .before .before .store-field .ensures) ∙ with-length _ _ _ _ ∙ l .inv .1
 
 returns : tie.Need-returns Inv-loop μ-loop
@@ -90,7 +86,6 @@ take-number-requires c κs =
     let l = c .before .before .before .before .loop in
     let ok = bytes-of (now (a .sheet)) (λ i. c .before .before .before .before .before .before .before .shared-slice-known .given i .fits) in
     let w = l .inv .0 ok in
-    let e = sym (c .before .before .before .rule .ensures) ∙ ap asked (c .before .rule2 .given .1) in
     w .reading .here
 
 enum-told-2 : tie.Need-enum-told-2 Inv-loop μ-loop
@@ -168,7 +163,6 @@ loop-again c =
     let a = c .before .before .before .before .before .before .before .before .before .before .before .before .before .before .before .before .before .before .args in
     let l = c .before .before .before .before .before .before .before .before .before .before .before .before .before .before .loop in
     let ok = bytes-of (now (a .sheet)) (λ i. c .before .before .before .before .before .before .before .before .before .before .before .before .before .before .before .before .before .shared-slice-known .given i .fits) in
-    let w = l .inv .0 ok in
     let e = sym (c .before .before .before .before .before .before .before .before .before .before .before .before .before .rule .ensures) ∙ ap asked (c .before .before .before .before .before .before .before .before .before .before .before .rule2 .given .1) in
     let t = sym (c .before .before .before .before .before .before .before .i .given .1) ∙ c .before .before .before .before .before .before .before .before .before .take-number .ensures in
     let v = c .before .before .before .before .before .before .before .i .given .0 .0 .packet in

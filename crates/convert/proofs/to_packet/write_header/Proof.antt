@@ -88,7 +88,6 @@ take-number-requires c κs =
     let l = c .before .before .before .before .before .loop in
     let ok = bytes-of (now (a .sheet)) (λ i. c .before .before .before .before .before .before .before .before .before .before .before .before .before .before .before .before .before .before .shared-slice-known .given i .fits) in
     let w = l .inv .0 ok in
-    let e = sym (c .before .before .before .rule .ensures) ∙ ap asked (c .before .rule2 .given .1) in
     w .writing .reading .here
 
 enum-told-2 : tie.Need-enum-told-2 Inv-loop μ-loop
@@ -158,7 +157,6 @@ loop-again c =
     let a = c .before .before .before .before .before .before .before .before .before .before .before .before .before .before .before .before .before .before .before .before .before .before .before .before .before .before .before .before .before .args in
     let l = c .before .before .before .before .before .before .before .before .before .before .before .before .before .before .before .loop in
     let ok = bytes-of (now (a .sheet)) (λ i. c .before .before .before .before .before .before .before .before .before .before .before .before .before .before .before .before .before .before .before .before .before .before .before .before .before .before .before .before .shared-slice-known .given i .fits) in
-    let w = l .inv .0 ok in
     let e = sym (c .before .before .before .before .before .before .before .before .before .before .before .before .before .rule .ensures) ∙ ap asked (c .before .before .before .before .before .before .before .before .before .before .before .rule2 .given .1) in
     let t = sym (c .before .before .before .before .before .before .before .i .given .1) ∙ c .before .before .before .before .before .before .before .before .before .take-number .ensures in
     let v = c .before .before .before .before .before .before .before .i .given .0 .0 .packet in

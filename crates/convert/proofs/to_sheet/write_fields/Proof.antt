@@ -59,7 +59,6 @@ enum-known-rule c = search needs
 
 take-bits-requires : tie.Need-take-bits-requires Inv-loop μ-loop
 take-bits-requires c κs =
-    let a = c .before .before .before .before .before .before .before .before .before .args in
     let l = c .before .before .before .before .loop in
     let e = sym (c .before .before .before .rule .ensures) ∙ ap asked (c .before .rule2 .given .1) in
     (l .inv .0 .reading .here, lawful-kind (formatOf (l .w)) e (l .inv .0 .reading .lawful) .narrow .most)
