@@ -1,0 +1,9 @@
+-- The desk cases on speed, by one statement over the definitions.
+-- Assumes nothing.
+use mathlib.Core.Path.{_≡_, refl}
+use mathlib.Core.List.{map}
+use Rattle.speed.specs.Speed.{speedIn}
+use Rattle.speed.specs.Desk.{speeds}
+
+pub desk-speeds : map (λ c. speedIn (c .train) (c .x) (c .numbers)) speeds ≡ map (λ c. c .answer) speeds
+desk-speeds = refl

@@ -1,0 +1,114 @@
+-- At every place of a segment some element holds; the permitted speed of lowered elements is the permitted speed, lowered; what the code asks of a train.
+-- Assumes nothing.
+use mathlib.Core.Path.{_≡_, refl, sym, ap, _∙_}
+use mathlib.Core.Bool.{Bool, true, false, _&&_}
+use mathlib.Core.List.{List, [], _∷_, map}
+use mathlib.Core.Option.{Option, none, some}
+use Prim.Native.Nat.{ℕ, zero, suc, _+_, _≤_, _<_, min}
+use native.Mathlib.Omega.{arith}
+use borrow.Author.Tests.{le-leb, lt-leb, lt-ltb, ltb-false, ltb-true}
+use lib.Dec.{eqb, ltb, leb}
+use Rattle.bits.proofs.Tests.{by-cases}
+use Rattle.kinds.specs.declared.Field.{Field}
+use Rattle.kinds.specs.declared.Field.the-variants.{Is, Refused}
+use Rattle.kinds.specs.Judged.{fromSheet, loweredTo}
+use Rattle.kinds.specs.Kinds.{class}
+use Rattle.kinds.specs.Tables.{cantFigures, place}
+use Rattle.speed.specs.declared.Train.{Train}
+use Rattle.speed.specs.Speed.{found, figure, validTrain, belongs, Entry, Element, named, namedSpeeds, lowest, instead, elementSpeed, endBefore, holds, heldSpeeds, permitted, inFives, entryInFives, elementInFives}
+
+-- ---- somewhere an element holds
+
+held-in-element : (t : Train) (e : Element) (stop x : ℕ) → e .start ≤ x → x < stop → holds t e stop x ≡ true
+held-in-element t e stop x a b =
+    rw (le-leb (e .start) x a) (by-cases (eqb (e .qFront) 0) (λ d. rw d (lt-ltb x (stop + t .length) (omega arith))) (λ d. rw d (lt-ltb x stop b)))
+
+-- "At every x below L_SP some element holds"
+pub some-holds : {C : Type 0} (t : Train) (lsp x : ℕ) (e : Element) (l : List Element) → e .start ≤ x → x < lsp
+    → ((v : ℕ) (m : List ℕ) → heldSpeeds t lsp x (e ∷ l) ≡ v ∷ m → C) → C
+some-holds t lsp x e [] a b k = k (elementSpeed t e) [] (rw (held-in-element t e lsp x a b))
+some-holds t lsp x e (f ∷ l) a b k =
+    by-cases (ltb x (f .start))
+    (λ d. k (elementSpeed t e) (heldSpeeds t lsp x (f ∷ l)) (rw (held-in-element t e (f .start) x a (ltb-true x (f .start) d))))
+    (λ d. some-holds t lsp x f l (ltb-false x (f .start) d) b λ v m q.
+    by-cases (holds t e (f .start) x)
+    (λ h. k (elementSpeed t e) (heldSpeeds t lsp x (f ∷ l)) (rw h))
+    (λ h. k v m (rw h q)))
+
+-- ---- lowering
+
+lowered-min : (v w : ℕ) → inFives (min v w) ≡ min (inFives v) (inFives w)
+lowered-min v w = omega arith
+
+lowered-lowest : (v : ℕ) (l : List ℕ) → lowest (inFives v) (map inFives l) ≡ inFives (lowest v l)
+lowered-lowest v [] = refl
+lowered-lowest v (w ∷ l) = ap (λ (n : ℕ). lowest n (map inFives l)) (sym (lowered-min v w)) ∙ lowered-lowest (min v w) l
+
+lowered-instead : (v : ℕ) (l : List ℕ) → instead (inFives v) (map inFives l) ≡ inFives (instead v l)
+lowered-instead v [] = refl
+lowered-instead v (w ∷ l) = lowered-lowest w l
+
+lowered-named : (t : Train) (q : ℕ) (l : List Entry) → namedSpeeds t q (map entryInFives l) ≡ map inFives (namedSpeeds t q l)
+lowered-named t q [] = refl
+lowered-named t q (e ∷ l) =
+    by-cases (eqb (e .qDiff) q && named t q (e .class))
+    (λ d. rw d (ap (λ (m : List ℕ). inFives (e .vDiff) ∷ m) (lowered-named t q l)))
+    (λ d. rw d (lowered-named t q l))
+
+lowered-speed : (t : Train) (e : Element) → elementSpeed t (elementInFives e) ≡ inFives (elementSpeed t e)
+lowered-speed t e =
+    let l = e .entries in
+    rw (lowered-named t 0 l, lowered-named t 1 l, lowered-named t 2 l, lowered-instead (e .vStatic) (namedSpeeds t 0 l), lowered-instead (instead (e .vStatic) (namedSpeeds t 0 l)) (namedSpeeds t 1 l))
+    (lowered-lowest (instead (instead (e .vStatic) (namedSpeeds t 0 l)) (namedSpeeds t 1 l)) (namedSpeeds t 2 l))
+
+lowered-end : (lsp : ℕ) (l : List Element) → endBefore lsp (map elementInFives l) ≡ endBefore lsp l
+lowered-end lsp [] = refl
+lowered-end lsp (e ∷ l) = refl
+
+lowered-held : (t : Train) (lsp x : ℕ) (l : List Element) → heldSpeeds t lsp x (map elementInFives l) ≡ map inFives (heldSpeeds t lsp x l)
+lowered-held t lsp x [] = refl
+lowered-held t lsp x (e ∷ l) =
+    rw (lowered-end lsp l)
+    (by-cases (holds t e (endBefore lsp l) x)
+    (λ d. rw (d, lowered-speed t e) (ap (λ (m : List ℕ). inFives (elementSpeed t e) ∷ m) (lowered-held t lsp x l)))
+    (λ d. rw d (lowered-held t lsp x l)))
+
+-- "the greatest multiple of 5 not above the speed"
+pub lowered-permitted : (t : Train) (lsp x : ℕ) (l : List Element) → permitted t lsp x (map elementInFives l) ≡ inFives (permitted t lsp x l)
+lowered-permitted t lsp x l = ap (instead 0) (lowered-held t lsp x l) ∙ lowered-instead 0 (heldSpeeds t lsp x l)
+
+-- ---- what the code asks of a train
+
+pub belongs-last : (t : Train) (c : ℕ) → (c ≡ 0 → ⊥) → (c ≡ 1 → ⊥) → t .passenger ≡ belongs t c
+belongs-last t zero a b = absurd (a refl)
+belongs-last t (suc zero) a b = absurd (b refl)
+belongs-last t (suc (suc c)) a b = refl
+
+pub named-category : (t : Train) (q class : ℕ) → (q ≡ 0 → ⊥) → belongs t class ≡ named t q class
+named-category t zero class a = absurd (a refl)
+named-category t (suc q) class a = refl
+
+abbrev pub isField : Field → Bool
+isField (Is i) = true
+isField (Refused r) = false
+
+-- a cant deficiency judged as a field of its kind
+pub figure-judged : (cant : ℕ) (f : Field) → fromSheet (class 0) cant ≡ f → isField f ≡ figure cant
+figure-judged cant f e = ap isField (sym e) ∙ go (place 0 cantFigures cant)
+  where
+    go : (o : Option ℕ) → isField (loweredTo (class 0) cant o) ≡ found o
+    go none = refl
+    go (some v) = refl
+
+pub valid-short : (t : Train) → t .length < 1 → false ≡ validTrain t
+valid-short t h = rw (lt-leb 1 (t .length) h)
+
+pub valid-long : (t : Train) → 150000 < t .length → false ≡ validTrain t
+valid-long t h = rw (lt-leb (t .length) 150000 h) (sym (and-false (leb 1 (t .length))))
+  where
+    and-false : (b : Bool) → (b && false) ≡ false
+    and-false true = refl
+    and-false false = refl
+
+pub valid-figure : (t : Train) → 1 ≤ t .length → t .length ≤ 150000 → figure (t .cant) ≡ validTrain t
+valid-figure t a b = rw (le-leb 1 (t .length) a, le-leb (t .length) 150000 b)

@@ -1,0 +1,49 @@
+-- The desk cases on speed, and a train of each sort at one element: one table of questions, each with its answer.
+-- Assumes nothing.
+use mathlib.Core.Bool.{Bool, true, false}
+use mathlib.Core.List.{List, [], _∷_, _++_}
+use Prim.Native.Nat.{ℕ}
+use lib.ListN.{replicate}
+use Rattle.speed.specs.declared.Train.{Train}
+
+pub record Case : Type 0 where
+  pub train : Train
+  pub x : ℕ
+  pub numbers : List ℕ
+  pub answer : ℕ
+
+-- a train of this length and cant deficiency, freight in P position, freight in G position, passenger
+abbrev pub trainOf : ℕ → ℕ → Bool → Bool → Bool → Train
+trainOf length cant p g passenger = record { length = length; cant = cant; «freight_p» = p; «freight_g» = g; passenger = passenger }
+
+-- a segment of 1,000 cm with this profile
+abbrev pub sheetOf : List ℕ → List ℕ
+sheetOf profile = 6 ∷ replicate 9 0 ++ 1000 ∷ replicate 3 0 ++ profile ++ replicate 5 0
+
+-- "Length 1,000 cm, 100 km/h with Q_FRONT 0, change at 500 to 140"
+abbrev pub change : ℕ → List ℕ
+change front = sheetOf (100 ∷ front ∷ 0 ∷ 1 ∷ 500 ∷ 140 ∷ front ∷ 0 ∷ [])
+
+abbrev pub plain : Train
+plain = trainOf 200 80 false false false
+
+-- 100 km/h; 120 for 100 mm; instead 110 in P position, 90 in G position; at most 80 for passengers
+abbrev pub specific : List ℕ
+specific = sheetOf (100 ∷ 0 ∷ 4 ∷ 0 ∷ 100 ∷ 120 ∷ 1 ∷ 0 ∷ 110 ∷ 1 ∷ 1 ∷ 90 ∷ 2 ∷ 2 ∷ 80 ∷ 0 ∷ [])
+
+abbrev pub speeds : List Case
+speeds =
+    -- "a 200 cm train gets 100 at 699 and 140 at 700. With Q_FRONT 1 it gets 140 at 500"
+    record { train = plain; x = 699; numbers = change 0; answer = 100 }
+    ∷ record { train = plain; x = 700; numbers = change 0; answer = 140 }
+    ∷ record { train = plain; x = 499; numbers = change 1; answer = 100 }
+    ∷ record { train = plain; x = 500; numbers = change 1; answer = 140 }
+    -- each sentence of an element's speed
+    ∷ record { train = plain; x = 0; numbers = specific; answer = 100 }
+    ∷ record { train = trainOf 200 100 false false false; x = 0; numbers = specific; answer = 120 }
+    ∷ record { train = trainOf 200 100 true false false; x = 0; numbers = specific; answer = 110 }
+    ∷ record { train = trainOf 200 100 false true false; x = 0; numbers = specific; answer = 90 }
+    ∷ record { train = trainOf 200 100 true true false; x = 0; numbers = specific; answer = 90 }
+    ∷ record { train = trainOf 200 100 false false true; x = 0; numbers = specific; answer = 80 }
+    ∷ record { train = trainOf 200 80 true false true; x = 999; numbers = specific; answer = 80 }
+    ∷ []

@@ -1,0 +1,145 @@
+-- Permitted speed, from the numbers of a segment's sheet.
+-- Assumes nothing.
+use mathlib.Core.Bool.{Bool, true, false, cond, _&&_}
+use mathlib.Core.List.{List, [], _∷_, map}
+use mathlib.Core.Option.{Option, none, some}
+use Prim.Native.Nat.{ℕ, zero, suc, _+_, _*_, _/_, min}
+use lib.Dec.{eqb, ltb, leb}
+use lib.ListN.{drop, getD}
+use Rattle.kinds.specs.Tables.{cantFigures, place}
+use Rattle.speed.specs.declared.Train.{Train}
+
+-- ---- "A train"
+
+abbrev pub found : Option ℕ → Bool
+found none = false
+found (some v) = true
+
+-- "one of the eleven mm figures"
+abbrev pub figure : ℕ → Bool
+figure a = found (place 0 cantFigures a)
+
+-- "a length (1 to 150,000 cm), a cant deficiency"
+abbrev pub validTrain : Train → Bool
+validTrain t = leb 1 (t .length) && (leb (t .length) 150000 && figure (t .cant))
+
+-- "three yes/no memberships: freight in P position (0), freight in G position (1), passenger (2)"
+abbrev pub belongs : Train → ℕ → Bool
+belongs t zero = t .«freight_p»
+belongs t (suc zero) = t .«freight_g»
+belongs t (suc (suc c)) = t .passenger
+
+-- ---- "An element's speed for a train"
+
+-- a specific entry, and an element, by their sheet's numbers
+pub record Entry : Type 0 where
+  pub qDiff : ℕ
+  pub class : ℕ
+  pub vDiff : ℕ
+
+pub record Element : Type 0 where
+  pub start : ℕ
+  pub vStatic : ℕ
+  pub qFront : ℕ
+  pub entries : List Entry
+
+-- the choice by cant deficiency: "name the train's own cant deficiency"
+abbrev pub ownCant : Train → ℕ → Bool
+ownCant t class = eqb class (t .cant)
+
+-- whether an entry of this Q_DIFF and class is the train's: by cant deficiency, or by "a category the train belongs to"
+abbrev pub named : Train → ℕ → ℕ → Bool
+named t zero class = ownCant t class
+named t (suc q) class = belongs t class
+
+-- the speeds of the entries with this Q_DIFF that are the train's
+abbrev pub namedSpeeds : Train → ℕ → List Entry → List ℕ
+namedSpeeds t q [] = []
+namedSpeeds t q (e ∷ l) = cond (eqb (e .qDiff) q && named t q (e .class)) (e .vDiff ∷ namedSpeeds t q l) (namedSpeeds t q l)
+
+-- "the lowest of this and all"
+abbrev pub lowest : ℕ → List ℕ → ℕ
+lowest v [] = v
+lowest v (w ∷ l) = lowest (min v w) l
+
+-- "take the lowest of them instead", if there are any
+abbrev pub instead : ℕ → List ℕ → ℕ
+instead v [] = v
+instead v (w ∷ l) = lowest w l
+
+-- "begin with V_STATIC", then Q_DIFF 0 and 1 instead, then Q_DIFF 2 with it
+abbrev pub elementSpeed : Train → Element → ℕ
+elementSpeed t e = lowest (instead (instead (e .vStatic) (namedSpeeds t 0 (e .entries))) (namedSpeeds t 1 (e .entries))) (namedSpeeds t 2 (e .entries))
+
+-- ---- "An element holds at location x"
+
+-- "an element ends where the next starts, the last at L_SP"
+abbrev pub endBefore : ℕ → List Element → ℕ
+endBefore lsp [] = lsp
+endBefore lsp (e ∷ l) = e .start
+
+-- "with Q_FRONT 0 (train length delay), before its end plus the train's length"
+abbrev pub heldTo : Train → Element → ℕ → ℕ
+heldTo t e stop = cond (eqb (e .qFront) 0) (stop + t .length) stop
+
+-- "if it starts at or before x and x lies before its end"
+abbrev pub holds : Train → Element → ℕ → ℕ → Bool
+holds t e stop x = leb (e .start) x && ltb x (heldTo t e stop)
+
+-- the speeds of the elements that hold at x
+abbrev pub heldSpeeds : Train → ℕ → ℕ → List Element → List ℕ
+heldSpeeds t lsp x [] = []
+heldSpeeds t lsp x (e ∷ l) = cond (holds t e (endBefore lsp l) x) (elementSpeed t e ∷ heldSpeeds t lsp x l) (heldSpeeds t lsp x l)
+
+-- "The permitted speed at x is the lowest speed of the elements that hold there"
+abbrev pub permitted : Train → ℕ → ℕ → List Element → ℕ
+permitted t lsp x l = instead 0 (heldSpeeds t lsp x l)
+
+-- ---- "Element 0 of the profile starts at 0 and each change starts the next"
+
+-- n entries, by their numbers: "Q_DIFF 2, class 4, V_DIFF 7"; and what comes after them
+abbrev pub entriesOf : ℕ → List ℕ → List Entry
+entriesOf zero s = []
+entriesOf (suc n) s = record { qDiff = getD s 0 0; class = getD s 1 0; vDiff = getD s 2 0 } ∷ entriesOf n (drop 3 s)
+
+abbrev pub afterEntries : ℕ → List ℕ → List ℕ
+afterEntries zero s = s
+afterEntries (suc n) s = afterEntries n (drop 3 s)
+
+-- "V_STATIC 7, Q_FRONT 1, N_ITER 5 (0 to 31), then that many specific entries"
+abbrev pub elementOf : ℕ → List ℕ → Element
+elementOf start s = record { start = start; vStatic = getD s 0 0; qFront = getD s 1 0; entries = entriesOf (getD s 2 0) (drop 3 s) }
+
+abbrev pub afterElement : List ℕ → List ℕ
+afterElement s = afterEntries (getD s 2 0) (drop 3 s)
+
+-- n changes, with every start shifted by where the segment starts
+abbrev pub changesFrom : ℕ → ℕ → List ℕ → List Element
+changesFrom from zero s = []
+changesFrom from (suc n) s = elementOf (from + getD s 0 0) (drop 1 s) ∷ changesFrom from n (afterElement (drop 1 s))
+
+abbrev pub elementsFrom : ℕ → List ℕ → List Element
+elementsFrom from s = elementOf (from + 0) s ∷ changesFrom from (getD (afterElement s) 0 0) (drop 1 (afterElement s))
+
+-- L_SP and the speed profile among a sheet's numbers
+abbrev pub segmentLength : List ℕ → ℕ
+segmentLength s = getD s 10 0
+
+abbrev pub profileOf : List ℕ → List ℕ
+profileOf s = drop 14 s
+
+-- "Only this segment counts"
+abbrev pub speedIn : Train → ℕ → List ℕ → ℕ
+speedIn t x s = permitted t (segmentLength s) x (elementsFrom 0 (profileOf s))
+
+-- ---- lowering
+
+-- "the greatest multiple of 5 not above"
+abbrev pub inFives : ℕ → ℕ
+inFives v = v / 5 * 5
+
+abbrev pub entryInFives : Entry → Entry
+entryInFives e = record { qDiff = e .qDiff; class = e .class; vDiff = inFives (e .vDiff) }
+
+abbrev pub elementInFives : Element → Element
+elementInFives e = record { start = e .start; vStatic = inFives (e .vStatic); qFront = e .qFront; entries = map entryInFives (e .entries) }
