@@ -1,6 +1,7 @@
 -- `altitude::altitude_of_packet` meets its contract.
 use mathlib.Core.Path.{_≡_, sym, ap, _∙_}
 use lib.Dec.{lit<, lit≤}
+use native.Mathlib.Omega.{arith}
 use denote.Ref.{now}
 use borrow.Author.Needs.{needs}
 use Rattle.bits.proofs.Fields.{field-small}
@@ -20,10 +21,11 @@ enum-told c = search needs
 read-field-requires : tie.Need-read-field-requires
 read-field-requires c κs =
     let s = now (c .before .before .before .before .args .packet) in
-    (lit≤ tt, altitude-accepted s _ (sym (c .enum-told .given .1) ∙ c .before .before .judge-packet .ensures) .inside, lit< tt)
+    let f = altitude-accepted s _ (sym (c .enum-told .given .1) ∙ c .before .before .judge-packet .ensures) in
+    (lit≤ tt, omega (arith, f .inside), lit< tt)
 
 signed-requires : tie.Need-signed-requires
-signed-requires c κs = rw (c .read-field .ensures) (field-small (now (c .before .before .before .before .before .args .packet)) 233 20 20 (lit≤ tt))
+signed-requires c κs = rw (c .read-field .ensures) (field-small (now (c .before .before .before .before .before .args .packet)) _ _ 20 (lit≤ tt))
 
 returns : tie.Need-returns
 returns c = altitude-refused (now (c .before .before .before .before .before .args .packet)) _ (sym (c .before .r .given .1) ∙ c .before .before .before .judge-packet .ensures)
