@@ -45,6 +45,7 @@ module _ (s : List ℕ) where
   pub record Field : Type 0 where
     pub value : altitudeOf s ≡ record { refusal = 0; altitude = centimetres (fieldAt s 233 20) }
     pub inside : 253 ≤ 8 * length s
+    pub present : 13 < length (valuesOf (fromPacket wireChanges s))
 
   field-bits : (stop : ℕ) → 253 ≤ stop → number (take 20 (drop 209 (rest s 24 stop))) ≡ fieldAt s 233 20
   unfolding fieldAt
@@ -63,7 +64,11 @@ module _ (s : List ℕ) where
         let long : length (rest s 24 stop) ≡ stop - 24 = rest-length s stop 24 (w .placed) in
         let far : 253 ≤ stop = omega (arith, d .inside) in
         let v : altitudeField l ≡ fieldAt s 233 20 = ap altitudeField (o .all) ∙ d .value ∙ field-bits stop far in
-        record { value = ap answered a ∙ λ j. record { refusal = 0; altitude = centimetres (v j) }; inside = omega (arith, w .inside) }
+        record {
+          value = ap answered a ∙ λ j. record { refusal = 0; altitude = centimetres (v j) };
+          inside = omega (arith, w .inside);
+          present = omega (arith, d .present, ap length (o .all));
+        }
 
     pub accepted-field : Field
     accepted-field = go (frameOf s) refl

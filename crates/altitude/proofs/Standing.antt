@@ -22,10 +22,11 @@ module _ (b : List Bool) where
     pub good : Conforming InPacket f l
     pub bits : drop at b ≡ write packet f l
 
-  -- the value number n is the number of the w bits from the bit at on
+  -- there is a value number n, and it is the number of the w bits from the bit at on
   pub record Stands (n at w : ℕ) (l : List Item) : Type 0 where
     pub value : getD (packetValues l) n 0 ≡ number (take w (drop at b))
     pub inside : at + w ≤ length b
+    pub present : n < length l
 
   module _ {k : Kind} {next : ℕ → Format} where
     here-at : (at : ℕ) {l : List Item} → 0 < k .width → Conforming InPacket (field k next) l → drop at b ≡ write packet (field k next) l → Stands 0 at (k .width) l
@@ -38,6 +39,7 @@ module _ (b : List Bool) where
         record {
           value = sym (ap (λ (x : List Bool). number (take w x)) e ∙ rw (take-at (bitsOf w v) t w n, number-bits w v, mod-eq-of-lt (g .fits)));
           inside = omega (arith, length-drop at b);
+          present = omega arith;
         }
 
     pub here : {at : ℕ} {l : List Item} → 0 < k .width → Written (field k next) at l → Stands 0 at (k .width) l
@@ -51,7 +53,7 @@ module _ (b : List Bool) where
         let t = write packet (next v) l in
         let q : drop (at + w) b ≡ t = sym (drop-drop w at b) ∙ ap (drop w) e ∙ drop-at (bitsOf w v) t w (length-bits w v) in
         let r = f v l (record { good = c; bits = q }) in
-        record { value = r .value; inside = r .inside }
+        record { value = r .value; inside = r .inside; present = omega (arith, r .present) }
 
     pub past : {at n to w : ℕ} {l : List Item} → ((v : ℕ) (t : List Item) → Written (next v) (at + k .width) t → Stands n to w t)
         → Written (field k next) at l → Stands (suc n) to w l
