@@ -7,7 +7,6 @@ use Rattle.kinds.specs.Kinds.{digits}
 use Rattle.segment.specs.Segment.{entries, changes}
 use Rattle.segment.specs.Judgement.{fromPacket}
 use Rattle.segment.specs.Desk.{firstPacket}
-use Rattle.altitude.specs.declared.Altitude.{Altitude}
 use Rattle.altitude.specs.Altitude.{centimetres, altitudeOf}
 
 -- "Altitude is -100,000 to 948,575 cm"

@@ -1,5 +1,5 @@
 -- `altitude::altitude_of_packet` meets its contract.
-use mathlib.Core.Path.{_≡_, sym, ap, _∙_}
+use mathlib.Core.Path.{sym, _∙_}
 use lib.Dec.{lit<, lit≤}
 use native.Mathlib.Omega.{arith}
 use denote.Ref.{now}
