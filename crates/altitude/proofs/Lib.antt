@@ -1,0 +1,4 @@
+pub mod Signs
+pub mod Standing
+pub mod Reading
+pub mod Ends

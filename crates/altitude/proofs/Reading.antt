@@ -1,0 +1,96 @@
+-- The altitude's field in an accepted packet: the twenty bits from the bit 233 on.
+-- Assumes nothing.
+use mathlib.Core.Path.{_≡_, refl, sym, ap, _∙_}
+use mathlib.Core.Bool.{Bool}
+use mathlib.Core.List.{List}
+use Prim.Native.Nat.{ℕ, _*_, _-_, _^_, _<_, _≤_}
+use native.Mathlib.Omega.{arith}
+use lib.Dec.{lit<, lit≤}
+use lib.IntN.{ℤ}
+use lib.ListN.{length, take, drop}
+use lib.Seq.{take-take, drop-drop}
+use mir.Facts.{toZ-ofZ}
+use mir.Syntax.{w32}
+use mir.Val.{toZ, ofZ}
+use Rattle.bits.specs.Bits.{number, bitsOfBytes, fieldAt}
+use Rattle.bits.proofs.Fields.{drop-take, field-small}
+use Rattle.kinds.specs.declared.Item.{Item}
+use Rattle.format.specs.Format.{accepted, refused, valuesOf}
+use Rattle.format.proofs.Media.{packet-only}
+use Rattle.segment.specs.Segment.{body, fields, sheetFields, wireChanges}
+use Rattle.segment.specs.Judgement.{fromPacket}
+use Rattle.media.specs.Places.{rest}
+use Rattle.media.proofs.Sources.{rest-length}
+use Rattle.format.specs.Media.{sheet}
+use Rattle.judge.specs.declared.Verdict.the-variants.{Accepted, Refused}
+use Rattle.judge.specs.declared.Frame.{Frame}
+use Rattle.judge.specs.declared.Frame.the-variants as Frame
+use Rattle.judge.specs.Verdict.{sizeFrom, packetVerdict, frameOf}
+use Rattle.judge.proofs.Framing.{whole}
+use Rattle.convert.proofs.ToSheet.{verdict-accepted, verdict-refused, parts, accepted-frame}
+use Rattle.altitude.specs.declared.Altitude.{Altitude}
+use Rattle.altitude.specs.Altitude.{centimetres, altitudeField, answered, altitudeOf}
+use Rattle.altitude.proofs.Signs.{centimetres-fit}
+use Rattle.altitude.proofs.Standing.{Written, Stands, here, past}
+
+-- twelve fields after L_PACKET_ATO stand before it
+twelfth : (b : List Bool) (l : List Item) → Written b (fields wireChanges) 0 l → Stands b 12 209 20 l
+unfolding fields body
+twelfth b l h =
+    past b (λ v1 l1. past b λ v2 l2. past b λ v3 l3. past b λ v4 l4. past b λ v5 l5. past b λ v6 l6.
+    past b λ v7 l7. past b λ v8 l8. past b λ v9 l9. past b λ v10 l10. past b λ v11 l11. past b λ v12 l12. here b (lit< tt)) h
+
+module _ (s : List ℕ) where
+  -- what is known of the altitude's field in an accepted packet
+  pub record Field : Type 0 where
+    pub value : altitudeOf s ≡ record { refusal = 0; altitude = centimetres (fieldAt s 233 20) }
+    pub inside : 253 ≤ 8 * length s
+    pub present : 13 < length (valuesOf (fromPacket wireChanges s))
+
+  field-bits : (stop : ℕ) → 253 ≤ stop → number (take 20 (drop 209 (rest s 24 stop))) ≡ fieldAt s 233 20
+  unfolding fieldAt
+  field-bits stop h =
+      rw (drop-take 209 (stop - 24) (drop 24 (bitsOfBytes s)), take-take 20 (stop - 24 - 209) (drop 209 (drop 24 (bitsOfBytes s))) (omega arith), drop-drop)
+
+  module _ (a : fromPacket wireChanges s ≡ accepted (valuesOf (fromPacket wireChanges s))) where
+    in-frame : (stop : ℕ) → Frame.End stop ≡ frameOf s → Field
+    unfolding altitudeOf
+    in-frame stop e =
+        let l = valuesOf (fromPacket wireChanges s) in
+        let w = whole s stop e in
+        let o = parts s stop l e a in
+        let c = packet-only (fields wireChanges) (rest s 24 stop) (o .values) (o .reads) in
+        let d = twelfth (rest s 24 stop) (o .values) (record { good = c .0; bits = c .1 }) in
+        let long : length (rest s 24 stop) ≡ stop - 24 = rest-length s stop 24 (w .placed) in
+        let far : 253 ≤ stop = omega (arith, d .inside) in
+        let v : altitudeField l ≡ fieldAt s 233 20 = ap altitudeField (o .all) ∙ d .value ∙ field-bits stop far in
+        record {
+          value = ap answered a ∙ λ j. record { refusal = 0; altitude = centimetres (v j) };
+          inside = omega (arith, w .inside);
+          present = omega (arith, d .present, ap length (o .all));
+        }
+
+    pub accepted-field : Field
+    accepted-field = go (frameOf s) refl
+      where
+        go : (f : Frame) → f ≡ frameOf s → Field
+        go (Frame.Refused r) d = accepted-frame s r a d
+        go (Frame.End stop) d = in-frame stop d
+
+  -- ---- by the verdict
+
+  pub altitude-accepted : (n : ℕ) → Accepted n ≡ packetVerdict s → Field
+  unfolding packetVerdict
+  altitude-accepted n e = verdict-accepted (sizeFrom sheet (sheetFields wireChanges) 0) (fromPacket wireChanges s) n e λ p q. accepted-field p
+
+  pub altitude-refused : (r : ℕ) → Refused r ≡ packetVerdict s → answered (refused r 0) ≡ altitudeOf s
+  unfolding packetVerdict altitudeOf
+  altitude-refused r e = verdict-refused (sizeFrom sheet (sheetFields wireChanges) 0) (fromPacket wireChanges s) r e λ left p. rw p
+
+  -- the signed number made of the field, as it is returned
+  pub altitude-done : (n : ℕ) → Accepted n ≡ packetVerdict s → (v : ℕ) (z : ℤ) → v ≡ fieldAt s 233 20 → z ≡ centimetres v
+      → _≡_ {A = Altitude} (record { refusal = 0; altitude = toZ w32 (ofZ w32 z) }) (altitudeOf s)
+  altitude-done n e v z p q =
+      let f : v < 2 ^ 20 = rw p (field-small s 233 20 20 (lit≤ tt)) in
+      let k : toZ w32 (ofZ w32 z) ≡ centimetres (fieldAt s 233 20) = rw q (toZ-ofZ (centimetres-fit v f)) ∙ ap centimetres p in
+      (λ j. record { refusal = 0; altitude = k j }) ∙ sym (altitude-accepted n e .value)

@@ -1,0 +1,53 @@
+// The altitude of a packet in signed centimetres.
+ghost use mathlib.Core.Path.{_≡_};
+ghost use Prim.Native.Nat.{_<_, _^_};
+ghost use Rattle.altitude.specs.Altitude.{centimetres, altitudeOf};
+use judge::Verdict;
+use kinds::body;
+
+// A refusal's number, or 0 and the altitude.
+#[repr(C)]
+pub struct Altitude {
+    pub refusal: u32,
+    pub altitude: i32,
+}
+
+// What is added to an altitude that is sent.
+const ADDED: i32 = 100000;
+
+// The bit of M_SP_ALTITUDE, after the header and the seven fields before it.
+const FIELD: usize = 8 * judge::HEADER
+    + (body::NidC::WIDTH
+        + body::NidSp::WIDTH
+        + 2 * body::MSpVersion::WIDTH
+        + body::LSp::WIDTH
+        + body::DEoAOffset::WIDTH
+        + body::QUtcOffset::WIDTH) as usize;
+
+// The altitude that is sent as v.
+fn signed(v: u32) -> i32
+    requires { ⌜ v < 2 ^ 20 ⌝ }
+    ensures { λ r. ⌜ r ≡ centimetres v ⌝ }
+{
+    v as i32 - ADDED
+}
+
+// The altitude of a packet, or its refusal.
+pub fn altitude_of_packet(packet: &[u8]) -> Altitude
+    ensures { λ r. ⌜ r ≡ altitudeOf (now (packet .entry)) ⌝ }
+{
+    match judge::judge_packet(packet) {
+        Verdict::Refused(r) => Altitude {
+            refusal: r,
+            altitude: 0,
+        },
+        Verdict::Accepted(_) => {
+            let v = bits::read_field(packet, FIELD, body::MSpAltitude::WIDTH);
+            let altitude = signed(v);
+            Altitude {
+                refusal: 0,
+                altitude,
+            }
+        }
+    }
+}
