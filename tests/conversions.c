@@ -1,4 +1,4 @@
-// Both conversions of the static library, called from C and held to packets and sheets that are written here from the build definition; timed with 'time'.
+// Both conversions and the altitude of the static library, called from C and held to packets and sheets that are written here from the build definition; timed with 'time'.
 #define _POSIX_C_SOURCE 200809L
 #include <stdbool.h>
 #include <stddef.h>
@@ -11,6 +11,8 @@
 typedef struct { uint32_t refusal, length; } seglink_converted;
 seglink_converted seglink_packet_to_sheet(const uint8_t *packet, size_t packet_len, uint8_t *room, size_t room_len);
 seglink_converted seglink_sheet_to_packet(const uint8_t *sheet, size_t sheet_len, uint8_t *room, size_t room_len);
+typedef struct { uint32_t refusal; int32_t altitude; } seglink_altitude;
+seglink_altitude seglink_altitude_of_packet(const uint8_t *packet, size_t packet_len);
 
 // ---- A segment: its fields in packet order, without L_PACKET_ATO
 
@@ -383,6 +385,28 @@ static void desk_cases(struct segment *s)
     converts("85 km/h", seglink_sheet_to_packet, &with85, &another);
 }
 
+// The altitude of the desk segment with this field for it, and of a packet that is refused.
+static void altitude(struct segment *s, const char *name, uint32_t sent, int32_t centimetres)
+{
+    desk(s, 80);
+    s->field[ALTITUDE].value = sent;
+    struct bytes packet = packet_of(s);
+    seglink_altitude got = seglink_altitude_of_packet(packet.byte, packet.length);
+    check(name, "the refusal", got.refusal, 0);
+    check(name, "the altitude", (size_t)got.altitude, (size_t)centimetres);
+    got = seglink_altitude_of_packet(packet.byte, packet.length - 1);
+    check(name, "the refusal of the packet cut", got.refusal, 3);
+    check(name, "the altitude of the packet cut", (size_t)got.altitude, 0);
+}
+
+static void altitudes(struct segment *s)
+{
+    altitude(s, "altitude sent as 0", 0, -100000);
+    altitude(s, "altitude sent as 99,999", 99999, -1);
+    altitude(s, "altitude sent as 100,000", 100000, 0);
+    altitude(s, "altitude sent as 1,048,575", 1048575, 948575);
+}
+
 // One field of the desk segment changed: its value and number, the number that comes back, and the refusal.
 static const struct { const char *name; size_t place; uint32_t value, number, raised, refusal; } ONE[] = {
     {"packet number 7", NUMBER, 7, 7, 7, 2},
@@ -502,6 +526,7 @@ static int all_checks(struct segment *s)
     mixed(s);
     both("a mixed segment", s, 0);
     desk_cases(s);
+    altitudes(s);
     single_fields(s);
     lists(s);
     damaged_packets();

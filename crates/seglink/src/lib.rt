@@ -1,6 +1,8 @@
 // The public operations, under the names that the customer's server links.
 ghost use mathlib.Core.Path.{_≡_};
 ghost use Rattle.convert.specs.Convert.{packetToSheet, sheetToPacket};
+ghost use Rattle.altitude.specs.Altitude.{altitudeOf};
+use altitude::Altitude;
 use convert::Converted;
 
 // The sheet of a packet, in a lent room: a refusal's number, or 0 and the sheet's length.
@@ -17,4 +19,12 @@ pub extern "C" fn seglink_sheet_to_packet(sheet: &[u8], room: &mut [u8]) -> Conv
     ensures { λ r. ⌜ record { answer = r; room = now (room .exit) } ≡ sheetToPacket (now (sheet .entry)) (now (room .entry)) ⌝ }
 {
     convert::to_packet::sheet_to_packet(sheet, room)
+}
+
+// The altitude of a packet in signed centimetres: a refusal's number, or 0 and the altitude.
+#[no_mangle]
+pub extern "C" fn seglink_altitude_of_packet(packet: &[u8]) -> Altitude
+    ensures { λ r. ⌜ r ≡ altitudeOf (now (packet .entry)) ⌝ }
+{
+    altitude::altitude_of_packet(packet)
 }
