@@ -27,9 +27,9 @@ change front = sheetOf (100 ∷ front ∷ 0 ∷ 1 ∷ 500 ∷ 140 ∷ front ∷ 
 abbrev pub plain : Train
 plain = trainOf 200 80 false false false
 
--- 100 km/h; 120 for 100 mm; instead 110 in P position, 90 in G position; at most 80 for passengers
+-- 100 km/h; 120 for 100 mm; instead 130 in P position, 90 in G position; at most 125 for passengers
 abbrev pub specific : List ℕ
-specific = sheetOf (100 ∷ 0 ∷ 4 ∷ 0 ∷ 100 ∷ 120 ∷ 1 ∷ 0 ∷ 110 ∷ 1 ∷ 1 ∷ 90 ∷ 2 ∷ 2 ∷ 80 ∷ 0 ∷ [])
+specific = sheetOf (100 ∷ 0 ∷ 4 ∷ 0 ∷ 100 ∷ 120 ∷ 1 ∷ 0 ∷ 130 ∷ 1 ∷ 1 ∷ 90 ∷ 2 ∷ 2 ∷ 125 ∷ 0 ∷ [])
 
 abbrev pub speeds : List Case
 speeds =
@@ -41,9 +41,9 @@ speeds =
     -- each sentence of an element's speed
     ∷ record { train = plain; x = 0; numbers = specific; answer = 100 }
     ∷ record { train = trainOf 200 100 false false false; x = 0; numbers = specific; answer = 120 }
-    ∷ record { train = trainOf 200 100 true false false; x = 0; numbers = specific; answer = 110 }
+    ∷ record { train = trainOf 200 100 true false false; x = 0; numbers = specific; answer = 130 }
     ∷ record { train = trainOf 200 100 false true false; x = 0; numbers = specific; answer = 90 }
     ∷ record { train = trainOf 200 100 true true false; x = 0; numbers = specific; answer = 90 }
-    ∷ record { train = trainOf 200 100 false false true; x = 0; numbers = specific; answer = 80 }
-    ∷ record { train = trainOf 200 80 true false true; x = 999; numbers = specific; answer = 80 }
+    ∷ record { train = trainOf 200 100 false false true; x = 0; numbers = specific; answer = 120 }
+    ∷ record { train = trainOf 200 80 true false true; x = 999; numbers = specific; answer = 125 }
     ∷ []
