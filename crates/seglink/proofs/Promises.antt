@@ -79,6 +79,8 @@ pub record Again (s room back : List ℕ) : Type 0 where
   pub values : List Item
   pub lower : List Item
   pub whole : s ≡ toSheet wireChanges values
+  pub good : SheetValues values
+  pub goodLower : PacketValues lower
   pub lowers : Lowering (sheetFields wireChanges) values lower
   pub again : packetToSheet (result (sheetToPacket s room)) back ≡ fitted (toSheet wireChanges lower) back
 
@@ -94,6 +96,8 @@ sheet-again s room back ok d =
       values = l;
       lower = m;
       whole = c .whole;
+      good = c .good;
+      goodLower = lowered-good (c .good);
       lowers = lowering (sheetFields-lawful wireChanges (lit≤ tt)) (c .good);
       again = ap (λ (r : Read). converted (toSheet wireChanges) r back) (ap (fromPacket wireChanges) t ∙ packet-taken m (lowered-good (c .good)));
     }

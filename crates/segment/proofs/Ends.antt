@@ -95,7 +95,6 @@ module _ (limit : ℕ) (h : limit ≤ 31) where
   sheetFields-lawful = lawful (sheetFields-measured bit-costs limit h)
 
   -- the 96 bits of the header after L_PACKET_ATO, and the body's
-  -- the 96 bits of the header after L_PACKET_ATO, and the body's
   pub fields-bits : Measured bits bits (fields limit) (96 + 185) (96 + (14228 + 72 * limit))
   unfolding bit-costs
   fields-bits = within (96 + 185) (96 + (14228 + 72 * limit)) (fields-measured bit-costs limit h) (lit≤ tt) (omega arith)
