@@ -5,8 +5,8 @@ mod measure;
 
 use compare::archive::Archive;
 use compare::desk;
-use compare::draft::Draft;
-use compare::program::{Answer, Operation, Program, Question, Train};
+use compare::draft::{Draft, Kind};
+use compare::program::{Operation, Program, Question, Train};
 use compare::random::Random;
 use compare::second_program::Second;
 use compare::segments::{segment, Sizes, SMALLEST};
@@ -27,7 +27,7 @@ fn main() {
     if machine::is_emulated() {
         println!("WARNING: under an emulator, times and ratios say nothing of an x86-64 processor.");
     }
-    println!("Medians of rounds taken in turn; one room for all calls, not cleared between them.");
+    println!("Medians of rounds taken in turn; one room for all calls, not cleared between them; speeds at the segment's last location.");
     println!("Ratio: the second program's time by the archive's.");
     let mut random = Random::new(1);
     for (name, draft) in
@@ -40,6 +40,7 @@ fn main() {
 /// A segment's four rows.
 fn rows(name: &str, draft: &Draft) {
     let (packet, sheet, fields) = (draft.packet(), draft.sheet(), draft.fields.len());
+    let last = draft.fields[draft.places(Kind::Length)[0]].value - 1;
     println!("\n{name}: {} bytes of packet, {} of sheet, {fields} fields", packet.len(), sheet.len());
     println!("{:18}{:>14}{:>14}{:>14}{:>14}{:>8}", "", "archive ns", "ns a field", "second ns", "ns a field", "ratio");
     for (operation, title) in OPERATIONS {
@@ -47,7 +48,7 @@ fn rows(name: &str, draft: &Draft) {
             Operation::PacketToSheet | Operation::SpeedFromPacket => &packet,
             _ => &sheet,
         };
-        let question = Question { operation, input, train: TRAIN, x: 0 };
+        let question = Question { operation, input, train: TRAIN, x: last };
         let (archive, second) = measure::medians(caller::<Archive>(&question), caller::<Second>(&question));
         let a_field = |time: f64| time / fields as f64;
         print!("{title:18}{archive:>14.0}{:>14.1}", a_field(archive));
@@ -56,10 +57,10 @@ fn rows(name: &str, draft: &Draft) {
 }
 
 /// A program's call, which must be accepted.
-fn caller<'a, P: Program>(question: &'a Question) -> impl FnMut() + 'a {
+fn caller<'a, P: Program>(question: &'a Question<'a>) -> impl FnMut() + 'a {
     let mut room = [0; LARGEST_RESULT];
     move || {
-        let Answer { refusal, value } = measure::unknown(P::answer(measure::unknown(question), &mut room));
-        assert!(refusal == 0 && value >= 0, "the segment is accepted");
+        let answer = measure::unknown(P::answer(measure::unknown(question), &mut room));
+        assert!(answer.refusal == 0, "the segment is accepted");
     }
 }

@@ -28,7 +28,7 @@ pub struct Field {
     pub kind: Kind,
     pub width: u32,
     pub value: u32,
-    /// Up to five groups hold, so past what a sheet takes.
+    /// May be past what a sheet takes.
     pub number: u64,
     /// Zero groups after the shortest form.
     pub zero_groups: u32,
