@@ -40,7 +40,10 @@ const GROUNDS: [(Refusal, &str); 11] = [
     (Refusal::BodyBits, "a field does not fit in the body's remaining bits, or bits remain after the last field"),
     (Refusal::PaddingBit, "a padding bit is 1"),
     (Refusal::ShortRoom, "the result is longer than the lent room"),
-    (Refusal::SheetForm, "a sheet ends too soon, has bytes left, or a number is not in its shortest form or not below 4,294,967,296"),
+    (
+        Refusal::SheetForm,
+        "a sheet ends too soon, has bytes left, or a number is not in its shortest form or not below 4,294,967,296",
+    ),
     (Refusal::TrainValue, "the train's length or cant deficiency is not allowed"),
     (Refusal::PastEnd, "x is at or past L_SP"),
 ];

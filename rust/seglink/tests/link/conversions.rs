@@ -1,6 +1,8 @@
 //! Both conversions and the altitude.
 use crate::segments::{element, largest, packet, segment, sheet, DESK_PACKET, DESK_SHEET};
-use seglink::{altitude_of_packet, packet_of, packet_to_sheet, sheet_of, sheet_to_packet, Refusal, LARGEST_PACKET, LARGEST_SHEET};
+use seglink::{
+    altitude_of_packet, packet_of, packet_to_sheet, sheet_of, sheet_to_packet, Refusal, LARGEST_PACKET, LARGEST_SHEET,
+};
 
 #[test]
 fn the_desk_packet_becomes_the_desk_sheet() {

@@ -42,7 +42,16 @@ pub fn element(kmh: u32, front: u32, entries: &[(u32, u32, u32)]) -> Vec<Field> 
 /// The desk segment with another length, altitude (as it is sent) and speed profile.
 pub fn segment(l_sp: u32, altitude: u32, start: &[Field], changes: &[(u32, Vec<Field>)]) -> Vec<Field> {
     let mut fields = vec![same(8, 6), same(32, 0x0001_2345), same(24, 1), same(15, 0), same(17, 0), same(8, 7)];
-    fields.extend([same(10, 0), same(32, 0), same(8, 0), same(8, 0), same(24, l_sp), same(24, 0), same(7, 0), same(20, altitude)]);
+    fields.extend([
+        same(10, 0),
+        same(32, 0),
+        same(8, 0),
+        same(8, 0),
+        same(24, l_sp),
+        same(24, 0),
+        same(7, 0),
+        same(20, altitude),
+    ]);
     fields.extend(start);
     fields.push(same(5, changes.len() as u32));
     for (location, element) in changes {
