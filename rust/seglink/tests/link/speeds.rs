@@ -11,8 +11,9 @@ fn permitted(fields: &[Field], train: Train, x: u32) -> u32 {
     answer
 }
 
+/// The change has the other Q_FRONT, so that a delay tied to the element that follows is seen.
 fn faster_from_500(front: u32) -> Vec<Field> {
-    segment(1000, 0, &element(100, front, &[]), &[(500, element(140, front, &[]))])
+    segment(1000, 0, &element(100, front, &[]), &[(500, element(140, 1 - front, &[]))])
 }
 
 #[test]
