@@ -6,7 +6,7 @@ use Prim.Native.Nat.{ℕ, _+_, _/_}
 use lib.Dec.{eqb, ltb}
 use lib.ListN.{length}
 use Rattle.kinds.specs.declared.Item.{Item}
-use Rattle.format.specs.Format.{Format, Medium, Read, accepted, refused, write}
+use Rattle.format.specs.Format.{Format, Medium, Read, write, answerOf}
 use Rattle.format.specs.Media.{packet, sheet}
 use Rattle.segment.specs.Segment.{sheetFields, wireChanges}
 use Rattle.segment.specs.Frame.{packetNumber, bodyBits}
@@ -17,8 +17,7 @@ use Rattle.judge.specs.declared.Frame.{Frame}
 use Rattle.judge.specs.declared.Frame.the-variants as Frame
 
 abbrev pub verdictOf : (List Item → ℕ) → Read → Verdict
-verdictOf size (accepted l) = Accepted (size l)
-verdictOf size (refused r left) = Refused r
+verdictOf size r = answerOf Refused (λ l. Accepted (size l)) r
 
 -- n and the length of what is written of the values
 abbrev pub sizeFrom : {A : Type 0} → Medium A → Format → ℕ → List Item → ℕ
