@@ -22,7 +22,7 @@ use Rattle.speed.specs.Speed.{entriesOf, afterEntries, elementOf, afterE
 use Rattle.speed.proofs.Laws.{lowered-permitted}
 
 -- a number that is the same in both
-when-is : (b : Bool) (a v : ℕ) → when b a ≡ some v → v ≡ a
+pub when-is : (b : Bool) (a v : ℕ) → when b a ≡ some v → v ≡ a
 when-is true a v e = let q : a ≡ v = cc in sym q
 when-is false a v e = absurd (let z : _≡_ {A = ℕ} 0 1 = cc in omega arith)
 
