@@ -16,6 +16,11 @@ use Rattle.media.specs.declared.Taken.{Taken}
 use Rattle.media.specs.declared.Taken.the-variants as Taken
 use Rattle.media.proofs.Sources.{Source, Went}
 
+-- what is answered, in other words
+pub alike : {B : Type 0} (refusal : ℕ → B) (value more : List Item → B) (r : Read) → ((l : List Item) → more l ≡ value l) → answerOf refusal more r ≡ answerOf refusal value r
+alike refusal value more (accepted l) h = h l
+alike refusal value more (refused r left) h = refl
+
 module _ {A : Type 0} {m : Medium A} {view : ℕ → List A} {took : Kind → ℕ → Taken} {Here : ℕ → Type 0} (source : Source m view took Here) where
   -- a field of a lawful tree, taken
   pub went : {f : Format} {k : Kind} {at : ℕ} {i : Item} {to : ℕ} → Lawful f → Here at → next f ≡ some k → Taken.Is i to ≡ took k at → Went m view Here k at i to

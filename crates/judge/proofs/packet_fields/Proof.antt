@@ -1,17 +1,19 @@
 -- `judge::packet_fields` meets its contract.
-use Rattle.judge.proofs.Framing.{fieldsVerdict}
+use Rattle.judge.specs.Verdict.{fieldsVerdict}
 use Rattle.numbers.proofs.Counting.{count-five}
 use Rattle.segment.proofs.Ends.{fields-lawful}
 use Rattle.segment.specs.Segment.{wireChanges}
-use Rattle.media.proofs.Loops.{Going, went, going-on, going-off, going-end, going-left}
-use Rattle.judge.proofs.Sizes.{sized, sized-on, sized-end}
+use Rattle.media.proofs.Loops.{Going, went, alike, going-on, going-off, going-end, going-left}
+use Rattle.judge.proofs.Sizes.{sized, sized-first, sized-on, sized-end}
 use Rattle.judge.specs.declared.Verdict.the-variants.{Refused}
 use Rattle.walk.proofs.Standing.{walk-on}
 use Rattle.walk.specs.Walk.{asked, formatOf}
 use Rattle.media.proofs.Sources.{packet-source, rest-none, rest-some}
-use Rattle.segment.specs.Segment.{sheetFields}
+use Rattle.segment.specs.Segment.{fields, sheetFields}
 use Rattle.format.proofs.Stepping.{lawful-kind}
-use Rattle.format.specs.Media.{sheet}
+use Rattle.format.specs.Format.{read}
+use Rattle.format.specs.Media.{packet, sheet}
+use Rattle.media.specs.Places.{rest}
 use lib.Dec.{lit≤}
 use Prim.Native.Nat.{_*_, _-_, _≤_}
 use mathlib.Core.Path.{refl, sym, ap, _∙_}
@@ -36,8 +38,10 @@ next-requires c κs = tt
 loop-holds : tie.Need-loop-holds Inv-loop μ-loop
 unfolding sheetFields
 loop-holds c =
+    let a = c .before .before .before .args in
+    let r = read packet (fields wireChanges) (rest (now (a .s)) 24 (a .stop)) in
     rw (c .next .ensures, c .before .start .ensures)
-    (record { lawful = fields-lawful wireChanges (lit≤ tt); here = c .before .before .before .pre; same = refl }, omega arith)
+    (record { lawful = fields-lawful wireChanges (lit≤ tt); here = c .before .before .before .pre; same = alike Refused _ _ r sized-first }, omega arith)
 
 rule-requires : tie.Need-rule-requires Inv-loop μ-loop
 rule-requires c κs = tt
