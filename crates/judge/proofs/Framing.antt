@@ -64,7 +64,7 @@ module _ (s : List ℕ) where
       (λ b. refused-not-end 2 stop (rw (a, b) at (sym e)))
 
   -- the fields of a packet whose frame is whole, and its padding
-  packet-fields : (stop : ℕ) → Frame.End stop ≡ frameOf s
+  pub packet-fields : (stop : ℕ) → Frame.End stop ≡ frameOf s
       → fromPacket wireChanges s ≡ padded segmentNumber (fromOne (drop stop (bitsOfBytes s))) (read packet (fields wireChanges) (rest s 24 stop))
   unfolding fromPacket
   packet-fields stop e =
