@@ -41,9 +41,6 @@ lowered l v s = lowest (under v l) s
 begun-joined : (l : Least) (v a : ℕ) (s : List ℕ) → begun (joined l a) v s ≡ begun l v (a ∷ s)
 begun-joined l v a s = by-cases (l .any) (λ e. rw e) (λ e. rw e)
 
-begun-none : (l : Least) (v : ℕ) → begun l v [] ≡ insteadOf v l
-begun-none l v = refl
-
 lowered-joined : (l : Least) (v a : ℕ) (s : List ℕ) → lowered (joined l a) v s ≡ lowered l v (a ∷ s)
 lowered-joined l v a s =
     let e : min v (min (l .speed) a) ≡ min (min v (l .speed)) a = omega arith in by-cases (l .any) (λ h. rw (h, e)) (λ h. rw h)
