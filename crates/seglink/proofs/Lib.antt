@@ -1,2 +1,3 @@
 pub mod Values
 pub mod Promises
+pub mod Desk

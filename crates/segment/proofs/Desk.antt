@@ -8,8 +8,8 @@ use Rattle.kinds.specs.Kinds.{digits}
 use Rattle.kinds.specs.Tables.{place}
 use Rattle.segment.specs.Segment.{entries, changes, lists, body, fields, sheetFields}
 use Rattle.segment.specs.Judgement.{fromPacket, fromSheet, toPacket, toSheet}
-use Rattle.segment.specs.Desk.{reply, desk}
+use Rattle.segment.specs.Desk.{reply, conversions}
 
-pub desk-answered : map (λ c. reply (c .ask)) desk ≡ map (λ c. c .answer) desk
+pub conversions-answered : map (λ c. reply (c .ask)) conversions ≡ map (λ c. c .answer) conversions
 unfolding fieldAt numberOf groupsIn digits place entries changes lists body fields sheetFields fromPacket fromSheet toPacket toSheet reply
-desk-answered = refl
+conversions-answered = refl

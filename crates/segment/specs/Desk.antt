@@ -48,8 +48,8 @@ pub record Case : Type 0 where
   pub ask : Question
   pub answer : Reply
 
-abbrev pub desk : List Case
-desk =
+abbrev pub conversions : List Case
+conversions =
     record { ask = sheetOf firstPacket; answer = bytes firstSheet }
     ∷ record { ask = packetOf firstSheet; answer = bytes firstPacket }
     -- "With 54 (84 km/h) in place of 50 it makes the same packet; with 55 another"

@@ -1,0 +1,18 @@
+-- The desk cases marked (P), by one statement over the definitions that the contracts cite.
+-- Assumes nothing.
+use mathlib.Core.Path.{_≡_, refl}
+use mathlib.Core.List.{map}
+use Rattle.bits.specs.Bits.{fieldAt}
+use Rattle.numbers.specs.Numbers.{numberOf, groupsIn}
+use Rattle.kinds.specs.Kinds.{digits}
+use Rattle.kinds.specs.Tables.{place}
+use Rattle.segment.specs.Segment.{entries, changes, lists, body, fields, sheetFields}
+use Rattle.segment.specs.Judgement.{fromPacket, fromSheet, toPacket, toSheet}
+use Rattle.convert.specs.Convert.{packetToSheet, sheetToPacket}
+use Rattle.question.specs.Question.{speedFromPacket, speedFromSheet}
+use Rattle.altitude.specs.Altitude.{altitudeOf}
+use Rattle.seglink.specs.Desk.{desk}
+
+pub desk-holds : map (λ c. c .said) desk ≡ map (λ c. c .due) desk
+unfolding fieldAt numberOf groupsIn digits place entries changes lists body fields sheetFields fromPacket fromSheet toPacket toSheet packetToSheet sheetToPacket speedFromPacket speedFromSheet altitudeOf
+desk-holds = refl
