@@ -1,0 +1,4 @@
+pub mod Putting
+pub mod Reading
+pub mod Signs
+pub mod Laying
