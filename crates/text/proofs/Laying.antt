@@ -11,7 +11,7 @@ use lib.Seq.{drop-drop, getD-drop}
 use Rattle.speed.specs.Speed.{Element, afterEntries, afterElement, elementOf, changesFrom, profileOf}
 use Rattle.text.specs.Numbers.{numbersIn, StandsAt}
 use Rattle.text.specs.Words.{ascii, decimal, signed, labelled, Laid}
-use Rattle.text.specs.Listing.{segmentLine, elementLine, elementLines, lines, changesOf}
+use Rattle.text.specs.Listing.{names, measures, segmentLine, elementLine, elementLines, lines, changesOf}
 use Rattle.text.proofs.Putting.{laid-on, laid-long, decimal-short}
 
 -- ---- numbers of a sheet
@@ -42,12 +42,20 @@ module _ {room : List ℕ} {at : ℕ} {n1 n2 n3 n4 : ℕ} {c1 c2 c3 c4 : List �
   pub element-laid : v ≡ getD ns 0 0 → q ≡ getD ns 1 0 → Laid room at (elementLine (elementOf start ns)) n4 c4
   element-laid p r = rw (← p, ← r) (laid-on (laid-on (laid-on e1 e2) e3) e4)
 
-module _ {room : List ℕ} {at : ℕ} {n1 n2 n3 n4 n5 n6 : ℕ} {c1 c2 c3 c4 c5 c6 : List ℕ} (a b l : ℕ) (y z : ℤ) (ns : List ℕ)
-    (e1 : Laid room at (labelled (ascii "SEGMENT ") a) n1 c1) (e2 : Laid c1 n1 (labelled (ascii " ") b) n2 c2)
-    (e3 : Laid c2 n2 (labelled (ascii " LENGTH ") l) n3 c3) (e4 : Laid c3 n3 (ascii " ALTITUDE ") n4 c4)
-    (e5 : Laid c4 n4 (signed y) n5 c5) (e6 : Laid c5 n5 (ascii "\n") n6 c6) where
-  pub segment-laid : a ≡ getD ns 6 0 → b ≡ getD ns 7 0 → l ≡ getD ns 10 0 → y ≡ z → Laid room at (segmentLine z ns) n6 c6
-  segment-laid p q r t = rw (← p, ← q, ← r, ← t) (laid-on (laid-on (laid-on (laid-on (laid-on e1 e2) e3) e4) e5) e6)
+pub names-laid : {room : List ℕ} {at n1 n2 : ℕ} {c1 c2 : List ℕ} (a b : ℕ) (ns : List ℕ)
+    → Laid room at (labelled (ascii "SEGMENT ") a) n1 c1 → Laid c1 n1 (labelled (ascii " ") b) n2 c2
+    → a ≡ getD ns 6 0 → b ≡ getD ns 7 0 → Laid room at (names ns) n2 c2
+names-laid a b ns e1 e2 p q = rw (← p, ← q) (laid-on e1 e2)
+
+pub measures-laid : {room : List ℕ} {at n1 n2 n3 n4 : ℕ} {c1 c2 c3 c4 : List ℕ} (l : ℕ) (y z : ℤ) (ns : List ℕ)
+    → Laid room at (labelled (ascii " LENGTH ") l) n1 c1 → Laid c1 n1 (ascii " ALTITUDE ") n2 c2
+    → Laid c2 n2 (signed y) n3 c3 → Laid c3 n3 (ascii "\n") n4 c4
+    → l ≡ getD ns 10 0 → y ≡ z → Laid room at (measures z ns) n4 c4
+measures-laid l y z ns e1 e2 e3 e4 p t = rw (← p, ← t) (laid-on (laid-on (laid-on e1 e2) e3) e4)
+
+pub segment-laid : {room : List ℕ} {at n1 n2 : ℕ} {c1 c2 : List ℕ} (y z : ℤ) (ns : List ℕ)
+    → Laid room at (names ns) n1 c1 → Laid c1 n1 (measures y ns) n2 c2 → y ≡ z → Laid room at (segmentLine z ns) n2 c2
+segment-laid y z ns e1 e2 t = rw (← t) (laid-on e1 e2)
 
 -- "FROM ", " SPEED ", " FRONT " and three numbers of at most ten digits, with the line's end
 pub element-short : (e : Element) → length (elementLine e) ≤ 50
@@ -91,9 +99,15 @@ module _ {sheet : List ℕ} {Whole : ℕ → List ℕ → Type 0} {n place next 
 
 -- ---- all lines
 
--- "SEGMENT ", " ", " LENGTH ", " ALTITUDE ", three numbers of at most ten digits and one with a sign, with the line's end
+-- "SEGMENT ", " " and two numbers of at most ten digits; " LENGTH ", " ALTITUDE ", one and one with a sign, and the line's end
+pub names-short : (ns : List ℕ) → length (names ns) ≤ 29
+names-short ns = simp length-append (omega (arith, decimal-short (getD ns 6 0), decimal-short (getD ns 7 0)))
+
+pub measures-short : (z : ℤ) (ns : List ℕ) → length (measures z ns) ≤ 40
+measures-short z ns = simp length-append (omega (arith, decimal-short (getD ns 10 0), signed-short z))
+
 pub segment-short : (z : ℤ) (ns : List ℕ) → length (segmentLine z ns) ≤ 69
-segment-short z ns = simp length-append (omega (arith, decimal-short (getD ns 6 0), decimal-short (getD ns 7 0), decimal-short (getD ns 10 0), signed-short z))
+segment-short z ns = rw (length-append (names ns) (measures z ns)) (omega (arith, names-short ns, measures-short z ns))
 
 module _ {sheet room : List ℕ} {n1 n2 p q n : ℕ} {c1 c2 : List ℕ} (y : ℤ)
     (e1 : Laid room 0 (segmentLine y (numbersIn sheet)) n1 c1)

@@ -5,30 +5,52 @@ ghost use lib.ListN.{length, drop};
 ghost use Rattle.speed.specs.Speed.{elementOf, afterElement, changesFrom};
 ghost use Rattle.text.specs.Numbers.{numbersIn, StandsAt};
 ghost use Rattle.text.specs.Words.{Laid};
-ghost use Rattle.text.specs.Listing.{segmentLine, elementLine, elementLines, lines, changesOf};
+ghost use Rattle.text.specs.Listing.{names, measures, segmentLine, elementLine, elementLines, lines, changesOf};
 use crate::sheet::number;
 use crate::sheet::past;
 use crate::words::put_labelled;
 use crate::words::put_signed;
 use crate::words::put_word;
 
-// The numbers before the speed profile.
+// How many numbers stand before these in a sheet.
+const NID_C: usize = 6;
+
+const NID_SP: usize = 7;
+
+const L_SP: usize = 10;
+
 const PROFILE: usize = 14;
+
+// Writes the front of the segment's line, up to NID_SP, at the front of the room.
+fn put_names(sheet: &[u8], room: &mut [u8]) -> usize
+    requires { ⌜ 29 ≤ length (now room) ⌝ }
+    ensures { λ r. ⌜ Laid (now (room .entry)) 0 (names (numbersIn (now (sheet .entry)))) r (now (room .exit)) ⌝ }
+{
+    let nid_c = number(sheet, past(sheet, 0, NID_C));
+    let nid_sp = number(sheet, past(sheet, 0, NID_SP));
+    let at = put_labelled(room, 0, b"SEGMENT ", nid_c);
+    put_labelled(room, at, b" ", nid_sp)
+}
+
+// Writes the rest of the segment's line.
+fn put_measures(sheet: &[u8], altitude: i32, room: &mut [u8], at: usize) -> usize
+    requires { ⌜ at + 40 ≤ length (now room) ⌝ }
+    ensures { λ r. ⌜ Laid (now (room .entry)) at (measures altitude (numbersIn (now (sheet .entry)))) r (now (room .exit)) ⌝ }
+{
+    let l_sp = number(sheet, past(sheet, 0, L_SP));
+    let mut next = put_labelled(room, at, b" LENGTH ", l_sp);
+    next = put_word(room, next, b" ALTITUDE ");
+    next = put_signed(room, next, altitude);
+    put_word(room, next, b"\n")
+}
 
 // Writes the segment's line at the front of the room.
 fn put_segment(sheet: &[u8], altitude: i32, room: &mut [u8]) -> usize
     requires { ⌜ 69 ≤ length (now room) ⌝ }
     ensures { λ r. ⌜ Laid (now (room .entry)) 0 (segmentLine altitude (numbersIn (now (sheet .entry)))) r (now (room .exit)) ⌝ }
 {
-    let nid_c = number(sheet, past(sheet, 0, 6));
-    let nid_sp = number(sheet, past(sheet, 0, 7));
-    let l_sp = number(sheet, past(sheet, 0, 10));
-    let mut at = put_labelled(room, 0, b"SEGMENT ", nid_c);
-    at = put_labelled(room, at, b" ", nid_sp);
-    at = put_labelled(room, at, b" LENGTH ", l_sp);
-    at = put_word(room, at, b" ALTITUDE ");
-    at = put_signed(room, at, altitude);
-    put_word(room, at, b"\n")
+    let at = put_names(sheet, room);
+    put_measures(sheet, altitude, room, at)
 }
 
 // Writes the line of the element that stands at the byte from of the sheet.
