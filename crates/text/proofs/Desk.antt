@@ -8,7 +8,7 @@ use Rattle.kinds.specs.Kinds.{digits}
 use Rattle.segment.specs.Segment.{entries, changes, lists, body, fields, sheetFields}
 use Rattle.segment.specs.Judgement.{fromPacket}
 use Rattle.segment.specs.Desk.{firstPacket}
-use Rattle.text.specs.Words.{ascii, decimal}
+use Rattle.words.specs.Words.{ascii, decimal}
 use Rattle.text.specs.Listing.{listingOf}
 use Rattle.text.specs.Desk.{firstListing}
 

@@ -10,9 +10,9 @@ use lib.ListN.{length, drop, getD, length-append}
 use lib.Seq.{drop-drop, getD-drop}
 use Rattle.speed.specs.Speed.{Element, afterEntries, afterElement, elementOf, changesFrom, profileOf}
 use Rattle.text.specs.Numbers.{numbersIn, StandsAt}
-use Rattle.text.specs.Words.{ascii, decimal, signed, labelled, Laid}
+use Rattle.words.specs.Words.{ascii, decimal, signed, labelled, Laid}
 use Rattle.text.specs.Listing.{names, measures, segmentLine, elementLine, elementLines, lines, changesOf}
-use Rattle.text.proofs.Putting.{laid-on, laid-long, decimal-short}
+use Rattle.words.proofs.Putting.{laid-on, laid-long, decimal-short}
 
 -- ---- numbers of a sheet
 

@@ -1,6 +1,4 @@
-pub mod Putting
 pub mod Reading
-pub mod Signs
 pub mod Laying
 pub mod Accepted
 pub mod Whole

@@ -16,9 +16,9 @@ use Rattle.segment.proofs.Refusals.{packet-refusal}
 use Rattle.speed.specs.Speed.{afterElement, elementOf, changesFrom, profileOf}
 use Rattle.altitude.specs.declared.Altitude.{Altitude}
 use Rattle.altitude.specs.Altitude.{centimetres, altitudeField, answered, altitudeOf}
-use Rattle.text.specs.Words.{ascii, labelled, Laid}
+use Rattle.words.specs.Words.{ascii, labelled, Laid}
 use Rattle.text.specs.Listing.{segmentLine, elementLine, elementLines, lines, refusedLine, listed, listingOf, Listed, listingIn, Accepts, changesOf}
-use Rattle.text.proofs.Putting.{decimal-short}
+use Rattle.words.proofs.Putting.{decimal-short}
 use Rattle.text.proofs.Laying.{element-short, segment-short}
 use Rattle.text.proofs.Accepted.{few-changes}
 

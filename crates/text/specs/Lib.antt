@@ -1,4 +1,3 @@
-pub mod Words
 pub mod Numbers
 pub mod Listing
 pub mod Desk

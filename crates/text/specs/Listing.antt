@@ -11,7 +11,7 @@ use Rattle.segment.specs.Segment.{wireChanges}
 use Rattle.segment.specs.Judgement.{fromPacket}
 use Rattle.speed.specs.Speed.{Element, afterElement, elementsFrom, profileOf, segmentLength}
 use Rattle.altitude.specs.Altitude.{centimetres, altitudeField}
-use Rattle.text.specs.Words.{ascii, decimal, signed, labelled}
+use Rattle.words.specs.Words.{ascii, decimal, signed, labelled}
 
 -- "NID_C, NID_SP, length and signed altitude in cm"
 abbrev pub names : List ℕ → List ℕ

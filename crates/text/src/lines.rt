@@ -4,13 +4,13 @@ ghost use Prim.Native.Nat.{_+_, _*_, _≤_};
 ghost use lib.ListN.{length, drop};
 ghost use Rattle.speed.specs.Speed.{elementOf, afterElement, changesFrom};
 ghost use Rattle.text.specs.Numbers.{numbersIn, StandsAt};
-ghost use Rattle.text.specs.Words.{Laid};
+ghost use Rattle.words.specs.Words.{Laid};
 ghost use Rattle.text.specs.Listing.{names, measures, segmentLine, elementLine, elementLines, lines, changesOf};
 use crate::sheet::number;
 use crate::sheet::past;
-use crate::words::put_labelled;
-use crate::words::put_signed;
-use crate::words::put_word;
+use words::put_labelled;
+use words::put_signed;
+use words::put_word;
 
 // How many numbers stand before these in a sheet.
 const NID_C: usize = 6;

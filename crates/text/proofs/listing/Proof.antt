@@ -1,6 +1,6 @@
 -- `text::listing` meets its contract.
 use Rattle.text.proofs.Whole.{refused-text, accepted-packet, accepted-text, listing-laid}
-use Rattle.text.proofs.Signs.{same}
+use Rattle.words.proofs.Signs.{same}
 use Rattle.bits.proofs.Padding.{bytes-of}
 use mir.Syntax.{w32}
 use mir.Val.{SFits}

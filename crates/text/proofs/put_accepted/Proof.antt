@@ -1,8 +1,8 @@
 -- `text::put_accepted` meets its contract.
-use Rattle.text.specs.Words.{Laid}
+use Rattle.words.specs.Words.{Laid}
 use Rattle.text.specs.Listing.{lines}
 use Rattle.text.proofs.Accepted.{Made, made}
-use Rattle.text.proofs.Signs.{same}
+use Rattle.words.proofs.Signs.{same}
 use Rattle.bits.proofs.Padding.{bytes-of}
 use lib.ListN.{length-replicate}
 use lib.Seq.{length-take-le}

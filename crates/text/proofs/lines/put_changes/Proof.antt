@@ -1,7 +1,7 @@
 -- `text::lines::put_changes` meets its contract.
 use Rattle.speed.specs.Speed.{changesFrom}
 use Rattle.text.specs.Numbers.{numbersIn}
-use Rattle.text.specs.Words.{Laid}
+use Rattle.words.specs.Words.{Laid}
 use Rattle.text.specs.Listing.{elementLines}
 use Rattle.text.proofs.Laying.{Changing, changing-on, changing-end}
 use lib.ListN.{length, drop}

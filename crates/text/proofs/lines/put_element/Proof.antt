@@ -1,6 +1,6 @@
 -- `text::lines::put_element` meets its contract.
 use Rattle.text.specs.Numbers.{numbersIn}
-use Rattle.text.proofs.Putting.{laid-long, decimal-short}
+use Rattle.words.proofs.Putting.{laid-long, decimal-short}
 use Rattle.text.proofs.Laying.{value-at, element-laid}
 use lib.ListN.{drop}
 use denote.Ref.{now}

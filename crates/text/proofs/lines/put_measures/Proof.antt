@@ -1,8 +1,8 @@
 -- `text::lines::put_measures` meets its contract.
 use Rattle.text.specs.Numbers.{numbersIn}
-use Rattle.text.proofs.Putting.{laid-long, decimal-short}
+use Rattle.words.proofs.Putting.{laid-long, decimal-short}
 use Rattle.text.proofs.Laying.{value-at, signed-short, measures-laid}
-use Rattle.text.proofs.Signs.{same}
+use Rattle.words.proofs.Signs.{same}
 use mir.Syntax.{w32}
 use mir.Val.{toZ, ofZ}
 use denote.Ref.{now}

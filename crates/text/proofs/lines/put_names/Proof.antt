@@ -1,6 +1,6 @@
 -- `text::lines::put_names` meets its contract.
 use Rattle.text.specs.Numbers.{numbersIn}
-use Rattle.text.proofs.Putting.{laid-long, decimal-short}
+use Rattle.words.proofs.Putting.{laid-long, decimal-short}
 use Rattle.text.proofs.Laying.{value-at, names-laid}
 use denote.Ref.{now}
 use native.Mathlib.Omega.{arith}

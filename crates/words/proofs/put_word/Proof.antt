@@ -1,5 +1,5 @@
--- `text::words::put_word` meets its contract.
-use Rattle.text.proofs.Putting.{word-more}
+-- `words::put_word` meets its contract.
+use Rattle.words.proofs.Putting.{word-more}
 use lib.ListN.{length, length-set, drop, drop-of-length-le}
 use lib.Seq.{sets}
 use Prim.Native.Nat.{_+_, _-_, _≤_}
@@ -7,8 +7,8 @@ use native.Mathlib.Nat.{add-zero}
 use mathlib.Core.Path.{_≡_, refl, sym, ap, _∙_}
 use denote.Ref.{now}
 use native.Mathlib.Omega.{arith}
-use Rattle.text.proofs.words.put_word.Statement.{statement}
-use Rattle.text.proofs.words.put_word.Tie as tie
+use Rattle.words.proofs.put_word.Statement.{statement}
+use Rattle.words.proofs.put_word.Tie as tie
 
 abbrev Inv-loop : tie.InvT-loop
 Inv-loop room₀ at word i₀ room i = (i ≤ length word) × (sets room (at + i) (drop i word) ≡ sets room₀ at word) × (length room ≡ length room₀)

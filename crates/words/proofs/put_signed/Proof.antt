@@ -1,13 +1,13 @@
--- `text::words::put_signed` meets its contract.
-use Rattle.text.specs.Words.{Laid}
-use Rattle.text.proofs.Putting.{laid-on, laid-long}
-use Rattle.text.proofs.Signs.{text-below, text-not-below}
+-- `words::put_signed` meets its contract.
+use Rattle.words.specs.Words.{Laid}
+use Rattle.words.proofs.Putting.{laid-on, laid-long}
+use Rattle.words.proofs.Signs.{text-below, text-not-below}
 use lib.ListN.{length}
 use mathlib.Core.Path.{ap}
 use native.Mathlib.Omega.{arith}
 use borrow.Author.Needs.{needs}
-use Rattle.text.proofs.words.put_signed.Statement.{statement}
-use Rattle.text.proofs.words.put_signed.Tie as tie
+use Rattle.words.proofs.put_signed.Statement.{statement}
+use Rattle.words.proofs.put_signed.Tie as tie
 
 magnitude-requires : tie.Need-magnitude-requires
 magnitude-requires c κs = search needs

@@ -4,7 +4,7 @@ ghost use mathlib.Core.List.{_∷_, []};
 ghost use Prim.Native.Nat.{_+_, _≤_, _<_};
 ghost use lib.IntN.{natAbs};
 ghost use lib.ListN.{length};
-ghost use Rattle.text.specs.Words.{digit, decimal, signed, labelled, Laid};
+ghost use Rattle.words.specs.Words.{digit, decimal, signed, labelled, Laid};
 
 // Puts the word at the byte at, and returns the place after it.
 pub fn put_word(room: &mut [u8], at: usize, word: &[u8]) -> usize
@@ -27,7 +27,7 @@ fn put_digit(room: &mut [u8], at: usize, d: u32) -> usize
     at + 1
 }
 
-// The digits above the last come first.
+// Puts the decimal digits of v: those above the last come first.
 pub fn put_decimal(room: &mut [u8], at: usize, v: u32) -> usize
     requires { ⌜ at + length (decimal v) ≤ length (now room) ⌝ }
     ensures { λ r. ⌜ Laid (now (room .entry)) at (decimal v) r (now (room .exit)) ⌝ }
@@ -39,6 +39,7 @@ pub fn put_decimal(room: &mut [u8], at: usize, v: u32) -> usize
     put_digit(room, next, v % 10)
 }
 
+// A number of 64 bits holds the lowest i32, turned.
 fn magnitude(z: i32) -> u32
     ensures { λ r. ⌜ r ≡ natAbs z ⌝ }
 {
@@ -49,6 +50,7 @@ fn magnitude(z: i32) -> u32
     }
 }
 
+// Puts z with its sign, where it has one.
 pub fn put_signed(room: &mut [u8], at: usize, z: i32) -> usize
     requires { ⌜ at + length (signed z) ≤ length (now room) ⌝ }
     ensures { λ r. ⌜ Laid (now (room .entry)) at (signed z) r (now (room .exit)) ⌝ }
@@ -61,7 +63,7 @@ pub fn put_signed(room: &mut [u8], at: usize, z: i32) -> usize
     put_decimal(room, at, v)
 }
 
-// A word, and a number after it.
+// Puts a word, and a number after it.
 pub fn put_labelled(room: &mut [u8], at: usize, word: &[u8], v: u32) -> usize
     requires { ⌜ at + length (labelled (now word) v) ≤ length (now room) ⌝ }
     ensures { λ r. ⌜ Laid (now (room .entry)) at (labelled (now (word .entry)) v) r (now (room .exit)) ⌝ }

@@ -12,7 +12,7 @@ use lib.Signed.{ltZ, nonNeg, natAbs-le}
 use mir.Facts.{toZ-ofZ, sfits-widen, fits-natAbs}
 use mir.Syntax.{w32, w64}
 use mir.Val.{Fits, SFits, toZ, ofZ}
-use Rattle.text.specs.Words.{ascii, decimal, signed}
+use Rattle.words.specs.Words.{ascii, decimal, signed}
 
 below-zero : (z : ℤ) → ltZ z (pos 0) ≡ true → pos 0 -ℤ z ≡ pos (natAbs z)
 below-zero (pos n) e = absurd (omega (arith, ltb-true n 0 e))

@@ -1,16 +1,16 @@
--- `text::words::put_decimal` meets its contract; the number is what falls.
+-- `words::put_decimal` meets its contract; the number is what falls.
 use Prim.Native.Nat.{ℕ, _<_}
 use mathlib.Core.Path.{_∙_}
 use native.Mathlib.Omega.{arith}
 use borrow.Fn.Kinds.{In}
 use borrow.Fn.PlainCycle.{Measures, is, falls, and}
-use Rattle.text.proofs.words.put_decimal.Reads as put-decimal
-use Rattle.text.proofs.words.put_decimal.Kinds as put-decimal-kinds
-use Rattle.text.proofs.words.+put_decimal.Lts-put_decimal as put-decimal-lts
-use Rattle.text.proofs.words.put_digit.Reads as put-digit-reads
-use Rattle.text.proofs.words.+put_decimal.{statement}
-use Rattle.text.proofs.words.+put_decimal.Tie.{close}
-use Rattle.text.proofs.Putting.{laid-on, laid-long, last-long, more-long, decimal-last, decimal-more}
+use Rattle.words.proofs.put_decimal.Reads as put-decimal
+use Rattle.words.proofs.put_decimal.Kinds as put-decimal-kinds
+use Rattle.words.proofs.+put_decimal.Lts-put_decimal as put-decimal-lts
+use Rattle.words.proofs.put_digit.Reads as put-digit-reads
+use Rattle.words.proofs.+put_decimal.{statement}
+use Rattle.words.proofs.+put_decimal.Tie.{close}
+use Rattle.words.proofs.Putting.{laid-on, laid-long, last-long, more-long, decimal-last, decimal-more}
 
 abbrev μ-put-decimal : Measures 1 put-decimal-kinds.ps ℕ
 μ-put-decimal κs a = a .1 .1 .0

@@ -1,9 +1,9 @@
--- `text::words::magnitude` meets its contract.
-use Rattle.text.proofs.Signs.{narrow, turned-fits, whole, whole-fits, kept-fits, same}
+-- `words::magnitude` meets its contract.
+use Rattle.words.proofs.Signs.{narrow, turned-fits, whole, whole-fits, kept-fits, same}
 use lib.IntN.{natAbs}
 use mathlib.Core.Path.{ap}
-use Rattle.text.proofs.words.magnitude.Statement.{statement}
-use Rattle.text.proofs.words.magnitude.Tie as tie
+use Rattle.words.proofs.magnitude.Statement.{statement}
+use Rattle.words.proofs.magnitude.Tie as tie
 
 cast-result : tie.Need-cast-result
 cast-result c = narrow (c .before .args .z) (c .before .fits .z)

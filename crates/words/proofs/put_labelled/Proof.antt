@@ -1,12 +1,12 @@
--- `text::words::put_labelled` meets its contract.
-use Rattle.text.specs.Words.{decimal}
-use Rattle.text.proofs.Putting.{laid-on, laid-long}
+-- `words::put_labelled` meets its contract.
+use Rattle.words.specs.Words.{decimal}
+use Rattle.words.proofs.Putting.{laid-on, laid-long}
 use lib.ListN.{length-append}
 use denote.Ref.{now}
 use native.Mathlib.Omega.{arith}
 use borrow.Author.Needs.{needs}
-use Rattle.text.proofs.words.put_labelled.Statement.{statement}
-use Rattle.text.proofs.words.put_labelled.Tie as tie
+use Rattle.words.proofs.put_labelled.Statement.{statement}
+use Rattle.words.proofs.put_labelled.Tie as tie
 
 put-word-requires : tie.Need-put-word-requires
 put-word-requires c κs =
