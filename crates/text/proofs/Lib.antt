@@ -3,3 +3,4 @@ pub mod Laying
 pub mod Accepted
 pub mod Whole
 pub mod Desk
+pub mod Longer

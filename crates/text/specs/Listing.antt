@@ -5,13 +5,12 @@ use mathlib.Core.List.{List, [], _∷_, _++_}
 use Prim.Native.Nat.{ℕ}
 use lib.IntN.{ℤ}
 use lib.ListN.{length, drop, getD}
-use Rattle.kinds.specs.declared.Item.{Item}
 use Rattle.format.specs.Format.{Read, accepted, refused, valuesOf, sheetNumbers}
 use Rattle.segment.specs.Segment.{wireChanges}
 use Rattle.segment.specs.Judgement.{fromPacket}
 use Rattle.speed.specs.Speed.{Element, afterElement, elementsFrom, profileOf, segmentLength}
 use Rattle.altitude.specs.Altitude.{centimetres, altitudeField}
-use Rattle.words.specs.Words.{ascii, decimal, signed, labelled}
+use Rattle.words.specs.Words.{ascii, signed, labelled}
 
 -- "NID_C, NID_SP, length and signed altitude in cm"
 abbrev pub names : List ℕ → List ℕ
