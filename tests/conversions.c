@@ -1,18 +1,11 @@
 // Both conversions and the altitude of the static library, called from C and held to packets and sheets that are written here from the build definition; timed with 'time'.
 #define _POSIX_C_SOURCE 200809L
-#include <stdbool.h>
-#include <stddef.h>
-#include <stdint.h>
 #include <stdio.h>
 #include <stdlib.h>
 #include <string.h>
 #include <time.h>
 
-typedef struct { uint32_t refusal, length; } seglink_converted;
-seglink_converted seglink_packet_to_sheet(const uint8_t *packet, size_t packet_len, uint8_t *room, size_t room_len);
-seglink_converted seglink_sheet_to_packet(const uint8_t *sheet, size_t sheet_len, uint8_t *room, size_t room_len);
-typedef struct { uint32_t refusal; int32_t altitude; } seglink_altitude;
-seglink_altitude seglink_altitude_of_packet(const uint8_t *packet, size_t packet_len);
+#include "../include/seglink.h"
 
 // ---- A segment: its fields in packet order, without L_PACKET_ATO
 

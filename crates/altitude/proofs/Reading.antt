@@ -27,7 +27,7 @@ use Rattle.judge.specs.declared.Frame.{Frame}
 use Rattle.judge.specs.declared.Frame.the-variants as Frame
 use Rattle.judge.specs.Verdict.{sizeFrom, packetVerdict, frameOf}
 use Rattle.judge.proofs.Framing.{whole}
-use Rattle.convert.proofs.ToSheet.{verdict-accepted, verdict-refused, parts, accepted-frame}
+use Rattle.judge.proofs.Accepted.{verdict-accepted, verdict-refused, parts, accepted-frame}
 use Rattle.altitude.specs.declared.Altitude.{Altitude}
 use Rattle.altitude.specs.Altitude.{centimetres, altitudeField, answered, altitudeOf}
 use Rattle.altitude.proofs.Signs.{centimetres-fit}

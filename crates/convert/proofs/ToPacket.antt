@@ -39,7 +39,7 @@ use Rattle.media.proofs.Writing.{sets-append, Writing, writing-on, writing-rest
 use Rattle.judge.specs.declared.Verdict.the-variants.{Accepted, Refused}
 use Rattle.judge.specs.Verdict.{sizeFrom, sheetVerdict}
 use Rattle.convert.specs.Convert.{Outcome, refusedWith, fitted, converted, sheetToPacket, bitsOfSheet, Accepts, bodyRead, bodyBitsOf, BodyAt, Headed}
-use Rattle.convert.proofs.ToSheet.{verdict-accepted, verdict-refused}
+use Rattle.judge.proofs.Accepted.{verdict-accepted, verdict-refused}
 
 -- ---- cells written past the end
 

@@ -28,17 +28,9 @@ use Rattle.judge.specs.declared.Verdict.the-variants.{Accepted, Refused}
 use Rattle.judge.specs.declared.Frame.{Frame}
 use Rattle.judge.specs.declared.Frame.the-variants as Frame
 use Rattle.judge.specs.Verdict.{verdictOf, sizeFrom, packetVerdict, frameOf}
-use Rattle.judge.proofs.Framing.{whole, packet-frame, refused-not-end}
+use Rattle.judge.proofs.Framing.{whole}
+use Rattle.judge.proofs.Accepted.{verdict-accepted, verdict-refused, accepted-frame, Parts, parts}
 use Rattle.convert.specs.Convert.{Outcome, refusedWith, placed, fitted, converted, packetToSheet, sheetOf, Writable, fieldsOf, FieldsWritable}
-
--- a verdict, and what was read
-pub verdict-accepted : {C : Type 0} (size : List Item → ℕ) (r : Read) (n : ℕ) → Accepted n ≡ verdictOf size r → (r ≡ accepted (valuesOf r) → n ≡ size (valuesOf r) → C) → C
-verdict-accepted size (accepted l) n e k = k refl (cc)
-verdict-accepted size (refused r left) n e k = absurd (let z : _≡_ {A = ℕ} 0 1 = cc in omega arith)
-
-pub verdict-refused : {C : Type 0} (size : List Item → ℕ) (r : Read) (q : ℕ) → Refused q ≡ verdictOf size r → ((left : ℕ) → r ≡ refused q left → C) → C
-verdict-refused size (accepted l) q e k = absurd (let z : _≡_ {A = ℕ} 0 1 = cc in omega arith)
-verdict-refused size (refused r left) q e k = let p : r ≡ q = cc in k left (rw p)
 
 -- bytes written at the front of a room that holds them
 pub done-placed : (bytes room : List ℕ) (n : ℕ) (cells : List ℕ) → n ≡ length bytes → length bytes ≤ length room → cells ≡ sets room 0 bytes
@@ -49,32 +41,6 @@ done-placed bytes room n cells l f q =
     λ j. record { answer = record { refusal = 0; length = l j }; room = b j }
 
 module _ (s : List ℕ) where
-  -- ---- the frame of an accepted packet
-
-  pub accepted-frame : {C : Type 0} (r : ℕ) → fromPacket wireChanges s ≡ accepted (valuesOf (fromPacket wireChanges s)) → Frame.Refused r ≡ frameOf s → C
-  unfolding packetVerdict
-  accepted-frame r a e =
-      verdict-refused (sizeFrom sheet (sheetFields wireChanges) 0) (fromPacket wireChanges s) r (packet-frame s r e) λ left p. absurd (never (sym p ∙ a))
-
-  -- the fields' own values
-  pub record Parts (stop : ℕ) (l : List Item) : Type 0 where
-    pub values : List Item
-    pub reads : read packet (fields wireChanges) (rest s 24 stop) ≡ accepted values
-    pub all : l ≡ numberItem 6 ∷ values
-
-  pub parts : (stop : ℕ) (l : List Item) → Frame.End stop ≡ frameOf s → fromPacket wireChanges s ≡ accepted l → Parts stop l
-  unfolding fromPacket
-  parts stop l e a =
-      let w = whole s stop e in
-      by-cases (ltb (length s) 15) (λ x. refused-not-end s 1 stop (rw x at (sym e))) λ x.
-      by-cases (eqb (packetNumber s) 6) (λ y.
-      by-cases (eqb (length s) (15 + (bodyBits s + 7) / 8)) (λ z.
-      padded-accepted 6 (fromOne (padding s)) (read packet (fields wireChanges) (fieldBits s)) l (rw (x, y, z) at a) λ m p none q.
-      let d : 120 + bodyBits s - 24 ≡ 96 + bodyBits s = omega arith in
-      record { values = m; reads = rw (w .ends, d) p; all = q })
-      (λ z. refused-not-end s 3 stop (rw (x, y, z) at (sym e))))
-      (λ y. refused-not-end s 2 stop (rw (x, y) at (sym e)))
-
   -- ---- the writers
 
   number-bytes : length (groupsIn 6) ≡ 1
@@ -82,8 +48,8 @@ module _ (s : List ℕ) where
   number-bytes = refl
 
   module _ (room : List ℕ) (w : Writable s room) (stop : ℕ) (e : Frame.End stop ≡ frameOf s) where
-    own : Parts stop (valuesOf (fromPacket wireChanges s))
-    own = parts stop (valuesOf (fromPacket wireChanges s)) e (w .accepts)
+    own : Parts s stop (valuesOf (fromPacket wireChanges s))
+    own = parts s stop (valuesOf (fromPacket wireChanges s)) e (w .accepts)
 
     fields-values : fieldsOf s stop ≡ write sheet (fields wireChanges) (own .values)
     fields-values = ap (λ (r : Read). write sheet (fields wireChanges) (valuesOf r)) (own .reads)
@@ -127,7 +93,7 @@ module _ (s : List ℕ) where
     short-at : (stop : ℕ) → Frame.End stop ≡ frameOf s → n ≤ 5608
     unfolding sheetFields toSheet
     short-at stop f =
-        let o = parts stop (valuesOf (fromPacket wireChanges s)) f (sheet-size .1) in
+        let o = parts s stop (valuesOf (fromPacket wireChanges s)) f (sheet-size .1) in
         let g : Conforming InSheet (fields wireChanges) (o .values) =
         to-sheet (fields-lawful wireChanges (lit≤ tt)) (packet-only (fields wireChanges) (rest s 24 stop) (o .values) (o .reads) .0) in
         let six : Conforming InSheet (sheetFields wireChanges) (numberItem 6 ∷ o .values) = also {i = numberItem 6} (record { lowered = refl; fits = lit< tt }) g in
@@ -138,7 +104,7 @@ module _ (s : List ℕ) where
     sheet-short = go (frameOf s) refl
       where
         go : (f : Frame) → f ≡ frameOf s → n ≤ 5608
-        go (Frame.Refused r) d = accepted-frame r (sheet-size .1) d
+        go (Frame.Refused r) d = accepted-frame s r (sheet-size .1) d
         go (Frame.End stop) d = short-at stop d
 
     pub sheet-too-long : length room < n → refusedWith 8 room ≡ packetToSheet s room

@@ -57,6 +57,11 @@ abbrev pub valuesOf : Read → List Item
 valuesOf (accepted l) = l
 valuesOf (refused r left) = []
 
+-- what is answered: of the values that were read, or of a refusal's number
+abbrev pub answerOf : {B : Type 0} → (ℕ → B) → (List Item → B) → Read → B
+answerOf refusal value (accepted l) = value l
+answerOf refusal value (refused r left) = refusal r
+
 -- the fields' values in the packet, and in the sheet
 abbrev pub packetValues : List Item → List ℕ
 packetValues l = map (λ i. i .packet) l

@@ -1,4 +1,4 @@
--- The frame of a packet, by the order of its refusals; and the verdict on a packet from the verdict on its fields.
+-- The frame of a packet, by the order of its refusals; and what is answered of a packet, from what is answered of its fields.
 -- Assumes nothing.
 use lib.Pow.{pow-pos}
 use mathlib.Core.Path.{_≡_, refl, sym, ap, _∙_}
@@ -14,18 +14,16 @@ use Rattle.bits.specs.Bits.{number, bitsOfBytes, fieldAt}
 use Rattle.bits.proofs.Tests.{by-cases}
 use Rattle.bits.proofs.Padding.{length-bytes}
 use Rattle.bits.proofs.Fields.{field-small}
-use Rattle.format.specs.Format.{Read, accepted, refused, read}
-use Rattle.format.specs.Media.{packet, sheet}
-use Rattle.numbers.specs.Numbers.{groupsIn}
-use Rattle.segment.specs.Segment.{fields, sheetFields, wireChanges}
-use Rattle.segment.specs.Frame.{packetNumber, bodyBits, fieldBits, padding, fromOne, padded}
+use Rattle.kinds.specs.declared.Item.{Item}
+use Rattle.format.specs.Format.{Read, accepted, refused, read, answerOf}
+use Rattle.format.specs.Media.{packet}
+use Rattle.segment.specs.Segment.{fields, wireChanges}
+use Rattle.segment.specs.Frame.{packetNumber, bodyBits, fromOne, numberItem, padded}
 use Rattle.segment.specs.Judgement.{segmentNumber, fromPacket}
 use Rattle.media.specs.Places.{rest, Placed}
-use Rattle.judge.specs.declared.Verdict.{Verdict}
-use Rattle.judge.specs.declared.Verdict.the-variants.{Accepted, Refused}
 use Rattle.judge.specs.declared.Frame.{Frame}
 use Rattle.judge.specs.declared.Frame.the-variants as Frame
-use Rattle.judge.specs.Verdict.{verdictOf, sizeFrom, packetVerdict, frameOf}
+use Rattle.judge.specs.Verdict.{frameOf}
 
 module _ (s : List ℕ) where
   pub frame-short : length s < 15 → Frame.Refused 1 ≡ frameOf s
@@ -41,10 +39,6 @@ module _ (s : List ℕ) where
 
       pub frame-length : (length s ≡ 15 + (bodyBits s + 7) / 8 → ⊥) → Frame.Refused 3 ≡ frameOf s
       frame-length l = rw (le-ltb (length s) 15 h, eq-eqb (packetNumber s) 6 n, ne-eqb (length s) (15 + (bodyBits s + 7) / 8) l)
-
-  -- the verdict on the fields alone
-  abbrev pub fieldsVerdict : ℕ → Verdict
-  fieldsVerdict stop = verdictOf (sizeFrom sheet (fields wireChanges) 1) (read packet (fields wireChanges) (rest s 24 stop))
 
   -- what is known of a packet whose frame is whole
   pub record Whole (stop : ℕ) : Type 0 where
@@ -69,41 +63,17 @@ module _ (s : List ℕ) where
       (λ c. refused-not-end 3 stop (rw (a, b, c) at (sym e))))
       (λ b. refused-not-end 2 stop (rw (a, b) at (sym e)))
 
-  -- a refusal of the frame is the packet's
-  pub packet-frame : (r : ℕ) → Frame.Refused r ≡ frameOf s → Refused r ≡ packetVerdict s
-  unfolding packetVerdict fromPacket
-  packet-frame r e =
-      by-cases (ltb (length s) 15)
-      (λ a. let q : Frame.Refused r ≡ Frame.Refused 1 = rw a at e in let p : r ≡ 1 = cc in rw (a, p)) λ a.
-      by-cases (eqb (packetNumber s) 6) (λ b.
-      by-cases (eqb (length s) (15 + (bodyBits s + 7) / 8))
-      (λ c. let q : Frame.Refused r ≡ Frame.End (120 + bodyBits s) = rw (a, b, c) at e in absurd (let z : _≡_ {A = ℕ} 0 1 = cc in omega arith))
-      (λ c. let q : Frame.Refused r ≡ Frame.Refused 3 = rw (a, b, c) at e in let p : r ≡ 3 = cc in rw (a, b, c, p)))
-      (λ b. let q : Frame.Refused r ≡ Frame.Refused 2 = rw (a, b) at e in let p : r ≡ 2 = cc in rw (a, b, p))
-
-  -- padding after the fields
-  paddedVerdict : List Bool → Verdict → Verdict
-  paddedVerdict [] v = v
-  paddedVerdict (b ∷ t) (Accepted n) = Refused 7
-  paddedVerdict (b ∷ t) (Refused r) = Refused r
-
-  padded-fields : (t : List Bool) (r : Read)
-      → verdictOf (sizeFrom sheet (sheetFields wireChanges) 0) (padded segmentNumber t r) ≡ paddedVerdict t (verdictOf (sizeFrom sheet (fields wireChanges) 1) r)
-  unfolding sheetFields paddedVerdict groupsIn
-  padded-fields [] (refused r left) = refl
-  padded-fields (b ∷ t) (refused r left) = refl
-  padded-fields [] (accepted l) = ap Accepted (omega arith)
-  padded-fields (b ∷ t) (accepted l) = refl
-
-  packet-fields : (stop : ℕ) → Frame.End stop ≡ frameOf s → packetVerdict s ≡ paddedVerdict (fromOne (drop stop (bitsOfBytes s))) (fieldsVerdict stop)
-  unfolding packetVerdict fromPacket
+  -- the fields of a packet whose frame is whole, and its padding
+  pub packet-fields : (stop : ℕ) → Frame.End stop ≡ frameOf s
+      → fromPacket wireChanges s ≡ padded segmentNumber (fromOne (drop stop (bitsOfBytes s))) (read packet (fields wireChanges) (rest s 24 stop))
+  unfolding fromPacket
   packet-fields stop e =
       let w = whole stop e in
       by-cases (ltb (length s) 15) (λ a. refused-not-end 1 stop (rw a at (sym e))) λ a.
       by-cases (eqb (packetNumber s) 6) (λ b.
       by-cases (eqb (length s) (15 + (bodyBits s + 7) / 8)) (λ c.
       let p : 120 + bodyBits s - 24 ≡ 96 + bodyBits s = omega arith in
-      rw (a, b, c, w .ends, p) (padded-fields (fromOne (padding s)) (read packet (fields wireChanges) (fieldBits s))))
+      rw (a, b, c, w .ends, p))
       (λ c. refused-not-end 3 stop (rw (a, b, c) at (sym e))))
       (λ b. refused-not-end 2 stop (rw (a, b) at (sym e)))
 
@@ -114,32 +84,65 @@ module _ (s : List ℕ) where
   zero-bits (true ∷ t) e = absurd (omega (arith, pow-pos (length t)))
   zero-bits (false ∷ t) e = zero-bits t (omega arith)
 
-  some-bit : (t : List Bool) → (number t ≡ 0 → ⊥) → (v : Verdict) (n : ℕ) → v ≡ Accepted n → paddedVerdict (fromOne t) v ≡ Refused 7
-  unfolding paddedVerdict
-  some-bit [] h v n e = absurd (h refl)
-  some-bit (true ∷ t) h v n e = rw e
-  some-bit (false ∷ t) h v n e = some-bit t (λ z. h (omega arith)) v n e
+  some-bit : {C : Type 0} (t : List Bool) → (number t ≡ 0 → ⊥) → ((b : Bool) (u : List Bool) → fromOne t ≡ b ∷ u → C) → C
+  some-bit [] h k = absurd (h refl)
+  some-bit (true ∷ t) h k = k true t refl
+  some-bit (false ∷ t) h k = some-bit t (λ z. h (omega arith)) k
 
   padding-number : (stop : ℕ) → fieldAt s stop (8 * length s - stop) ≡ number (drop stop (bitsOfBytes s))
   unfolding fieldAt
   padding-number stop = ap number (take-all (8 * length s - stop) (drop stop (bitsOfBytes s)) (rw (length-drop, length-bytes) (omega arith)))
 
-  module _ (stop : ℕ) (e : Frame.End stop ≡ frameOf s) where
-    pub packet-refused : {r : ℕ} → Refused r ≡ fieldsVerdict stop → Refused r ≡ packetVerdict s
-    unfolding paddedVerdict
-    packet-refused {r} v = sym (packet-fields stop e ∙ ap (paddedVerdict (fromOne (drop stop (bitsOfBytes s)))) (sym v) ∙ pads (fromOne (drop stop (bitsOfBytes s))))
-      where
-        pads : (t : List Bool) → paddedVerdict t (Refused r) ≡ Refused r
-        pads [] = refl
-        pads (b ∷ t) = refl
+-- ---- what is answered of a packet, from what is answered of its fields
 
-    pub packet-accepted : {n : ℕ} → Accepted n ≡ fieldsVerdict stop → eqb (fieldAt s stop (8 * length s - stop)) 0 ≡ true → Accepted n ≡ packetVerdict s
-    unfolding paddedVerdict
-    packet-accepted v z =
-        let q : number (drop stop (bitsOfBytes s)) ≡ 0 = sym (padding-number stop) ∙ eqb-true (fieldAt s stop (8 * length s - stop)) 0 z in
-        sym (packet-fields stop e ∙ rw (zero-bits (drop stop (bitsOfBytes s)) q) (sym v))
+module _ {B : Type 0} (refusal : ℕ → B) (value : List Item → B) where
+  abbrev pub fieldsAnswer : Read → B
+  fieldsAnswer r = answerOf refusal (λ l. value (numberItem segmentNumber ∷ l)) r
 
-    pub packet-padding : {n : ℕ} → Accepted n ≡ fieldsVerdict stop → eqb (fieldAt s stop (8 * length s - stop)) 0 ≡ false → Refused 7 ≡ packetVerdict s
-    packet-padding {n} v z =
-        sym (packet-fields stop e
-        ∙ some-bit (drop stop (bitsOfBytes s)) (λ q. eqb-false (fieldAt s stop (8 * length s - stop)) 0 z (padding-number stop ∙ q)) (fieldsVerdict stop) n (sym v))
+  refused-on : (t : List Bool) (q : Read) {r : ℕ} → refusal r ≡ fieldsAnswer q → ((l : List Item) → refusal r ≡ value l → ⊥)
+      → refusal r ≡ answerOf refusal value (padded segmentNumber t q)
+  refused-on t (accepted l) e h = absurd (h (numberItem segmentNumber ∷ l) e)
+  refused-on [] (refused q left) e h = e
+  refused-on (b ∷ t) (refused q left) e h = e
+
+  accepted-on : (q : Read) → fieldsAnswer q ≡ answerOf refusal value (padded segmentNumber [] q)
+  accepted-on (accepted l) = refl
+  accepted-on (refused q left) = refl
+
+  padding-on : (b : Bool) (t : List Bool) (q : Read) {a : B} → a ≡ fieldsAnswer q → ((r : ℕ) → refusal r ≡ a → ⊥)
+      → refusal 7 ≡ answerOf refusal value (padded segmentNumber (b ∷ t) q)
+  padding-on b t (accepted l) e h = refl
+  padding-on b t (refused q left) e h = absurd (h q (sym e))
+
+  module _ (s : List ℕ) where
+    -- a refusal of the frame is the packet's
+    pub packet-frame : (r : ℕ) → Frame.Refused r ≡ frameOf s → refusal r ≡ answerOf refusal value (fromPacket wireChanges s)
+    unfolding fromPacket
+    packet-frame r e =
+        by-cases (ltb (length s) 15)
+        (λ a. let q : Frame.Refused r ≡ Frame.Refused 1 = rw a at e in let p : r ≡ 1 = cc in rw (a, p)) λ a.
+        by-cases (eqb (packetNumber s) 6) (λ b.
+        by-cases (eqb (length s) (15 + (bodyBits s + 7) / 8))
+        (λ c. let q : Frame.Refused r ≡ Frame.End (120 + bodyBits s) = rw (a, b, c) at e in absurd (let z : _≡_ {A = ℕ} 0 1 = cc in omega arith))
+        (λ c. let q : Frame.Refused r ≡ Frame.Refused 3 = rw (a, b, c) at e in let p : r ≡ 3 = cc in rw (a, b, c, p)))
+        (λ b. let q : Frame.Refused r ≡ Frame.Refused 2 = rw (a, b) at e in let p : r ≡ 2 = cc in rw (a, b, p))
+
+    module _ (stop : ℕ) (e : Frame.End stop ≡ frameOf s) where
+      abbrev fieldsRead : Read
+      fieldsRead = read packet (fields wireChanges) (rest s 24 stop)
+
+      pub packet-refused : {r : ℕ} → refusal r ≡ fieldsAnswer fieldsRead → ((l : List Item) → refusal r ≡ value l → ⊥)
+          → refusal r ≡ answerOf refusal value (fromPacket wireChanges s)
+      packet-refused v h = rw (packet-fields s stop e) (refused-on (fromOne (drop stop (bitsOfBytes s))) fieldsRead v h)
+
+      pub packet-accepted : {a : B} → a ≡ fieldsAnswer fieldsRead → eqb (fieldAt s stop (8 * length s - stop)) 0 ≡ true
+          → a ≡ answerOf refusal value (fromPacket wireChanges s)
+      packet-accepted v z =
+          let q : number (drop stop (bitsOfBytes s)) ≡ 0 = sym (padding-number s stop) ∙ eqb-true (fieldAt s stop (8 * length s - stop)) 0 z in
+          rw (packet-fields s stop e, zero-bits s (drop stop (bitsOfBytes s)) q) (v ∙ accepted-on fieldsRead)
+
+      pub packet-padding : {a : B} → a ≡ fieldsAnswer fieldsRead → ((r : ℕ) → refusal r ≡ a → ⊥) → eqb (fieldAt s stop (8 * length s - stop)) 0 ≡ false
+          → refusal 7 ≡ answerOf refusal value (fromPacket wireChanges s)
+      packet-padding v h z =
+          some-bit s (drop stop (bitsOfBytes s)) (λ q. eqb-false (fieldAt s stop (8 * length s - stop)) 0 z (padding-number s stop ∙ q)) λ b t p.
+          rw (packet-fields s stop e, p) (padding-on b t fieldsRead v h)

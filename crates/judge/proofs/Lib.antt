@@ -1,2 +1,3 @@
-pub mod Loops
+pub mod Sizes
 pub mod Framing
+pub mod Accepted

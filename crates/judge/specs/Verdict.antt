@@ -1,28 +1,33 @@
 -- A verdict on a packet or a sheet: the size of what it converts to, or the refusal.
 -- Assumes nothing.
 use mathlib.Core.Bool.{Bool, true, false, cond}
-use mathlib.Core.List.{List}
+use mathlib.Core.List.{List, _∷_}
 use Prim.Native.Nat.{ℕ, _+_, _/_}
 use lib.Dec.{eqb, ltb}
 use lib.ListN.{length}
 use Rattle.kinds.specs.declared.Item.{Item}
-use Rattle.format.specs.Format.{Format, Medium, Read, accepted, refused, write}
+use Rattle.format.specs.Format.{Format, Medium, Read, read, write, answerOf}
 use Rattle.format.specs.Media.{packet, sheet}
-use Rattle.segment.specs.Segment.{sheetFields, wireChanges}
-use Rattle.segment.specs.Frame.{packetNumber, bodyBits}
+use Rattle.segment.specs.Segment.{fields, sheetFields, wireChanges}
+use Rattle.segment.specs.Frame.{packetNumber, bodyBits, numberItem}
 use Rattle.segment.specs.Judgement.{segmentNumber, fromPacket, fromSheet}
+use Rattle.media.specs.Places.{rest}
 use Rattle.judge.specs.declared.Verdict.{Verdict}
 use Rattle.judge.specs.declared.Verdict.the-variants.{Accepted, Refused}
 use Rattle.judge.specs.declared.Frame.{Frame}
 use Rattle.judge.specs.declared.Frame.the-variants as Frame
 
 abbrev pub verdictOf : (List Item → ℕ) → Read → Verdict
-verdictOf size (accepted l) = Accepted (size l)
-verdictOf size (refused r left) = Refused r
+verdictOf size r = answerOf Refused (λ l. Accepted (size l)) r
 
 -- n and the length of what is written of the values
 abbrev pub sizeFrom : {A : Type 0} → Medium A → Format → ℕ → List Item → ℕ
 sizeFrom m f n l = n + length (write m f l)
+
+-- the verdict on a packet's fields, which end at the bit stop, with the bytes of the packet's sheet
+abbrev pub fieldsVerdict : List ℕ → ℕ → Verdict
+fieldsVerdict s stop =
+    verdictOf (λ l. sizeFrom sheet (sheetFields wireChanges) 0 (numberItem segmentNumber ∷ l)) (read packet (fields wireChanges) (rest s 24 stop))
 
 -- the verdict on a packet, with the bytes of its sheet
 unfoldable pub packetVerdict : List ℕ → Verdict

@@ -4,11 +4,8 @@ ghost use Prim.Native.Nat.{_+_, _*_, _-_, _^_, _≤_, _<_};
 ghost use lib.ListN.{length};
 ghost use lib.Dec.{eqb};
 ghost use Rattle.bits.specs.Bits.{fieldAt};
-ghost use Rattle.format.specs.Format.{read};
-ghost use Rattle.format.specs.Media.{packet, sheet};
-ghost use Rattle.segment.specs.Segment.{fields, wireChanges};
-ghost use Rattle.media.specs.Places.{rest, Placed};
-ghost use Rattle.judge.specs.Verdict.{verdictOf, sizeFrom, packetVerdict, sheetVerdict, frameOf};
+ghost use Rattle.media.specs.Places.{Placed};
+ghost use Rattle.judge.specs.Verdict.{fieldsVerdict, packetVerdict, sheetVerdict, frameOf};
 use kinds::header;
 use media::Taken;
 use walk::Asked;
@@ -56,7 +53,7 @@ pub fn framed(s: &[u8]) -> Frame
 // The verdict on the fields of a packet, which end at the bit stop, with the bytes of its sheet.
 fn packet_fields(s: &[u8], stop: usize) -> Verdict
     requires { ⌜ Placed (now s) 24 stop ⌝ }
-    ensures { λ r. ⌜ r ≡ verdictOf (sizeFrom sheet (fields wireChanges) 1) (read packet (fields wireChanges) (rest (now (s .entry)) 24 stop)) ⌝ }
+    ensures { λ r. ⌜ r ≡ fieldsVerdict (now (s .entry)) stop ⌝ }
 {
     let mut w = walk::start().next(header::NidPacketAto::LARGEST);
     let mut at = FIRST_FIELD;
@@ -84,7 +81,7 @@ fn packet_fields(s: &[u8], stop: usize) -> Verdict
 }
 
 // Whether the bits from stop on, fewer than eight, are zero.
-fn zero_from(s: &[u8], stop: usize) -> bool
+pub fn zero_from(s: &[u8], stop: usize) -> bool
     requires { ⌜ (stop ≤ 8 * length (now s)) × (8 * length (now s) < stop + 8) × (stop < 2 ^ 32) ⌝ }
     ensures { λ r. ⌜ r ≡ eqb (fieldAt (now (s .entry)) stop (8 * length (now (s .entry)) - stop)) 0 ⌝ }
 {

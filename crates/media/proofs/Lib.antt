@@ -1,3 +1,4 @@
 pub mod Taking
 pub mod Sources
+pub mod Loops
 pub mod Writing

@@ -4,6 +4,7 @@ use native.Mathlib.Nat.{sub-self}
 use mathlib.Core.Path.{_≡_, refl, ap, _∙_}
 use mathlib.Core.Bool.{true}
 use mathlib.Core.List.{List, []}
+use mathlib.Core.Option.{some}
 use Prim.Native.Nat.{ℕ, _+_, _-_, _^_, _≤_, _<_}
 use native.Mathlib.Omega.{arith}
 use borrow.Author.Tests.{ltb-true, ltb-false, lt-ltb, le-ltb}
@@ -36,6 +37,7 @@ use Rattle.media.specs.Places.{rest, Placed, takenAt, bitsTaken, numberT
 -- what follows from a field that was taken at the place at
 pub record Went {A : Type 0} (m : Medium A) (view : ℕ → List A) (Here : ℕ → Type 0) (k : Kind) (at : ℕ) (i : Item) (next : ℕ) : Type 0 where
   pub takes : m .take k (view at) ≡ step i (view next)
+  pub lowers : k .lower (i .sheet) ≡ some (i .packet)
   pub allowed : k .allowed (i .packet) ≡ true
   pub short : i .sheet < 2 ^ 32
   pub further : at < next
@@ -94,6 +96,7 @@ module _ (s : List ℕ) (end : ℕ) where
       let g : InPacket k i = packet-lawful .only k (rest s at end) i (rest s next end) tt t .0 in
       record {
         takes = t;
+        lowers = rw (g .raised) (w .back (i .packet) (g .allowed));
         allowed = g .allowed;
         short = rw (g .raised) (raised-small w (i .packet) (g .allowed));
         further = omega (arith, w .narrow .some);
@@ -129,6 +132,7 @@ module _ (s : List ℕ) (ok : Bytes s) where
           ap length (n .bytes) ∙ length-append (groupsIn a) (drop (length (groupsIn a)) (drop at s)) in
           record {
             takes = t;
+            lowers = g .lowered;
             allowed = w .into (i .sheet) (i .packet) (g .lowered);
             short = g .fits;
             further = omega (arith, count-some a);

@@ -9,14 +9,15 @@ use lib.ListN.{length, length-append, set}
 use lib.Seq.{sets}
 use Rattle.kinds.specs.declared.Item.{Item}
 use Rattle.kinds.specs.Kind.{Kind}
-use Rattle.format.specs.Format.{Format, end, field, Read, accepted, refused, Step, Medium, with, follow, read, write}
+use Rattle.format.specs.Format.{Format, end, Read, accepted, refused, Medium, with, read, write}
 use Rattle.format.specs.Place.{next, after}
 use Rattle.format.proofs.Generic.{never}
 use Rattle.format.proofs.Lawful.{Lawful}
-use Rattle.format.proofs.Stepping.{lawful-kind, lawful-after, read-next, write-next, ended}
+use Rattle.format.proofs.Stepping.{lawful-after, write-next, ended}
 use Rattle.media.specs.declared.Taken.{Taken}
 use Rattle.media.specs.declared.Taken.the-variants.{Is, Refused}
-use Rattle.media.proofs.Sources.{Source, Went}
+use Rattle.media.proofs.Sources.{Source}
+use Rattle.media.proofs.Loops.{went, read-on, read-off}
 
 pub sets-append : {B : Type 0} (l : List B) (i : ℕ) (p q : List B) → sets l i (p ++ q) ≡ sets (sets l i p) (i + length p) q
 sets-append l i [] q = let e : i + 0 ≡ i = omega arith in rw e
@@ -27,20 +28,6 @@ with-accepted i (accepted t) l e k = k t refl (cc)
 with-accepted i (refused r n) l e k = absurd (never e)
 
 module _ {A : Type 0} {m : Medium A} {view : ℕ → List A} {took : Kind → ℕ → Taken} {Here : ℕ → Type 0} (source : Source m view took Here) where
-  -- a field of a lawful tree, taken
-  pub went : {f : Format} {k : Kind} {at : ℕ} {i : Item} {to : ℕ} → Lawful f → Here at → next f ≡ some k → Is i to ≡ took k at → Went m view Here k at i to
-  went {f} {k} {at} {i} {to} w h e t = source .on k at i to (lawful-kind f e w) h t
-
-  -- what is read where a field was taken, and where it was refused
-  pub read-on : {f : Format} {k : Kind} {at : ℕ} {i : Item} {to : ℕ} → Lawful f → Here at → next f ≡ some k → Is i to ≡ took k at
-      → read m f (view at) ≡ with i (read m (after f (i .packet)) (view to))
-  read-on {f} {k} {at} w h e t =
-      read-next m f e (view at) ∙ ap (λ (x : Step A). follow (length (view at)) x (λ y u. read m (after f (y .packet)) u)) (went w h e t .takes)
-
-  pub read-off : (f : Format) {k : Kind} {at r : ℕ} → Here at → next f ≡ some k → Refused r ≡ took k at → read m f (view at) ≡ refused r (length (view at))
-  read-off f {k} {at} {r} h e t =
-      read-next m f e (view at) ∙ ap (λ (x : Step A). follow (length (view at)) x (λ y u. read m (after f (y .packet)) u)) (source .off k at r h t)
-
   -- reading goes well from here on
   pub record Reading (f : Format) (at : ℕ) : Type 0 where
     pub lawful : Lawful f
@@ -50,12 +37,12 @@ module _ {A : Type 0} {m : Medium A} {view : ℕ → List A} {took : Kind → �
 
   module _ {f : Format} {at : ℕ} (g : Reading f at) {k : Kind} (e : next f ≡ some k) where
     pub never-off : {C : Type 0} {r : ℕ} → Refused r ≡ took k at → C
-    never-off t = absurd (never (sym (read-off f (g .here) e t) ∙ g .reads))
+    never-off t = absurd (never (sym (read-off source f (g .here) e t) ∙ g .reads))
 
     pub reading-on : {i : Item} {to : ℕ} → Is i to ≡ took k at → (h : Reading (after f (i .packet)) to) × (g .values ≡ i ∷ h .values)
     reading-on {i} {to} t =
-        let w = went (g .lawful) (g .here) e t in
-        with-accepted i (read m (after f (i .packet)) (view to)) (g .values) (sym (read-on (g .lawful) (g .here) e t) ∙ g .reads) λ l p q.
+        let w = went source (g .lawful) (g .here) e t in
+        with-accepted i (read m (after f (i .packet)) (view to)) (g .values) (sym (read-on source (g .lawful) (g .here) e t) ∙ g .reads) λ l p q.
         (record { lawful = lawful-after f e (g .lawful) (i .packet) (w .allowed); here = w .here; values = l; reads = p }, q)
 
   -- ---- with what is written of the values

@@ -1,11 +1,12 @@
 -- The customer's demands as theorems, in the customer's order, over the definitions that the contracts cite.
 -- Assumes nothing.
 use mathlib.Core.Path.{_≡_, sym, ap, _∙_}
-use mathlib.Core.List.{List}
+use mathlib.Core.List.{List, []}
 use mathlib.Core.Logic.{_↔_}
 use Prim.Native.Nat.{ℕ, _≤_}
 use native.Mathlib.Omega.{arith}
 use lib.Dec.{lit≤}
+use lib.IntN.{pos}
 use lib.ListN.{length}
 use Rattle.bits.specs.Bits.{Bytes}
 use Rattle.kinds.specs.declared.Item.{Item}
@@ -16,15 +17,20 @@ use Rattle.format.proofs.Lawful.{to-sheet}
 use Rattle.segment.specs.Segment.{sheetFields, wireChanges}
 use Rattle.segment.specs.Judgement.{fromPacket, fromSheet, toPacket, toSheet}
 use Rattle.segment.proofs.Ends.{sheetFields-lawful}
-use Rattle.convert.specs.Convert.{Outcome, refusedWith, placed, fitted, converted, packetToSheet, sheetToPacket}
-use Rattle.seglink.specs.Promised.{PacketValues, SheetValues, ConvertiblePacket, ConvertibleSheet, loweredNumbers, Done, result, spelled, Lowering}
-use Rattle.seglink.proofs.Values.{packet-taken, sheet-taken, lowered-packet, lowered-good, kept, packets, sheets, side-result, side-converted, placed-result, numbers-spelled, lowering}
+use Rattle.speed.specs.declared.Train.{Train}
+use Rattle.speed.specs.Speed.{speedIn}
+use Rattle.question.specs.declared.Speed.{Speed}
+use Rattle.question.specs.Question.{speedFromPacket, speedFromSheet}
+use Rattle.altitude.specs.Altitude.{altitudeOf}
+use Rattle.convert.specs.Convert.{refusedWith, placed, fitted, converted, packetToSheet, sheetToPacket}
+use Rattle.seglink.specs.Promised.{PacketValues, SheetValues, ConvertiblePacket, ConvertibleSheet, AnswerablePacket, AnswerableSheet, answerInFives, GreatestFive, loweredNumbers, Done, result, spelled, Lowering}
+use Rattle.seglink.proofs.Values.{packet-taken, sheet-taken, lowered-packet, lowered-good, kept, packets, sheets, side-result, side-converted, side-speed, side-answered, speed-none, altitude-none, in-fives, asked-lowered, placed-result, numbers-spelled, lowering}
 
 -- ==== 1. "Whatever bytes come in, every public operation ends with an answer or the one refusal the rules name."
 
--- any two outcomes that satisfy an operation's contract coincide
-pub one-outcome : (operation : List ℕ → List ℕ → Outcome) (s room : List ℕ) (o p : Outcome) → o ≡ operation s room → p ≡ operation s room → o ≡ p
-one-outcome operation s room o p e f = e ∙ sym f
+-- any two outcomes that satisfy an operation's contract coincide: answer and room of a conversion, speed, altitude
+pub one-outcome : {In Out : Type 0} (operation : In → Out) (s : In) (o p : Out) → o ≡ operation s → p ≡ operation s → o ≡ p
+one-outcome operation s o p e f = e ∙ sym f
 
 -- "A refusal returns its number and writes nothing into the lent room."
 pub packet-refused : (s room : List ℕ) → (Done (packetToSheet s room) → ⊥) → packetToSheet s room ≡ refusedWith (packetToSheet s room .answer .refusal) room
@@ -34,6 +40,19 @@ packet-refused s room n = kept (toSheet wireChanges) (fromPacket wireChanges s) 
 pub sheet-refused : (s room : List ℕ) → (Done (sheetToPacket s room) → ⊥) → sheetToPacket s room ≡ refusedWith (sheetToPacket s room .answer .refusal) room
 unfolding sheetToPacket
 sheet-refused s room n = kept (toPacket wireChanges) (fromSheet wireChanges s) room n
+
+-- the same for the questions: the number comes with speed or altitude 0
+pub packet-speed-refused : (s : List ℕ) (t : Train) (x : ℕ) → (speedFromPacket s t x .refusal ≡ 0 → ⊥) → speedFromPacket s t x .speed ≡ 0
+unfolding speedFromPacket
+packet-speed-refused s t x n = speed-none t x (fromPacket wireChanges s) n
+
+pub sheet-speed-refused : (s : List ℕ) (t : Train) (x : ℕ) → (speedFromSheet s t x .refusal ≡ 0 → ⊥) → speedFromSheet s t x .speed ≡ 0
+unfolding speedFromSheet
+sheet-speed-refused s t x n = speed-none t x (fromSheet wireChanges s) n
+
+pub altitude-refused : (s : List ℕ) → (altitudeOf s .refusal ≡ 0 → ⊥) → altitudeOf s .altitude ≡ pos 0
+unfolding altitudeOf
+altitude-refused s n = altitude-none (fromPacket wireChanges s) n
 
 -- ==== 2. "Every packet and sheet that keeps the published widths and ranges and the stated rules is converted if the room holds the result, and nothing else is."
 
@@ -102,6 +121,27 @@ sheet-again s room back ok d =
       again = ap (λ (r : Read). converted (toSheet wireChanges) r back) (ap (fromPacket wireChanges) t ∙ packet-taken m (lowered-good (c .good)));
     }
 
+-- "Every permitted speed is the one the speed rules give."
+module _ (s : List ℕ) (t : Train) (x : ℕ) where
+  -- a question is answered exactly for a packet of good values, a valid train and an x below L_SP
+  pub packet-answered : Bytes s → (speedFromPacket s t x .refusal ≡ 0) ↔ AnswerablePacket s t x
+  unfolding speedFromPacket
+  packet-answered ok = side-answered packets (toSheet wireChanges) s [] t x ok
+
+  -- and then the answer is the permitted speed of those values
+  pub packet-speed : (c : AnswerablePacket s t x) → speedFromPacket s t x ≡ record { refusal = 0; speed = speedIn t x (sheetNumbers (c .values)) }
+  unfolding speedFromPacket
+  packet-speed c = side-speed packets (toSheet wireChanges) s [] t x c
+
+  -- the same for sheets
+  pub sheet-answered : Bytes s → (speedFromSheet s t x .refusal ≡ 0) ↔ AnswerableSheet s t x
+  unfolding speedFromSheet
+  sheet-answered ok = side-answered sheets (toPacket wireChanges) s [] t x ok
+
+  pub sheet-speed : (c : AnswerableSheet s t x) → speedFromSheet s t x ≡ record { refusal = 0; speed = speedIn t x (sheetNumbers (c .values)) }
+  unfolding speedFromSheet
+  sheet-speed c = side-speed sheets (toPacket wireChanges) s [] t x c
+
 -- ==== 3. "Two accepted sheets make the same packet exactly when they agree in every field after that lowering."
 
 pub same-packet : (l m : List Item) → SheetValues l → SheetValues m
@@ -152,3 +192,31 @@ same-outcome s t room c d = (there, back)
 
     back : loweredNumbers (c .values) ≡ loweredNumbers (d .values) → sheetToPacket s room ≡ sheetToPacket t room
     back e = sheet-result s room c ∙ ap (λ (x : List ℕ). placed x room) (law .1 e) ∙ sym (sheet-result t room d)
+
+-- ==== 3. "For every accepted sheet, valid train and centimetre, the speed from its packet is the greatest multiple of 5 not above the speed from the sheet."
+
+-- for any values of an accepted sheet; the refusal is the same too, for any train and any x
+pub lowered-speed : (l : List Item) (t : Train) (x : ℕ) → SheetValues l
+    → speedFromPacket (toPacket wireChanges l) t x ≡ answerInFives (speedFromSheet (toSheet wireChanges l) t x)
+unfolding speedFromPacket speedFromSheet
+lowered-speed l t x c =
+    let m : List Item = lowered (sheetFields wireChanges) l in
+    let taken : fromPacket wireChanges (toPacket wireChanges l) ≡ accepted m = ap (fromPacket wireChanges) (sym (lowered-packet l)) ∙ packet-taken m (lowered-good c) in
+    rw (taken, sheet-taken l c) (asked-lowered t x l c)
+
+-- in the words of the operations
+pub record Lowered (s packet : List ℕ) (t : Train) (x : ℕ) : Type 0 where
+  pub answered : speedFromPacket packet t x .refusal ≡ 0
+  pub greatest : GreatestFive (speedFromSheet s t x .speed) (speedFromPacket packet t x .speed)
+
+pub speed-again : (s room : List ℕ) (t : Train) (x : ℕ) → Bytes s → Done (sheetToPacket s room) → AnswerableSheet s t x
+    → Lowered s (result (sheetToPacket s room)) t x
+speed-again s room t x ok d a =
+    let c = sheet-converted s room ok .0 d in
+    let p : result (sheetToPacket s room) ≡ toPacket wireChanges (c .values) = ap result (sheet-result s room c) ∙ placed-result (toPacket wireChanges (c .values)) room in
+    let q : speedFromPacket (result (sheetToPacket s room)) t x ≡ answerInFives (speedFromSheet s t x) =
+    ap (λ (b : List ℕ). speedFromPacket b t x) p ∙ lowered-speed (c .values) t x (c .good) ∙ ap (λ (b : List ℕ). answerInFives (speedFromSheet b t x)) (sym (c .whole)) in
+    record {
+      answered = ap (λ (o : Speed). o .refusal) q ∙ ap (λ (o : Speed). o .refusal) (sheet-speed s t x a);
+      greatest = rw q (in-fives (speedFromSheet s t x .speed));
+    }

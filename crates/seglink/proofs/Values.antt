@@ -1,13 +1,14 @@
 -- What the promises rest on: packets and sheets of good values, a conversion's outcomes, and the lowering of any tree's numbers.
 -- Assumes nothing.
-use mathlib.Core.Path.{_≡_, refl, sym, ap, _∙_}
+use mathlib.Core.Path.{_≡_, refl, sym, ap, ap₂, _∙_}
 use mathlib.Core.Bool.{true, _&&_}
 use mathlib.Core.List.{List, [], _∷_, _++_}
 use mathlib.Core.Option.{some}
 use mathlib.Core.Logic.{_↔_}
-use Prim.Native.Nat.{ℕ, _≤_}
+use Prim.Native.Nat.{ℕ, _*_, _/_, _≤_}
+use lib.IntN.{pos}
 use native.Mathlib.Omega.{arith}
-use borrow.Author.Tests.{leb-true, ltb-false, le-ltb}
+use borrow.Author.Tests.{leb-true, ltb-true, ltb-false, le-ltb, lt-ltb}
 use lib.Dec.{leb, ltb, lit<, lit≤}
 use lib.ListN.{length, drop}
 use lib.Seq.{take-at}
@@ -18,7 +19,7 @@ use Rattle.kinds.specs.declared.Item.{Item}
 use Rattle.kinds.specs.Kind.{Kind}
 use Rattle.kinds.specs.Kinds.{speed, mCurrent}
 use Rattle.fields.proofs.Lawful.{LawfulKind, speed-lowered, current-lowered}
-use Rattle.format.specs.Format.{Format, Read, accepted, refused, write, sheetNumbers}
+use Rattle.format.specs.Format.{Format, Read, accepted, refused, write, answerOf, sheetNumbers}
 use Rattle.format.specs.Media.{packet, sheet}
 use Rattle.format.specs.Conforming.{Conforming, done, also, InSheet, lowered}
 use Rattle.format.proofs.Lawful.{Lawful, goes, to-packet, lowered-bits}
@@ -29,8 +30,15 @@ use Rattle.segment.specs.Judgement.{segmentNumber, fromPacket, fromSheet, toPac
 use Rattle.segment.proofs.Framing.{framed-again, framed-only}
 use Rattle.segment.proofs.Ends.{sheetFields-lawful, bits-least, bits-most}
 use Rattle.segment.proofs.Refusals.{packet-refusal, sheet-refusal}
+use Rattle.speed.specs.declared.Train.{Train}
+use Rattle.speed.specs.Speed.{validTrain, segmentLength, speedIn, inFives}
+use Rattle.speed.proofs.Lowering.{length-stays, speed-in-fives}
+use Rattle.question.specs.declared.Speed.{Speed}
+use Rattle.question.specs.Question.{asked}
+use Rattle.question.specs.Question as question
+use Rattle.altitude.specs.Altitude.{answered}
 use Rattle.convert.specs.Convert.{Outcome, refusedWith, placed, fitted, converted}
-use Rattle.seglink.specs.Promised.{PacketValues, SheetValues, Convertible, Done, result, spelled, LoweredTo, Lowering, over, one}
+use Rattle.seglink.specs.Promised.{PacketValues, SheetValues, Convertible, Answerable, answerInFives, GreatestFive, Done, result, spelled, LoweredTo, Lowering, over, one}
 
 -- ---- packets and sheets of good values
 
@@ -130,6 +138,55 @@ module _ {judge : List ℕ → Read} {Good : List Item → Type 0} {input : List
           done-only write (judge s) room (side .refuses s ok) d λ l e h.
           let p = side .only s l ok e in
           record { values = l; good = p .0; whole = p .1; holds = h }
+
+  -- a question on speed is answered exactly where the input is written of good values, the train is valid and x below L_SP
+  module _ (t : Train) (x : ℕ) where
+    pub side-speed : (c : Answerable Good input s t x) → answerOf question.refusedWith (asked t x) (judge s) ≡ record { refusal = 0; speed = speedIn t x (sheetNumbers (c .values)) }
+    side-speed c =
+        let l = c .values in
+        ap (answerOf question.refusedWith (asked t x)) (ap judge (c .whole) ∙ side .again l (c .good)) ∙ rw (c .valid, lt-ltb x (segmentLength (sheetNumbers l)) (c .inside))
+
+    pub side-answered : Bytes s → (answerOf question.refusedWith (asked t x) (judge s) .refusal ≡ 0) ↔ Answerable Good input s t x
+    side-answered ok = (λ d. go (judge s) refl d, λ c. ap (λ (o : Speed). o .refusal) (side-speed c))
+      where
+        inside : (l : List Item) → judge s ≡ accepted l → asked t x l .refusal ≡ 0 → Answerable Good input s t x
+        inside l e d =
+            let p = side .only s l ok e in
+            by-cases (validTrain t)
+            (λ v. by-cases (ltb x (segmentLength (sheetNumbers l)))
+            (λ b. record { values = l; good = p .0; whole = p .1; valid = v; inside = ltb-true x (segmentLength (sheetNumbers l)) b })
+            (λ b. let z : _≡_ {A = ℕ} 11 0 = rw (v, b) at d in absurd (omega arith)))
+            (λ v. let z : _≡_ {A = ℕ} 10 0 = rw v at d in absurd (omega arith))
+
+        go : (r : Read) → judge s ≡ r → answerOf question.refusedWith (asked t x) r .refusal ≡ 0 → Answerable Good input s t x
+        go (accepted l) e d = inside l e d
+        go (refused q left) e d = absurd (omega (arith, side .refuses s ok q left e))
+
+-- "a refusal .. returns its number with length, speed or altitude 0"
+pub speed-none : (t : Train) (x : ℕ) (r : Read) → (answerOf question.refusedWith (asked t x) r .refusal ≡ 0 → ⊥) → answerOf question.refusedWith (asked t x) r .speed ≡ 0
+speed-none t x (refused q left) n = refl
+speed-none t x (accepted l) n =
+    by-cases (validTrain t)
+    (λ v. by-cases (ltb x (segmentLength (sheetNumbers l))) (λ b. absurd (n (rw (v, b)))) (λ b. rw (v, b)))
+    (λ v. rw v)
+
+pub altitude-none : (r : Read) → (answered r .refusal ≡ 0 → ⊥) → answered r .altitude ≡ pos 0
+altitude-none (refused q left) n = refl
+altitude-none (accepted l) n = absurd (n refl)
+
+-- ---- the greatest multiple of 5
+
+pub in-fives : (v : ℕ) → GreatestFive v (inFives v)
+in-fives v = record { fives = v / 5; multiple = refl; notAbove = omega arith; greatest = λ n h. omega arith }
+
+-- the answer from lowered values
+answered-lowered : (t : Train) (x lsp v : ℕ) → question.answered t x lsp (inFives v) ≡ answerInFives (question.answered t x lsp v)
+answered-lowered t x lsp v = by-cases (validTrain t) (λ e. by-cases (ltb x lsp) (λ b. rw (e, b)) (λ b. rw (e, b))) (λ e. rw e)
+
+pub asked-lowered : (t : Train) (x : ℕ) (l : List Item) → SheetValues l
+    → asked t x (lowered (sheetFields wireChanges) l) ≡ answerInFives (asked t x l)
+asked-lowered t x l c =
+    ap₂ (question.answered t x) (length-stays l c) (speed-in-fives t x l c) ∙ answered-lowered t x (segmentLength (sheetNumbers l)) (speedIn t x (sheetNumbers l))
 
 -- the result of what is placed
 pub placed-result : (bytes room : List ℕ) → result (placed bytes room) ≡ bytes

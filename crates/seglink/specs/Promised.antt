@@ -1,9 +1,9 @@
--- The words of the promises: what is converted, and what lowering makes of a sheet's numbers.
+-- The words of the promises: what is converted, what is answered, and what lowering makes of a sheet's numbers.
 -- Assumes nothing.
 use mathlib.Core.Path.{_≡_}
-use mathlib.Core.Bool.{cond}
+use mathlib.Core.Bool.{true, cond}
 use mathlib.Core.List.{List, [], _∷_, _++_}
-use Prim.Native.Nat.{ℕ, _+_, _*_, _-_, _/_, _≤_}
+use Prim.Native.Nat.{ℕ, _+_, _*_, _-_, _/_, _≤_, _<_}
 use lib.Dec.{eqb}
 use lib.ListN.{length, take}
 use Rattle.numbers.specs.Numbers.{groupsIn}
@@ -14,6 +14,9 @@ use Rattle.format.specs.Format.{Format, end, field, sheetNumbers}
 use Rattle.format.specs.Conforming.{Conforming, InPacket, InSheet, lowered}
 use Rattle.segment.specs.Segment.{sheetFields, wireChanges}
 use Rattle.segment.specs.Judgement.{toPacket, toSheet}
+use Rattle.speed.specs.declared.Train.{Train}
+use Rattle.speed.specs.Speed.{validTrain, segmentLength, inFives}
+use Rattle.question.specs.declared.Speed.{Speed}
 use Rattle.convert.specs.Convert.{Outcome}
 
 -- "keeps the published widths and ranges and the stated rules": one good value for each field of the tree, and no more
@@ -35,6 +38,31 @@ ConvertiblePacket s room = Convertible PacketValues (toPacket wireChanges) (toSh
 
 abbrev pub ConvertibleSheet : List ℕ → List ℕ → Type 0
 ConvertibleSheet s room = Convertible SheetValues (toSheet wireChanges) (toPacket wireChanges) s room
+
+-- the input is written of good values, the train is valid, and x is "from 0 to L_SP - 1"
+pub record Answerable (Good : List Item → Type 0) (input : List Item → List ℕ) (s : List ℕ) (t : Train) (x : ℕ) : Type 0 where
+  pub values : List Item
+  pub good : Good values
+  pub whole : s ≡ input values
+  pub valid : validTrain t ≡ true
+  pub inside : x < segmentLength (sheetNumbers values)
+
+abbrev pub AnswerablePacket : List ℕ → Train → ℕ → Type 0
+AnswerablePacket s t x = Answerable PacketValues (toPacket wireChanges) s t x
+
+abbrev pub AnswerableSheet : List ℕ → Train → ℕ → Type 0
+AnswerableSheet s t x = Answerable SheetValues (toSheet wireChanges) s t x
+
+-- the same answer with its speed lowered to a multiple of 5
+abbrev pub answerInFives : Speed → Speed
+answerInFives o = record { refusal = o .refusal; speed = inFives (o .speed) }
+
+-- w is "the greatest multiple of 5 not above" v
+pub record GreatestFive (v w : ℕ) : Type 0 where
+  pub fives : ℕ
+  pub multiple : w ≡ fives * 5
+  pub notAbove : w ≤ v
+  pub greatest : (n : ℕ) → n * 5 ≤ v → n * 5 ≤ w
 
 -- "converted": the answer is no refusal
 abbrev pub Done : Outcome → Type 0

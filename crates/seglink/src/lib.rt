@@ -1,9 +1,12 @@
 // The public operations, under the names that the customer's server links.
 ghost use mathlib.Core.Path.{_≡_};
 ghost use Rattle.convert.specs.Convert.{packetToSheet, sheetToPacket};
+ghost use Rattle.question.specs.Question.{speedFromPacket, speedFromSheet};
 ghost use Rattle.altitude.specs.Altitude.{altitudeOf};
 use altitude::Altitude;
 use convert::Converted;
+use question::Speed;
+use speed::Train;
 
 // The sheet of a packet, in a lent room: a refusal's number, or 0 and the sheet's length.
 #[no_mangle]
@@ -19,6 +22,22 @@ pub extern "C" fn seglink_sheet_to_packet(sheet: &[u8], room: &mut [u8]) -> Conv
     ensures { λ r. ⌜ record { answer = r; room = now (room .exit) } ≡ sheetToPacket (now (sheet .entry)) (now (room .entry)) ⌝ }
 {
     convert::to_packet::sheet_to_packet(sheet, room)
+}
+
+// The permitted speed at x for a train, from a packet: a refusal's number, or 0 and the speed in km/h.
+#[no_mangle]
+pub extern "C" fn seglink_speed_from_packet(packet: &[u8], train: Train, x: u32) -> Speed
+    ensures { λ r. ⌜ r ≡ speedFromPacket (now (packet .entry)) train x ⌝ }
+{
+    question::speed_from_packet(packet, train, x)
+}
+
+// The permitted speed at x for a train, from a sheet: a refusal's number, or 0 and the speed in km/h.
+#[no_mangle]
+pub extern "C" fn seglink_speed_from_sheet(sheet: &[u8], train: Train, x: u32) -> Speed
+    ensures { λ r. ⌜ r ≡ speedFromSheet (now (sheet .entry)) train x ⌝ }
+{
+    question::speed_from_sheet(sheet, train, x)
 }
 
 // The altitude of a packet in signed centimetres: a refusal's number, or 0 and the altitude.

@@ -22,7 +22,7 @@ use Rattle.speed.specs.Speed.{entriesOf, afterEntries, elementOf, afterE
 use Rattle.speed.proofs.Laws.{lowered-permitted}
 
 -- a number that is the same in both
-when-is : (b : Bool) (a v : ℕ) → when b a ≡ some v → v ≡ a
+pub when-is : (b : Bool) (a v : ℕ) → when b a ≡ some v → v ≡ a
 when-is true a v e = let q : a ≡ v = cc in sym q
 when-is false a v e = absurd (let z : _≡_ {A = ℕ} 0 1 = cc in omega arith)
 
@@ -154,16 +154,28 @@ module _ {whole : Format} {l : List Item} {n : ℕ} {k : Kind} where
   past : {f : Format} → Past whole l n (then k f) → Past whole l (n + 1) f
   past p = past-field p λ i g here there q. q
 
--- the speed from a sheet's values as its packet gives them back
-pub speed-in-fives : (t : Train) (x : ℕ) (l : List Item) → Conforming InSheet (sheetFields wireChanges) l
-    → speedIn t x (sheetNumbers (lowered (sheetFields wireChanges) l)) ≡ inFives (speedIn t x (sheetNumbers l))
+-- L_SP and the elements of a sheet's values, as its packet gives them back
+at-profile : {C : Type 0} (l : List Item) → Conforming InSheet (sheetFields wireChanges) l
+    → (let low : List ℕ = sheetNumbers (lowered (sheetFields wireChanges) l) in
+    segmentLength low ≡ segmentLength (sheetNumbers l) → elementsFrom 0 (profileOf low) ≡ map elementInFives (elementsFrom 0 (profileOf (sheetNumbers l))) → C)
+    → C
 unfolding sheetFields fields body lists
-speed-in-fives t x l c =
+at-profile l c k =
     let whole = sheetFields wireChanges in
     let p : Past whole l 0 whole = record { rest = l; good = c; here = refl; there = refl } in
     past-field (past (past (past (past (past (past (past (past (past (past p)))))))))) λ i g here there q.
     let r = past (past (past q)) in
-    let same : segmentLength (sheetNumbers (lowered whole l)) ≡ segmentLength (sheetNumbers l) =
-    sym (getD-drop 10 (sheetNumbers (lowered whole l)) 0 0) ∙ there ∙ same-is i g ∙ sym here ∙ getD-drop 10 (sheetNumbers l) 0 0 in
-    let es = ap (elementsFrom 0) (r .there) ∙ profile-lowered 0 (i .packet) _ (r .rest) (r .good) ∙ ap (λ (s : List ℕ). map elementInFives (elementsFrom 0 s)) (sym (r .here)) in
+    k (sym (getD-drop 10 (sheetNumbers (lowered whole l)) 0 0) ∙ there ∙ same-is i g ∙ sym here ∙ getD-drop 10 (sheetNumbers l) 0 0)
+    (ap (elementsFrom 0) (r .there) ∙ profile-lowered 0 (i .packet) _ (r .rest) (r .good) ∙ ap (λ (s : List ℕ). map elementInFives (elementsFrom 0 s)) (sym (r .here)))
+
+-- the length stays
+pub length-stays : (l : List Item) → Conforming InSheet (sheetFields wireChanges) l
+    → segmentLength (sheetNumbers (lowered (sheetFields wireChanges) l)) ≡ segmentLength (sheetNumbers l)
+length-stays l c = at-profile l c λ same es. same
+
+-- the speed from a sheet's values as its packet gives them back
+pub speed-in-fives : (t : Train) (x : ℕ) (l : List Item) → Conforming InSheet (sheetFields wireChanges) l
+    → speedIn t x (sheetNumbers (lowered (sheetFields wireChanges) l)) ≡ inFives (speedIn t x (sheetNumbers l))
+speed-in-fives t x l c =
+    at-profile l c λ same es.
     ap₂ (λ (n : ℕ) (e : List Element). permitted t n x e) same es ∙ lowered-permitted t (segmentLength (sheetNumbers l)) x (elementsFrom 0 (profileOf (sheetNumbers l)))

@@ -88,7 +88,75 @@ restOf w = rest (w .changed) (w .part) (w .lsp) (w .last) (w .left)
 abbrev pub formatOf : Walk → Format
 formatOf w = standsAt (w .phase) w (restOf w)
 
+-- ---- the walk after a value
+
+-- before a sheet's first number
+abbrev pub firstWalk : Walk
+firstWalk = record { phase = NidPacketAto; part = Speeds; changed = false; lsp = 0; last = 0; left = 0; more = 0; chosen = 0 }
+
 -- the same element at another field, with another length, count of entries and value that was chosen
 abbrev pub moved : Walk → Phase → ℕ → ℕ → ℕ → Walk
 moved w phase lsp more chosen =
     record { phase = phase; part = w .part; changed = w .changed; lsp = lsp; last = w .last; left = w .left; more = more; chosen = chosen }
+
+-- at another field, on whose like nothing but this value depends
+abbrev pub to : Walk → Phase → ℕ → Walk
+to w phase chosen = moved w phase (w .lsp) (w .more) chosen
+
+-- before an element of a part: its first, or that of the change at last, with left changes after it
+abbrev pub beforeElement : Part → Bool → ℕ → ℕ → ℕ → Walk
+beforeElement p changed lsp last left =
+    record { phase = firstPhase p; part = p; changed = changed; lsp = lsp; last = last; left = left; more = 0; chosen = 0 }
+
+-- after the last change of a part
+abbrev pub partEnd : Part → ℕ → Walk
+partEnd Speeds lsp = beforeElement Volts false lsp 0 0
+partEnd Volts lsp = beforeElement Amperes false lsp 0 0
+partEnd Amperes lsp = record { phase = End; part = Amperes; changed = false; lsp = lsp; last = 0; left = 0; more = 0; chosen = 0 }
+
+-- before n changes of a part, after the location last
+abbrev pub beforeChanges : Part → ℕ → ℕ → ℕ → Walk
+beforeChanges p lsp last zero = partEnd p lsp
+beforeChanges p lsp last (suc n) = record { phase = DLocation; part = p; changed = true; lsp = lsp; last = last; left = n; more = 0; chosen = 0 }
+
+-- after an element's last field: the count of a part's changes, or the changes that are left
+abbrev pub pastElement : Bool → Walk → Walk
+pastElement false w = to w Changes 0
+pastElement true w = beforeChanges (w .part) (w .lsp) (w .last) (w .left)
+
+-- before n specific entries of an element
+abbrev pub beforeEntries : Walk → ℕ → Walk
+beforeEntries w zero = pastElement (w .changed) w
+beforeEntries w (suc n) = moved w QDiff (w .lsp) n 0
+
+-- the walk after the value v of the field that stands next
+abbrev pub onFrom : Phase → Walk → ℕ → Walk
+onFrom NidPacketAto w v = to w NidOperational 0
+onFrom NidOperational w v = to w NidEngine 0
+onFrom NidEngine w v = to w TTimestampDate 0
+onFrom TTimestampDate w v = to w TTimestampSeconds 0
+onFrom TTimestampSeconds w v = to w NPacketCounter 0
+onFrom NPacketCounter w v = to w NidC 0
+onFrom NidC w v = to w NidSp 0
+onFrom NidSp w v = to w MajorVersion 0
+onFrom MajorVersion w v = to w MinorVersion 0
+onFrom MinorVersion w v = to w LSp 0
+onFrom LSp w v = moved w DEoAOffset v (w .more) (w .chosen)
+onFrom DEoAOffset w v = to w QUtcOffset 0
+onFrom QUtcOffset w v = to w MSpAltitude 0
+onFrom MSpAltitude w v = beforeElement Speeds false (w .lsp) 0 0
+onFrom VStatic w v = to w QFront 0
+onFrom QFront w v = to w Entries 0
+onFrom Entries w v = beforeEntries w v
+onFrom QDiff w v = to w Class v
+onFrom Class w v = to w VDiff 0
+onFrom VDiff w v = beforeEntries w (w .more)
+onFrom MVoltage w v = to w NidCTraction v
+onFrom NidCTraction w v = pastElement (w .changed) w
+onFrom MCurrent w v = pastElement (w .changed) w
+onFrom Changes w v = beforeChanges (w .part) (w .lsp) 0 v
+onFrom DLocation w v = beforeElement (w .part) true (w .lsp) v (w .left)
+onFrom End w v = w
+
+abbrev pub on : Walk → ℕ → Walk
+on w v = onFrom (w .phase) w v

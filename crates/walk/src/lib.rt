@@ -1,8 +1,7 @@
 // The walk: a place in the segment's tree, one value on at a time.
 ghost use mathlib.Core.Path.{_≡_};
-ghost use Rattle.format.specs.Place.{next, after};
-ghost use Rattle.segment.specs.Segment.{body, entries, sheetFields, wireChanges};
-ghost use Rattle.walk.specs.Walk.{asked, startOf, firstPhase, limitOf, afterPart, changesLeft, rest, restOf, formatOf, moved};
+ghost use Rattle.format.specs.Place.{next};
+ghost use Rattle.walk.specs.Walk.{asked, firstPhase, limitOf, formatOf, firstWalk, moved, to, beforeElement, partEnd, beforeChanges, pastElement, beforeEntries, on};
 use kinds::Rule;
 use kinds::body;
 use kinds::header;
@@ -70,7 +69,7 @@ pub enum Asked {
 
 // Before a sheet's first number.
 pub fn start() -> Walk
-    ensures { λ r. ⌜ formatOf r ≡ sheetFields wireChanges ⌝ }
+    ensures { λ r. ⌜ r ≡ firstWalk ⌝ }
 {
     Walk {
         phase: Phase::NidPacketAto,
@@ -86,7 +85,7 @@ pub fn start() -> Walk
 
 // Before the body's first field.
 pub fn body_start() -> Walk
-    ensures { λ r. ⌜ formatOf r ≡ body wireChanges ⌝ }
+    ensures { λ r. ⌜ r ≡ to firstWalk Phase.NidC 0 ⌝ }
 {
     start().at(Phase::NidC, 0)
 }
@@ -113,7 +112,7 @@ fn first_phase(part: Part) -> Phase
 
 // Before an element of a part: its first, or that of the change at last, with left changes after it.
 fn element(part: Part, changed: bool, lsp: u32, last: u32, left: u32) -> Walk
-    ensures { λ r. ⌜ formatOf r ≡ startOf part (rest changed part lsp last left) ⌝ }
+    ensures { λ r. ⌜ r ≡ beforeElement part changed lsp last left ⌝ }
 {
     let phase = first_phase(part);
     Walk {
@@ -130,7 +129,7 @@ fn element(part: Part, changed: bool, lsp: u32, last: u32, left: u32) -> Walk
 
 // After the last change of a part.
 fn part_end(part: Part, lsp: u32) -> Walk
-    ensures { λ r. ⌜ formatOf r ≡ afterPart part lsp ⌝ }
+    ensures { λ r. ⌜ r ≡ partEnd part lsp ⌝ }
 {
     match part {
         Part::Speeds => element(Part::Volts, false, lsp, 0, 0),
@@ -150,7 +149,7 @@ fn part_end(part: Part, lsp: u32) -> Walk
 
 // Before n changes of a part, after the location last.
 fn before_changes(part: Part, lsp: u32, last: u32, n: u32) -> Walk
-    ensures { λ r. ⌜ formatOf r ≡ changesLeft part lsp last n ⌝ }
+    ensures { λ r. ⌜ r ≡ beforeChanges part lsp last n ⌝ }
 {
     if n == 0 {
         return part_end(part, lsp);
@@ -170,7 +169,7 @@ fn before_changes(part: Part, lsp: u32, last: u32, n: u32) -> Walk
 impl Walk {
     // The same element, at another field, with what the field depends on.
     fn at(self, phase: Phase, chosen: u32) -> Walk
-        ensures { λ r. ⌜ r ≡ moved self phase (self .lsp) (self .more) chosen ⌝ }
+        ensures { λ r. ⌜ r ≡ to self phase chosen ⌝ }
     {
         let part = self.part;
         Walk {
@@ -204,7 +203,7 @@ impl Walk {
 
     // After the element's last field.
     fn after_element(self) -> Walk
-        ensures { λ r. ⌜ formatOf r ≡ restOf self ⌝ }
+        ensures { λ r. ⌜ r ≡ pastElement (self .changed) self ⌝ }
     {
         let part = self.part;
         if self.changed {
@@ -215,7 +214,7 @@ impl Walk {
 
     // Before n specific entries of the element.
     fn before_entries(self, n: u32) -> Walk
-        ensures { λ r. ⌜ formatOf r ≡ entries n (restOf self) ⌝ }
+        ensures { λ r. ⌜ r ≡ beforeEntries self n ⌝ }
     {
         if n == 0 {
             return self.after_element();
@@ -271,7 +270,7 @@ impl Walk {
 
     // The walk after the value v of the field that stands next.
     pub fn next(self, v: u32) -> Walk
-        ensures { λ r. ⌜ formatOf r ≡ after (formatOf self) v ⌝ }
+        ensures { λ r. ⌜ r ≡ on self v ⌝ }
     {
         let phase = self.phase;
         let part = self.part;

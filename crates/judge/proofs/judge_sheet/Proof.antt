@@ -2,7 +2,10 @@
 use Rattle.segment.proofs.Ends.{bits, sheet-fitting}
 use Rattle.format.proofs.Sized.{Fitting, fitting-after}
 use Rattle.bits.specs.Bits.{Bytes}
-use Rattle.judge.proofs.Loops.{Judging, went, judging-on, judging-off, judging-end, judging-left}
+use Rattle.media.proofs.Loops.{Going, went, going-on, going-off, going-end, going-left}
+use Rattle.judge.proofs.Sizes.{sized, sized-on, sized-end}
+use Rattle.judge.specs.declared.Verdict.the-variants.{Refused}
+use Rattle.walk.proofs.Standing.{walk-on}
 use Rattle.judge.specs.Verdict.{sheetVerdict}
 use Rattle.walk.specs.Walk.{asked, formatOf}
 use Rattle.media.proofs.Sources.{sheet-source}
@@ -25,7 +28,7 @@ use Rattle.judge.proofs.judge_sheet.Statement.{statement}
 use Rattle.judge.proofs.judge_sheet.Tie as tie
 
 abbrev Inv-loop : tie.InvT-loop
-Inv-loop s w₀ at₀ n₀ w at n = ((ok : Bytes s) → Judging (sheet-source s ok) packet (sheetVerdict s) (formatOf w) at n) × (at ≤ length s) × Fitting bits (formatOf w) n 15988
+Inv-loop s w₀ at₀ n₀ w at n = ((ok : Bytes s) → Going (sheet-source s ok) Refused (sheetVerdict s) (formatOf w) at (sized packet (formatOf w) n)) × (at ≤ length s) × Fitting bits (formatOf w) n 15988
 
 abbrev μ-loop : tie.MeasureT-loop
 μ-loop s w₀ at₀ n₀ w at n = length s - at
@@ -51,7 +54,7 @@ returns c =
     let l = c .before .before .before .before .loop in
     let ok = bytes-of (now (a .s)) (λ i. c .before .before .before .before .before .before .shared-slice-known .given i .fits) in
     let e = sym (c .before .before .before .rule .ensures) ∙ ap asked (c .before .enum-told .given .1) in
-    judging-end (sheet-source (now (a .s)) ok) packet (l .inv .0 ok) e (drop-of-length-le (now (a .s)) {i = l .at} (omega arith))
+    sized-end packet (formatOf (l .w)) (l .n) ∙ going-end (sheet-source (now (a .s)) ok) Refused (l .inv .0 ok) e (drop-of-length-le (now (a .s)) {i = l .at} (omega arith))
 
 returns-2 : tie.Need-returns-2 Inv-loop μ-loop
 returns-2 c =
@@ -59,7 +62,7 @@ returns-2 c =
     let l = c .before .before .before .before .loop in
     let ok = bytes-of (now (a .s)) (λ i. c .before .before .before .before .before .before .shared-slice-known .given i .fits) in
     let e = sym (c .before .before .before .rule .ensures) ∙ ap asked (c .before .enum-told .given .1) in
-    judging-left (sheet-source (now (a .s)) ok) packet (l .inv .0 ok) e (omega (arith, length-drop (l .at) (now (a .s)), l .inv .1, c .if1 .left))
+    going-left (sheet-source (now (a .s)) ok) Refused (l .inv .0 ok) e (omega (arith, length-drop (l .at) (now (a .s)), l .inv .1, c .if1 .left))
 
 enum-known-rule : tie.Need-enum-known-rule Inv-loop μ-loop
 enum-known-rule c = search needs
@@ -77,7 +80,7 @@ returns-3 c =
     let ok = bytes-of (now (a .s)) (λ i. c .before .before .before .before .before .before .before .before .before .before .shared-slice-known .given i .fits) in
     let e = sym (c .before .before .before .before .before .before .before .rule .ensures) ∙ ap asked (c .before .before .before .before .before .rule2 .given .1) in
     let t = sym (c .before .r .given .1) ∙ c .before .before .before .take-number .ensures in
-    judging-off (sheet-source (now (a .s)) ok) packet (l .inv .0 ok) e t
+    going-off (sheet-source (now (a .s)) ok) Refused (l .inv .0 ok) e t
 
 enum-known-i : tie.Need-enum-known-i Inv-loop μ-loop
 enum-known-i c = search needs
@@ -124,9 +127,9 @@ loop-again c =
     let e = sym (c .before .before .before .before .before .before .before .before .before .rule .ensures) ∙ ap asked (c .before .before .before .before .before .before .before .rule2 .given .1) in
     let t = sym (c .before .before .before .i .given .1) ∙ c .before .before .before .before .before .take-number .ensures in
     let g = went (sheet-source (now (a .s)) ok) (l .inv .0 ok .lawful) (l .inv .1) e t in
-    let v = c .before .before .before .i .given .0 .0 .packet in
-    rw (c .before .next .ensures, c .width .ensures)
-    (λ ok. rw (length-bits (meaning _ .width) v) at (judging-on (sheet-source (now (a .s)) ok) packet (l .inv .0 ok) e t), g .here, fitting-after (l .inv .2) e v (g .allowed))
+    let i = c .before .before .before .i .given .0 .0 in
+    rw (walk-on (l .w) (i .packet) (c .before .next .ensures), c .width .ensures)
+    (λ ok. rw (length-bits (meaning _ .width) (i .packet)) at (going-on (sheet-source (now (a .s)) ok) Refused (l .inv .0 ok) _ e t (sized-on packet (formatOf (l .w)) (l .n) i e)), g .here, fitting-after (l .inv .2) e (i .packet) (g .allowed))
 
 pub judge-sheet-spec : {M : Type 1} → statement M
 judge-sheet-spec =

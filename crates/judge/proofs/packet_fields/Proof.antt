@@ -1,14 +1,19 @@
 -- `judge::packet_fields` meets its contract.
-use Rattle.judge.proofs.Framing.{fieldsVerdict}
+use Rattle.judge.specs.Verdict.{fieldsVerdict}
 use Rattle.numbers.proofs.Counting.{count-five}
 use Rattle.segment.proofs.Ends.{fields-lawful}
 use Rattle.segment.specs.Segment.{wireChanges}
-use Rattle.judge.proofs.Loops.{Judging, went, judging-on, judging-off, judging-end, judging-left}
+use Rattle.media.proofs.Loops.{Going, went, alike, going-on, going-off, going-end, going-left}
+use Rattle.judge.proofs.Sizes.{sized, sized-first, sized-on, sized-end}
+use Rattle.judge.specs.declared.Verdict.the-variants.{Refused}
+use Rattle.walk.proofs.Standing.{walk-on}
 use Rattle.walk.specs.Walk.{asked, formatOf}
 use Rattle.media.proofs.Sources.{packet-source, rest-none, rest-some}
-use Rattle.segment.specs.Segment.{sheetFields}
+use Rattle.segment.specs.Segment.{fields, sheetFields}
 use Rattle.format.proofs.Stepping.{lawful-kind}
-use Rattle.format.specs.Media.{sheet}
+use Rattle.format.specs.Format.{read}
+use Rattle.format.specs.Media.{packet, sheet}
+use Rattle.media.specs.Places.{rest}
 use lib.Dec.{lit≤}
 use Prim.Native.Nat.{_*_, _-_, _≤_}
 use mathlib.Core.Path.{refl, sym, ap, _∙_}
@@ -19,7 +24,7 @@ use Rattle.judge.proofs.packet_fields.Statement.{statement}
 use Rattle.judge.proofs.packet_fields.Tie as tie
 
 abbrev Inv-loop : tie.InvT-loop
-Inv-loop s stop w₀ at₀ n₀ w at n = Judging (packet-source s stop) sheet (fieldsVerdict s stop) (formatOf w) at n × (n ≤ 5 * at)
+Inv-loop s stop w₀ at₀ n₀ w at n = Going (packet-source s stop) Refused (fieldsVerdict s stop) (formatOf w) at (sized sheet (formatOf w) n) × (n ≤ 5 * at)
 
 abbrev μ-loop : tie.MeasureT-loop
 μ-loop s stop w₀ at₀ n₀ w at n = stop - at
@@ -33,8 +38,10 @@ next-requires c κs = tt
 loop-holds : tie.Need-loop-holds Inv-loop μ-loop
 unfolding sheetFields
 loop-holds c =
+    let a = c .before .before .before .args in
+    let r = read packet (fields wireChanges) (rest (now (a .s)) 24 (a .stop)) in
     rw (c .next .ensures, c .before .start .ensures)
-    (record { lawful = fields-lawful wireChanges (lit≤ tt); here = c .before .before .before .pre; same = refl }, omega arith)
+    (record { lawful = fields-lawful wireChanges (lit≤ tt); here = c .before .before .before .pre; same = alike Refused _ _ r sized-first }, omega arith)
 
 rule-requires : tie.Need-rule-requires Inv-loop μ-loop
 rule-requires c κs = tt
@@ -47,14 +54,14 @@ returns c =
     let a = c .before .before .before .before .before .before .before .before .args in
     let l = c .before .before .before .before .loop in
     let e = sym (c .before .before .before .rule .ensures) ∙ ap asked (c .before .enum-told .given .1) in
-    judging-end (packet-source (now (a .s)) (a .stop)) sheet (l .inv .0) e (rest-none (now (a .s)) (a .stop) (l .at) (c .if1 .taken))
+    sized-end sheet (formatOf (l .w)) (l .n) ∙ going-end (packet-source (now (a .s)) (a .stop)) Refused (l .inv .0) e (rest-none (now (a .s)) (a .stop) (l .at) (c .if1 .taken))
 
 returns-2 : tie.Need-returns-2 Inv-loop μ-loop
 returns-2 c =
     let a = c .before .before .before .before .before .before .before .before .args in
     let l = c .before .before .before .before .loop in
     let e = sym (c .before .before .before .rule .ensures) ∙ ap asked (c .before .enum-told .given .1) in
-    judging-left (packet-source (now (a .s)) (a .stop)) sheet (l .inv .0) e (rest-some (now (a .s)) (a .stop) (l .at) (l .inv .0 .here) (c .if1 .left))
+    going-left (packet-source (now (a .s)) (a .stop)) Refused (l .inv .0) e (rest-some (now (a .s)) (a .stop) (l .at) (l .inv .0 .here) (c .if1 .left))
 
 enum-known-rule : tie.Need-enum-known-rule Inv-loop μ-loop
 enum-known-rule c = search needs
@@ -74,7 +81,7 @@ returns-3 c =
     let l = c .before .before .before .before .before .before .before .before .loop in
     let e = sym (c .before .before .before .before .before .before .before .rule .ensures) ∙ ap asked (c .before .before .before .before .before .rule2 .given .1) in
     let t = sym (c .before .r .given .1) ∙ c .before .before .before .take-bits .ensures in
-    judging-off (packet-source (now (a .s)) (a .stop)) sheet (l .inv .0) e t
+    going-off (packet-source (now (a .s)) (a .stop)) Refused (l .inv .0) e t
 
 enum-known-i : tie.Need-enum-known-i Inv-loop μ-loop
 enum-known-i c = search needs
@@ -109,8 +116,9 @@ loop-again c =
     let t = sym (c .before .before .before .i .given .1) ∙ c .before .before .before .before .before .take-bits .ensures in
     let p = packet-source (now (a .s)) (a .stop) in
     let g = went p (l .inv .0 .lawful) (l .inv .0 .here) e t in
-    rw (c .before .next2 .ensures, c .groups .ensures)
-    (judging-on p sheet (l .inv .0) e t, omega (arith, l .inv .1, g .further, count-five (c .before .before .before .i .given .0 .0 .sheet)))
+    let i = c .before .before .before .i .given .0 .0 in
+    rw (walk-on (l .w) (i .packet) (c .before .next2 .ensures), c .groups .ensures)
+    (going-on p Refused (l .inv .0) _ e t (sized-on sheet (formatOf (l .w)) (l .n) i e), omega (arith, l .inv .1, g .further, count-five (i .sheet)))
 
 pub packet-fields-spec : {M : Type 1} → statement M
 packet-fields-spec =

@@ -1,5 +1,4 @@
 -- `walk::body_start` meets its contract.
-use Rattle.segment.specs.Segment.{body, fields, sheetFields}
 use borrow.Author.Needs.{needs}
 use Rattle.walk.proofs.body_start.Statement.{statement}
 use Rattle.walk.proofs.body_start.Tie as tie
@@ -11,8 +10,7 @@ at-requires : tie.Need-at-requires
 at-requires c κs = search needs
 
 returns : tie.Need-returns
-unfolding body fields sheetFields
-returns c = rw (c .at .ensures)
+returns c = rw (c .at .ensures, c .before .start .ensures)
 
 pub body-start-spec : {M : Type 1} → statement M
 body-start-spec = tie.close (tie.spec start-requires at-requires returns)

@@ -1,8 +1,10 @@
 -- `convert::to_packet::write_body` meets its contract.
+use Rattle.walk.proofs.Standing.{walk-on, body-stands}
 use Rattle.convert.proofs.ToPacket.{body-lawful, body-done}
 use Rattle.convert.specs.Convert.{bodyBitsOf}
 use Rattle.walk.specs.Walk.{asked, formatOf}
-use Rattle.media.proofs.Writing.{Writing, went, never-off, writing-on, field-fits, writing-all, writing-end}
+use Rattle.media.proofs.Loops.{went}
+use Rattle.media.proofs.Writing.{Writing, never-off, writing-on, field-fits, writing-all, writing-end}
 use Rattle.media.proofs.Sources.{sheet-source}
 use Rattle.format.proofs.Stepping.{lawful-kind}
 use Rattle.format.specs.Media.{packet}
@@ -33,7 +35,7 @@ body-start-requires c κs = tt
 loop-holds : tie.Need-loop-holds Inv-loop μ-loop
 loop-holds c =
     let p = c .before .before .before .pre in
-    rw (c .body-start .ensures)
+    rw (body-stands (c .body-start .ensures))
     (λ ok. record { reading = record { lawful = body-lawful; here = p .0 .inside; values = _; reads = p .0 .accepts }; makes = refl; ends = omega arith }, refl)
 
 rule-requires : tie.Need-rule-requires Inv-loop μ-loop
@@ -168,7 +170,7 @@ loop-again c =
     let v = c .before .before .before .before .before .before .before .i .given .0 .0 .packet in
     let k = meaning (c .before .before .before .before .before .before .before .before .before .before .before .rule2 .given .0 .0) in
     let q = c .before .before .before .store-field2 .ensures in
-    rw (c .next .ensures, q, c .before .before .before .before .before .width .ensures, with-bits (l .body) (l .bit) (k .width) v)
+    rw (walk-on (l .w) v (c .next .ensures), q, c .before .before .before .before .before .width .ensures, with-bits (l .body) (l .bit) (k .width) v)
     (λ ok. rw (length-bits (k .width) v) at (writing-on (sheet-source (now (a .sheet)) ok) packet (l .inv .0 ok) e t), with-length (l .body) (l .bit) (k .width) v ∙ l .inv .1)
 
 pub write-body-spec : {M : Type 1} → statement M

@@ -1,4 +1,5 @@
 -- `convert::to_packet::write_header` meets its contract.
+use Rattle.walk.proofs.Standing.{walk-on, first-stands}
 use Rattle.convert.proofs.ToPacket.{Heading, heading-start, header-start, heading-on, field-end, head-inside, head-goes-on, header-cells, body-place, body-rest, bits-low}
 use Rattle.convert.specs.Convert.{bitsOfSheet}
 use Rattle.walk.specs.Walk.{asked, formatOf}
@@ -54,7 +55,7 @@ loop-holds c =
     let p = c .before .before .before .before .before .before .before .before .before .before .before .before .before .pre in
     let q = c .before .before .before .before .before .store-field2 .ensures ∙ ap (λ (h : List ℕ). withField h 8 16 (a .bits)) (c .before .before .before .before .before .before .before .before .before .store-field .ensures) in
     let n = ap length q ∙ with-length (withField (now (a .header)) 0 8 6) 8 16 (a .bits) ∙ with-length (now (a .header)) 0 8 6 ∙ p .0 in
-    let f = c .before .next .ensures ∙ ap (λ (g : Format). after g 6) (c .before .before .start .ensures) in (
+    let f = walk-on (c .before .before .start .result) 6 (c .before .next .ensures) ∙ ap (λ (g : Format). after g 6) (first-stands (c .before .before .start .ensures)) in (
       λ ok. heading-start (now (a .sheet)) ok (p .2) _ _ _ f (c .groups .ensures) (rw q (header-start (now (a .header)) (a .bits) (bitsOfSheet (now (a .sheet))) (p .0) (p .1))),
       n,
       bytes-of (c .before .before .before .before .before .store-field2 .last .0) (λ i. c .before .before .before .slice-known3 .given i .fits),
@@ -163,7 +164,7 @@ loop-again c =
     let k = meaning (c .before .before .before .before .before .before .before .before .before .before .before .rule2 .given .0 .0) in
     let q = c .before .before .before .store-field3 .ensures in
     let some-left : 0 < l .left = omega (arith, c .before .before .before .before .before .before .before .before .before .before .before .before .before .before .loop-test .taken) in
-    rw (c .next2 .ensures, q, c .before .before .before .before .before .width .ensures, with-bits (l .header) (l .bit) (k .width) v) (
+    rw (walk-on (l .w) v (c .next2 .ensures), q, c .before .before .before .before .before .width .ensures, with-bits (l .header) (l .bit) (k .width) v) (
       λ ok. heading-on (now (a .sheet)) ok (l .inv .0 ok) some-left e t,
       with-length (l .header) (l .bit) (k .width) v ∙ l .inv .1,
       with-small (l .header) (l .bit) (k .width) v,

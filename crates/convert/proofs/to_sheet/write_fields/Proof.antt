@@ -1,7 +1,9 @@
 -- `convert::to_sheet::write_fields` meets its contract.
+use Rattle.walk.proofs.Standing.{walk-on}
 use Rattle.convert.specs.Convert.{fieldsOf}
 use Rattle.walk.specs.Walk.{asked, formatOf}
-use Rattle.media.proofs.Writing.{Writing, went, never-off, writing-on, field-fits, writing-end}
+use Rattle.media.proofs.Loops.{went}
+use Rattle.media.proofs.Writing.{Writing, never-off, writing-on, field-fits, writing-end}
 use Rattle.media.proofs.Sources.{packet-source}
 use Rattle.segment.proofs.Ends.{fields-lawful}
 use Rattle.segment.specs.Segment.{sheetFields, wireChanges}
@@ -108,7 +110,7 @@ loop-again c =
     let q = c .before .before .before .put-number .ensures in
     let n = ap (λ (x : Put). x .next) q in
     let m = ap (λ (x : Put). x .bytes) q in
-    rw (c .next2 .ensures, n, m) (writing-on (packet-source (now (a .packet)) (a .stop)) sheet (l .inv .0) e t, length-sets (l .room) (l .n) (groupsIn (c .before .before .before .before .before .before .i .given .0 .0 .sheet)) ∙ l .inv .1)
+    rw (walk-on (l .w) (c .before .before .before .before .before .before .i .given .0 .0 .packet) (c .next2 .ensures), n, m) (writing-on (packet-source (now (a .packet)) (a .stop)) sheet (l .inv .0) e t, length-sets (l .room) (l .n) (groupsIn (c .before .before .before .before .before .before .i .given .0 .0 .sheet)) ∙ l .inv .1)
 
 pub write-fields-spec : {M : Type 1} → statement M
 write-fields-spec =

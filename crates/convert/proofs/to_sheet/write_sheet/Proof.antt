@@ -2,7 +2,8 @@
 use Rattle.numbers.specs.Numbers.{Put, groupsIn}
 use lib.Seq.{length-sets}
 use lib.ListN.{length}
-use Rattle.convert.proofs.ToSheet.{accepted-frame, number-fits, fields-writable, sheet-written}
+use Rattle.judge.proofs.Accepted.{accepted-frame}
+use Rattle.convert.proofs.ToSheet.{number-fits, fields-writable, sheet-written}
 use mathlib.Core.Path.{sym, ap, _∙_}
 use denote.Ref.{now}
 use borrow.Author.Needs.{needs}

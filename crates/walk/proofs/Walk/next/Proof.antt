@@ -1,16 +1,11 @@
 -- `walk::Walk::next` meets its contract.
-use Rattle.walk.proofs.Standing.{stands}
-use Rattle.walk.specs.Walk.{formatOf}
-use Rattle.segment.specs.Segment.{entries, changes, lists, body, fields, sheetFields}
-use Rattle.format.specs.Place.{after}
-use Rattle.format.specs.Format.{Format}
-use mathlib.Core.Path.{sym, ap, _∙_}
+use Rattle.walk.proofs.Standing.{goes}
+use mathlib.Core.Path.{refl}
 use borrow.Author.Needs.{needs}
 use Rattle.walk.proofs.Walk.next.Statement.{statement}
 use Rattle.walk.proofs.Walk.next.Tie as tie
 
 pub next-spec : {M : Type 1} → statement M
-unfolding entries changes lists body fields sheetFields
 next-spec =
     tie.close
     (tie.spec
@@ -65,29 +60,29 @@ next-spec =
     (λ c. search needs)
     (λ c κs. search needs)
     (λ c. search needs)
-    (λ c. ap formatOf (c .at .ensures) ∙ ap (λ (f : Format). after f (c .before .before .before .args .v)) (stands (c .before .before .before .args .self) (c .before .enum-told .given .1)))
-    (λ c. ap formatOf (c .at2 .ensures) ∙ ap (λ (f : Format). after f (c .before .before .before .args .v)) (stands (c .before .before .before .args .self) (c .before .enum-told2 .given .1)))
-    (λ c. ap formatOf (c .at3 .ensures) ∙ ap (λ (f : Format). after f (c .before .before .before .args .v)) (stands (c .before .before .before .args .self) (c .before .enum-told3 .given .1)))
-    (λ c. ap formatOf (c .at4 .ensures) ∙ ap (λ (f : Format). after f (c .before .before .before .args .v)) (stands (c .before .before .before .args .self) (c .before .enum-told4 .given .1)))
-    (λ c. ap formatOf (c .at5 .ensures) ∙ ap (λ (f : Format). after f (c .before .before .before .args .v)) (stands (c .before .before .before .args .self) (c .before .enum-told5 .given .1)))
-    (λ c. ap formatOf (c .at6 .ensures) ∙ ap (λ (f : Format). after f (c .before .before .before .args .v)) (stands (c .before .before .before .args .self) (c .before .enum-told6 .given .1)))
-    (λ c. ap formatOf (c .at7 .ensures) ∙ ap (λ (f : Format). after f (c .before .before .before .args .v)) (stands (c .before .before .before .args .self) (c .before .enum-told7 .given .1)))
-    (λ c. ap formatOf (c .at8 .ensures) ∙ ap (λ (f : Format). after f (c .before .before .before .args .v)) (stands (c .before .before .before .args .self) (c .before .enum-told8 .given .1)))
-    (λ c. ap formatOf (c .at9 .ensures) ∙ ap (λ (f : Format). after f (c .before .before .before .args .v)) (stands (c .before .before .before .args .self) (c .before .enum-told9 .given .1)))
-    (λ c. ap formatOf (c .at10 .ensures) ∙ ap (λ (f : Format). after f (c .before .before .before .args .v)) (stands (c .before .before .before .args .self) (c .before .enum-told10 .given .1)))
-    (λ c. ap formatOf (c .of-length .ensures) ∙ ap (λ (f : Format). after f (c .before .before .before .args .v)) (stands (c .before .before .before .args .self) (c .before .enum-told11 .given .1)))
-    (λ c. ap formatOf (c .at11 .ensures) ∙ ap (λ (f : Format). after f (c .before .before .before .args .v)) (stands (c .before .before .before .args .self) (c .before .enum-told12 .given .1)))
-    (λ c. ap formatOf (c .at12 .ensures) ∙ ap (λ (f : Format). after f (c .before .before .before .args .v)) (stands (c .before .before .before .args .self) (c .before .enum-told13 .given .1)))
-    (λ c. c .element .ensures ∙ ap (λ (f : Format). after f (c .before .before .before .args .v)) (stands (c .before .before .before .args .self) (c .before .enum-told14 .given .1)))
-    (λ c. ap formatOf (c .at13 .ensures) ∙ ap (λ (f : Format). after f (c .before .before .before .args .v)) (stands (c .before .before .before .args .self) (c .before .enum-told15 .given .1)))
-    (λ c. ap formatOf (c .at14 .ensures) ∙ ap (λ (f : Format). after f (c .before .before .before .args .v)) (stands (c .before .before .before .args .self) (c .before .enum-told16 .given .1)))
-    (λ c. c .before-entries .ensures ∙ ap (λ (f : Format). after f (c .before .before .before .args .v)) (stands (c .before .before .before .args .self) (c .before .enum-told17 .given .1)))
-    (λ c. ap formatOf (c .at15 .ensures) ∙ ap (λ (f : Format). after f (c .before .before .before .args .v)) (stands (c .before .before .before .args .self) (c .before .enum-told18 .given .1)))
-    (λ c. ap formatOf (c .at16 .ensures) ∙ ap (λ (f : Format). after f (c .before .before .before .args .v)) (stands (c .before .before .before .args .self) (c .before .enum-told19 .given .1)))
-    (λ c. c .before-entries2 .ensures ∙ ap (λ (f : Format). after f (c .before .before .before .args .v)) (stands (c .before .before .before .args .self) (c .before .enum-told20 .given .1)))
-    (λ c. ap formatOf (c .at17 .ensures) ∙ ap (λ (f : Format). after f (c .before .before .before .args .v)) (stands (c .before .before .before .args .self) (c .before .enum-told21 .given .1)))
-    (λ c. c .after-element .ensures ∙ ap (λ (f : Format). after f (c .before .before .before .args .v)) (stands (c .before .before .before .args .self) (c .before .enum-told22 .given .1)))
-    (λ c. c .after-element2 .ensures ∙ ap (λ (f : Format). after f (c .before .before .before .args .v)) (stands (c .before .before .before .args .self) (c .before .enum-told23 .given .1)))
-    (λ c. c .before-changes .ensures ∙ ap (λ (f : Format). after f (c .before .before .before .args .v)) (stands (c .before .before .before .args .self) (c .before .enum-told24 .given .1)))
-    (λ c. c .element2 .ensures ∙ ap (λ (f : Format). after f (c .before .before .before .args .v)) (stands (c .before .before .before .args .self) (c .before .enum-told25 .given .1)))
-    (λ c. sym (stands (c .before .before .args .self) (c .enum-told26 .given .1)) ∙ ap (λ (f : Format). after f (c .before .before .args .v)) (stands (c .before .before .args .self) (c .enum-told26 .given .1))))
+    (λ c. goes (c .before .before .before .args .self) (c .before .before .before .args .v) (c .at .ensures) (c .before .enum-told .given .1))
+    (λ c. goes (c .before .before .before .args .self) (c .before .before .before .args .v) (c .at2 .ensures) (c .before .enum-told2 .given .1))
+    (λ c. goes (c .before .before .before .args .self) (c .before .before .before .args .v) (c .at3 .ensures) (c .before .enum-told3 .given .1))
+    (λ c. goes (c .before .before .before .args .self) (c .before .before .before .args .v) (c .at4 .ensures) (c .before .enum-told4 .given .1))
+    (λ c. goes (c .before .before .before .args .self) (c .before .before .before .args .v) (c .at5 .ensures) (c .before .enum-told5 .given .1))
+    (λ c. goes (c .before .before .before .args .self) (c .before .before .before .args .v) (c .at6 .ensures) (c .before .enum-told6 .given .1))
+    (λ c. goes (c .before .before .before .args .self) (c .before .before .before .args .v) (c .at7 .ensures) (c .before .enum-told7 .given .1))
+    (λ c. goes (c .before .before .before .args .self) (c .before .before .before .args .v) (c .at8 .ensures) (c .before .enum-told8 .given .1))
+    (λ c. goes (c .before .before .before .args .self) (c .before .before .before .args .v) (c .at9 .ensures) (c .before .enum-told9 .given .1))
+    (λ c. goes (c .before .before .before .args .self) (c .before .before .before .args .v) (c .at10 .ensures) (c .before .enum-told10 .given .1))
+    (λ c. goes (c .before .before .before .args .self) (c .before .before .before .args .v) (c .of-length .ensures) (c .before .enum-told11 .given .1))
+    (λ c. goes (c .before .before .before .args .self) (c .before .before .before .args .v) (c .at11 .ensures) (c .before .enum-told12 .given .1))
+    (λ c. goes (c .before .before .before .args .self) (c .before .before .before .args .v) (c .at12 .ensures) (c .before .enum-told13 .given .1))
+    (λ c. goes (c .before .before .before .args .self) (c .before .before .before .args .v) (c .element .ensures) (c .before .enum-told14 .given .1))
+    (λ c. goes (c .before .before .before .args .self) (c .before .before .before .args .v) (c .at13 .ensures) (c .before .enum-told15 .given .1))
+    (λ c. goes (c .before .before .before .args .self) (c .before .before .before .args .v) (c .at14 .ensures) (c .before .enum-told16 .given .1))
+    (λ c. goes (c .before .before .before .args .self) (c .before .before .before .args .v) (c .before-entries .ensures) (c .before .enum-told17 .given .1))
+    (λ c. goes (c .before .before .before .args .self) (c .before .before .before .args .v) (c .at15 .ensures) (c .before .enum-told18 .given .1))
+    (λ c. goes (c .before .before .before .args .self) (c .before .before .before .args .v) (c .at16 .ensures) (c .before .enum-told19 .given .1))
+    (λ c. goes (c .before .before .before .args .self) (c .before .before .before .args .v) (c .before-entries2 .ensures) (c .before .enum-told20 .given .1))
+    (λ c. goes (c .before .before .before .args .self) (c .before .before .before .args .v) (c .at17 .ensures) (c .before .enum-told21 .given .1))
+    (λ c. goes (c .before .before .before .args .self) (c .before .before .before .args .v) (c .after-element .ensures) (c .before .enum-told22 .given .1))
+    (λ c. goes (c .before .before .before .args .self) (c .before .before .before .args .v) (c .after-element2 .ensures) (c .before .enum-told23 .given .1))
+    (λ c. goes (c .before .before .before .args .self) (c .before .before .before .args .v) (c .before-changes .ensures) (c .before .enum-told24 .given .1))
+    (λ c. goes (c .before .before .before .args .self) (c .before .before .before .args .v) (c .element2 .ensures) (c .before .enum-told25 .given .1))
+    (λ c. goes (c .before .before .args .self) (c .before .before .args .v) refl (c .enum-told26 .given .1)))

@@ -1,0 +1,13 @@
+-- `dial::Dial::opened` meets its contract.
+use borrow.Author.Needs.{needs}
+use Rattle.dial.proofs.Dial.opened.Statement.{statement}
+use Rattle.dial.proofs.Dial.opened.Tie as tie
+
+no-speed-requires : tie.Need-no-speed-requires
+no-speed-requires c κs = search needs
+
+returns : tie.Need-returns
+returns c = rw (c .no-speed .ensures)
+
+pub opened-spec : {M : Type 1} → statement M
+opened-spec = tie.close (tie.spec no-speed-requires returns)

@@ -1,0 +1,45 @@
+-- What a verdict tells of what was read; and the frame and the fields of an accepted packet.
+-- Assumes nothing.
+use mathlib.Core.Path.{_≡_, refl, sym, ap, _∙_}
+use mathlib.Core.List.{List, _∷_}
+use Prim.Native.Nat.{ℕ}
+use native.Mathlib.Omega.{arith}
+use lib.ListN.{drop}
+use Rattle.bits.specs.Bits.{bitsOfBytes}
+use Rattle.kinds.specs.declared.Item.{Item}
+use Rattle.format.specs.Format.{Read, accepted, refused, read, valuesOf, answerOf}
+use Rattle.format.specs.Media.{packet}
+use Rattle.segment.specs.Segment.{fields, wireChanges}
+use Rattle.segment.specs.Frame.{fromOne, numberItem}
+use Rattle.segment.specs.Judgement.{fromPacket}
+use Rattle.segment.proofs.Framing.{padded-accepted}
+use Rattle.media.specs.Places.{rest}
+use Rattle.judge.specs.declared.Verdict.the-variants.{Accepted, Refused}
+use Rattle.judge.specs.declared.Frame.the-variants as Frame
+use Rattle.judge.specs.Verdict.{verdictOf, frameOf}
+use Rattle.judge.proofs.Framing.{packet-frame, packet-fields}
+use Rattle.judge.proofs.Sizes.{refused-apart}
+
+pub verdict-accepted : {C : Type 0} (size : List Item → ℕ) (r : Read) (n : ℕ) → Accepted n ≡ verdictOf size r → (r ≡ accepted (valuesOf r) → n ≡ size (valuesOf r) → C) → C
+verdict-accepted size (accepted l) n e k = k refl (cc)
+verdict-accepted size (refused r left) n e k = refused-apart (sym e)
+
+pub verdict-refused : {C : Type 0} (size : List Item → ℕ) (r : Read) (q : ℕ) → Refused q ≡ verdictOf size r → ((left : ℕ) → r ≡ refused q left → C) → C
+verdict-refused size (accepted l) q e k = refused-apart e
+verdict-refused size (refused r left) q e k = let p : r ≡ q = cc in k left (rw p)
+
+module _ (s : List ℕ) where
+  -- the frame of an accepted packet is whole
+  pub accepted-frame : {C : Type 0} (r : ℕ) {l : List Item} → fromPacket wireChanges s ≡ accepted l → Frame.Refused r ≡ frameOf s → C
+  accepted-frame r a e = refused-apart (packet-frame Refused (λ l. Accepted 0) s r e ∙ ap (answerOf Refused (λ l. Accepted 0)) a)
+
+  -- the fields' own values
+  pub record Parts (stop : ℕ) (l : List Item) : Type 0 where
+    pub values : List Item
+    pub reads : read packet (fields wireChanges) (rest s 24 stop) ≡ accepted values
+    pub all : l ≡ numberItem 6 ∷ values
+
+  pub parts : (stop : ℕ) (l : List Item) → Frame.End stop ≡ frameOf s → fromPacket wireChanges s ≡ accepted l → Parts stop l
+  parts stop l e a =
+      padded-accepted 6 (fromOne (drop stop (bitsOfBytes s))) (read packet (fields wireChanges) (rest s 24 stop)) l (sym (packet-fields s stop e) ∙ a) λ m p none q.
+      record { values = m; reads = p; all = q }

@@ -1,0 +1,69 @@
+// Reads a packet from standard input, converts it to its sheet and back, and answers the permitted speed of three trains at two places.
+#include <stdio.h>
+#include <string.h>
+
+#include "seglink.h"
+
+static const struct {
+    const char *name;
+    seglink_train train;
+} TRAINS[] = {
+    {"passenger, 15 m, 150 mm", {.length = 1500, .cant = 150, .passenger = true}},
+    {"freight P, 25 m, 130 mm", {.length = 2500, .cant = 130, .freight_p = true}},
+    {"freight G, 40 m,  80 mm", {.length = 4000, .cant = 80, .freight_g = true}},
+};
+static const uint32_t PLACES[] = {6000, 11800};
+
+static void print_bytes(const char *what, const uint8_t *bytes, size_t count)
+{
+    printf("%s, %zu bytes:", what, count);
+    for (size_t i = 0; i < count; ++i)
+        printf("%s%02X", i % 24 == 0 ? "\n    " : " ", bytes[i]);
+    printf("\n");
+}
+
+static void print_speed(seglink_speed answer)
+{
+    if (answer.refusal == SEGLINK_SUCCESS)
+        printf("%4u km/h", (unsigned)answer.speed);
+    else
+        printf(" REFUSED %u", (unsigned)answer.refusal);
+}
+
+// Back from the sheet: whether it is the packet again.
+static void print_back(const uint8_t *packet, size_t packet_len, const uint8_t *sheet, size_t sheet_len)
+{
+    uint8_t again[SEGLINK_LARGEST_PACKET];
+    seglink_converted back = seglink_sheet_to_packet(sheet, sheet_len, again, sizeof again);
+    bool same = back.length == packet_len && memcmp(packet, again, packet_len) == 0;
+    printf("Back from the sheet, %u bytes: %s.\n", (unsigned)back.length, same ? "the same packet" : "ANOTHER PACKET");
+}
+
+static void print_speeds(const uint8_t *packet, size_t packet_len)
+{
+    for (size_t i = 0; i < sizeof PLACES / sizeof *PLACES; ++i) {
+        printf("Permitted at %u cm:\n", (unsigned)PLACES[i]);
+        for (size_t j = 0; j < sizeof TRAINS / sizeof *TRAINS; ++j) {
+            printf("    %s: ", TRAINS[j].name);
+            print_speed(seglink_speed_from_packet(packet, packet_len, TRAINS[j].train, PLACES[i]));
+            printf("\n");
+        }
+    }
+}
+
+int main(void)
+{
+    // a byte more than the largest packet, so that a longer input is refused and not cut
+    uint8_t packet[SEGLINK_LARGEST_PACKET + 1], sheet[SEGLINK_LARGEST_SHEET];
+    size_t length = fread(packet, 1, sizeof packet, stdin);
+    print_bytes("The packet", packet, length);
+    seglink_converted there = seglink_packet_to_sheet(packet, length, sheet, sizeof sheet);
+    if (there.refusal != SEGLINK_SUCCESS) {
+        printf("REFUSED %u\n", (unsigned)there.refusal);
+        return 1;
+    }
+    print_bytes("Its sheet", sheet, there.length);
+    print_back(packet, length, sheet, there.length);
+    print_speeds(packet, length);
+    return 0;
+}

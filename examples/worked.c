@@ -1,0 +1,68 @@
+// A worked example in C: the build definition's sample packet to its sheet and back, its altitude, a permitted speed and a refusal.
+#include <stdio.h>
+#include <string.h>
+
+#include "seglink.h"
+
+static const uint8_t PACKET[SEGLINK_SMALLEST_PACKET] = {
+    0x06, 0x00, 0xB9, 0x00, 0x01, 0x23, 0x45, 0x00, 0x00, 0x01, 0x00, 0x00, 0x00, 0x00, 0x07, // header
+    0x00, 0x00, 0x00, 0x00, 0x00, 0x00, 0x00, 0x00, 0x00, 0x00, 0x40, 0x00, 0x00, 0x00, 0x00, 0x00, // identity
+    0x01, 0x00, 0x00, 0x00, 0x00, 0x3F, 0xF0, 0x00, // speed, voltage, current
+};
+
+static void print_bytes(const char *what, const uint8_t *bytes, size_t count)
+{
+    printf("%s, %zu bytes:", what, count);
+    for (size_t i = 0; i < count; ++i)
+        printf("%s%02X", i % 16 == 0 ? "\n    " : " ", bytes[i]);
+    printf("\n");
+}
+
+// To the sheet and back; the count of the sheet's bytes, or 0 after a refusal.
+static size_t convert(uint8_t sheet[SEGLINK_LARGEST_SHEET])
+{
+    seglink_converted there = seglink_packet_to_sheet(PACKET, sizeof PACKET, sheet, SEGLINK_LARGEST_SHEET);
+    if (there.refusal != SEGLINK_SUCCESS) {
+        printf("The packet is refused: %u\n", (unsigned)there.refusal);
+        return 0;
+    }
+    print_bytes("Its sheet", sheet, there.length);
+    uint8_t packet[SEGLINK_LARGEST_PACKET];
+    seglink_converted back = seglink_sheet_to_packet(sheet, there.length, packet, sizeof packet);
+    bool same = back.length == sizeof PACKET && memcmp(packet, PACKET, sizeof PACKET) == 0;
+    printf("The sheet's packet has %u bytes and is %s.\n", (unsigned)back.length, same ? "the same" : "another");
+    return there.length;
+}
+
+static void ask(const uint8_t *sheet, size_t sheet_len)
+{
+    seglink_altitude altitude = seglink_altitude_of_packet(PACKET, sizeof PACKET);
+    printf("The segment lies at %d cm (refusal %u).\n", (int)altitude.altitude, (unsigned)altitude.refusal);
+    seglink_train train = {.length = 200, .cant = 150, .passenger = true};
+    seglink_speed here = seglink_speed_from_packet(PACKET, sizeof PACKET, train, 0);
+    printf("A passenger train of 200 cm may run at %u km/h at 0 cm (refusal %u).\n", (unsigned)here.speed, (unsigned)here.refusal);
+    seglink_speed same = seglink_speed_from_sheet(sheet, sheet_len, train, 0);
+    printf("From the sheet the answer is %u km/h (refusal %u).\n", (unsigned)same.speed, (unsigned)same.refusal);
+}
+
+// The packet without its last byte: the room keeps what it had.
+static void refuse(void)
+{
+    uint8_t room[4] = {0xA5, 0xA5, 0xA5, 0xA5};
+    seglink_converted cut = seglink_packet_to_sheet(PACKET, sizeof PACKET - 1, room, sizeof room);
+    printf("Without its last byte the packet is refused: %u", (unsigned)cut.refusal);
+    printf("%s.\n", cut.refusal == SEGLINK_PACKET_LENGTH ? " (its bytes are not those that L_PACKET_ATO asks for)" : "");
+    print_bytes("The room then", room, sizeof room);
+}
+
+int main(void)
+{
+    uint8_t sheet[SEGLINK_LARGEST_SHEET];
+    print_bytes("The packet", PACKET, sizeof PACKET);
+    size_t length = convert(sheet);
+    if (length == 0)
+        return 1;
+    ask(sheet, length);
+    refuse();
+    return 0;
+}

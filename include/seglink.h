@@ -1,0 +1,86 @@
+// The five operations of the segment link, for C11 and C++: link with libseglink.a, which `rt staticlib seglink` writes for x86-64.
+//
+// Any bytes may be handed over, in any number. A pointer is never null, also where the count is 0, and the room shares no byte with what is read.
+// No operation keeps a pointer, has a state or stops the program, so any number of threads may call them.
+#ifndef SEGLINK_H
+#define SEGLINK_H
+
+#include <stdbool.h>
+#include <stddef.h>
+#include <stdint.h>
+
+#ifdef __cplusplus
+extern "C" {
+#endif
+
+// Why an operation refused: the numbers of the build definition. Where several grounds hold, its order decides which is given.
+enum {
+    SEGLINK_SUCCESS = 0,
+    SEGLINK_SHORT_PACKET = 1,    // a packet has fewer than 15 bytes
+    SEGLINK_PACKET_NUMBER = 2,   // the packet number is not 6
+    SEGLINK_PACKET_LENGTH = 3,   // the packet's bytes are not 15 + L_PACKET_ATO / 8, rounded up
+    SEGLINK_FIELD_VALUE = 4,     // a field is outside its range or set, or NID_CTRACTION is not 0 at voltage 0
+    SEGLINK_CHANGE_LOCATION = 5, // a change's location does not rise, is 0, or is at or past L_SP
+    SEGLINK_BODY_BITS = 6,       // a field does not fit in the body's remaining bits, or bits remain after the last field
+    SEGLINK_PADDING_BIT = 7,     // a padding bit is 1
+    SEGLINK_SHORT_ROOM = 8,      // the result is longer than the lent room
+    SEGLINK_SHEET_FORM = 9,      // a sheet ends too soon, has bytes left, or a number is not in its shortest form or not below 4,294,967,296
+    SEGLINK_TRAIN_VALUE = 10,    // the train's length or cant deficiency is not allowed
+    SEGLINK_PAST_END = 11        // x is at or past L_SP
+};
+
+// Counts of bytes. A room of the largest is never refused as too short.
+enum {
+    SEGLINK_SMALLEST_PACKET = 39,
+    SEGLINK_LARGEST_PACKET = 2001,
+    SEGLINK_LARGEST_SHEET = 5608
+};
+
+// What a conversion answers: 0 and the count of bytes that it wrote, or a refusal and 0.
+typedef struct {
+    uint32_t refusal, length;
+} seglink_converted;
+
+// What a speed question answers: 0 and the speed in km/h, or a refusal and 0.
+typedef struct {
+    uint32_t refusal, speed;
+} seglink_speed;
+
+// What the altitude question answers: 0 and the altitude in cm, from -100,000 to 948,575, or a refusal and 0.
+typedef struct {
+    uint32_t refusal;
+    int32_t altitude;
+} seglink_altitude;
+
+// A train: its length in cm, 1 to 150,000; its cant deficiency in mm, 80, 100, 130, 150, 165, 180, 210, 225, 245, 275 or 300;
+// whether it is freight in P position, freight in G position, passenger.
+typedef struct {
+    uint32_t length, cant;
+    bool freight_p, freight_g, passenger;
+} seglink_train;
+
+// Writes the sheet of a packet to the start of the room and returns its length; the room's bytes past it stay.
+// Any bytes may be handed over; a refusal (1 to 8) leaves the room as it was.
+seglink_converted seglink_packet_to_sheet(const uint8_t *packet, size_t packet_len, uint8_t *room, size_t room_len);
+
+// Writes the packet of a sheet to the start of the room and returns its length; the room's bytes past it stay.
+// Any bytes may be handed over; a refusal (2, 4, 5, 8 or 9) leaves the room as it was.
+seglink_converted seglink_sheet_to_packet(const uint8_t *sheet, size_t sheet_len, uint8_t *room, size_t room_len);
+
+// Returns the permitted speed of a train at x cm from the segment's start, by the packet's speeds: multiples of 5 km/h.
+// Any bytes, train and x may be handed over; a refusal is 1 to 7, 10 or 11.
+seglink_speed seglink_speed_from_packet(const uint8_t *packet, size_t packet_len, seglink_train train, uint32_t x);
+
+// Returns the permitted speed of a train at x cm from the segment's start, by the sheet's own speeds.
+// Any bytes, train and x may be handed over; a refusal is 2, 4, 5, 9, 10 or 11.
+seglink_speed seglink_speed_from_sheet(const uint8_t *sheet, size_t sheet_len, seglink_train train, uint32_t x);
+
+// Returns the altitude of a packet's segment in signed centimetres.
+// Any bytes may be handed over; a refusal is 1 to 7.
+seglink_altitude seglink_altitude_of_packet(const uint8_t *packet, size_t packet_len);
+
+#ifdef __cplusplus
+}
+#endif
+
+#endif

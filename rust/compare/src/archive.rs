@@ -1,0 +1,77 @@
+//! The archive's operations, by the names and layouts that the server links.
+
+use crate::program::{Answer, Program, Train};
+
+#[repr(C)]
+struct Converted {
+    refusal: u32,
+    length: u32,
+}
+
+#[repr(C)]
+struct Speed {
+    refusal: u32,
+    speed: u32,
+}
+
+#[repr(C)]
+struct Altitude {
+    refusal: u32,
+    altitude: i32,
+}
+
+#[repr(C)]
+struct Card {
+    length: u32,
+    cant: u32,
+    freight_p: bool,
+    freight_g: bool,
+    passenger: bool,
+}
+
+extern "C" {
+    fn seglink_packet_to_sheet(packet: *const u8, packet_len: usize, room: *mut u8, room_len: usize) -> Converted;
+    fn seglink_sheet_to_packet(sheet: *const u8, sheet_len: usize, room: *mut u8, room_len: usize) -> Converted;
+    fn seglink_speed_from_packet(packet: *const u8, packet_len: usize, train: Card, x: u32) -> Speed;
+    fn seglink_speed_from_sheet(sheet: *const u8, sheet_len: usize, train: Card, x: u32) -> Speed;
+    fn seglink_altitude_of_packet(packet: *const u8, packet_len: usize) -> Altitude;
+}
+
+pub struct Archive;
+
+// Every call hands over slices of its own, as pointer and length; the operations take any bytes and any room.
+impl Program for Archive {
+    fn packet_to_sheet(packet: &[u8], room: &mut [u8]) -> Answer {
+        converted(unsafe { seglink_packet_to_sheet(packet.as_ptr(), packet.len(), room.as_mut_ptr(), room.len()) })
+    }
+
+    fn sheet_to_packet(sheet: &[u8], room: &mut [u8]) -> Answer {
+        converted(unsafe { seglink_sheet_to_packet(sheet.as_ptr(), sheet.len(), room.as_mut_ptr(), room.len()) })
+    }
+
+    fn speed_from_packet(packet: &[u8], train: &Train, x: u32) -> Answer {
+        speed(unsafe { seglink_speed_from_packet(packet.as_ptr(), packet.len(), card(train), x) })
+    }
+
+    fn speed_from_sheet(sheet: &[u8], train: &Train, x: u32) -> Answer {
+        speed(unsafe { seglink_speed_from_sheet(sheet.as_ptr(), sheet.len(), card(train), x) })
+    }
+
+    fn altitude_of_packet(packet: &[u8]) -> Answer {
+        let answer = unsafe { seglink_altitude_of_packet(packet.as_ptr(), packet.len()) };
+        Answer { refusal: answer.refusal, value: answer.altitude.into() }
+    }
+}
+
+fn converted(answer: Converted) -> Answer {
+    Answer { refusal: answer.refusal, value: answer.length.into() }
+}
+
+fn speed(answer: Speed) -> Answer {
+    Answer { refusal: answer.refusal, value: answer.speed.into() }
+}
+
+fn card(train: &Train) -> Card {
+    let Train { length, cant, freight_p, freight_g, passenger } = *train;
+    Card { length, cant, freight_p, freight_g, passenger }
+}

@@ -1,0 +1,128 @@
+//! One random case: a packet and a sheet, whole, damaged or noise, and the questions on them.
+
+use crate::damage::{spoil_fields, spoil_form, spoil_packet, spoil_sheet};
+use crate::draft::{Draft, Kind, CANTS};
+use crate::program::Train;
+use crate::random::Random;
+use crate::segments::{any_sizes, segment, Sizes};
+
+pub struct Case {
+    pub name: &'static str,
+    pub packet: Vec<u8>,
+    pub sheet: Vec<u8>,
+    /// Whether both are accepted, and the packet is the sheet's.
+    pub whole: bool,
+    /// L_SP first, then the locations of changes and 0: speed questions are asked about them.
+    pub marks: Vec<u32>,
+}
+
+impl Case {
+    /// The case of a seed's generator.
+    pub fn random(random: &mut Random) -> Case {
+        match random.between(0, 15) {
+            0..=5 => whole(random),
+            6..=10 => with_spoilt_fields(random),
+            11..=13 => with_spoilt_bytes(random),
+            14 => with_a_count_past_its_limit(random),
+            _ => noise(random),
+        }
+    }
+
+    pub fn of(name: &'static str, draft: &Draft, whole: bool) -> Case {
+        let marked = |kind| draft.places(kind).into_iter().map(|place| draft.fields[place].value);
+        let marks = marked(Kind::Length).chain(marked(Kind::Location)).chain([0]).collect();
+        Case { name, packet: draft.packet(), sheet: draft.sheet(), whole, marks }
+    }
+}
+
+fn any_segment(random: &mut Random) -> Draft {
+    let sizes = any_sizes(random);
+    segment(random, sizes)
+}
+
+fn whole(random: &mut Random) -> Case {
+    Case::of("whole", &any_segment(random), true)
+}
+
+fn with_spoilt_fields(random: &mut Random) -> Case {
+    let mut draft = any_segment(random);
+    spoil_fields(random, &mut draft);
+    Case::of("with spoilt fields", &draft, false)
+}
+
+fn with_spoilt_bytes(random: &mut Random) -> Case {
+    let mut draft = any_segment(random);
+    let form = random.one_in(2);
+    if form {
+        spoil_form(random, &mut draft);
+    }
+    let mut case = Case::of("with spoilt bytes", &draft, false);
+    spoil_packet(random, &mut case.packet);
+    if !form {
+        spoil_sheet(random, &mut case.sheet);
+    }
+    case
+}
+
+/// More changes or entries than allowed, all of them there.
+fn with_a_count_past_its_limit(random: &mut Random) -> Case {
+    let mut sizes = Sizes { entries: (0, 1), ..any_sizes(random) };
+    match random.between(0, 3) {
+        0 => sizes.voltages = random.with_ends(24, 31),
+        1 => sizes.currents = random.with_ends(24, 31),
+        2 => sizes.changes = random.with_ends(32, 40),
+        _ => sizes.entries = (32, 40),
+    }
+    Case::of("with a count past its limit", &segment(random, sizes), false)
+}
+
+/// Random bytes, half of them behind a right start.
+fn noise(random: &mut Random) -> Case {
+    let size = if random.one_in(4) { 2_100 } else { 80 };
+    let (packet_size, sheet_size) = (random.place(size), random.place(size));
+    let mut packet = random.bytes(packet_size);
+    let mut sheet = random.bytes(sheet_size);
+    if random.one_in(2) {
+        let start = any_segment(random);
+        overwrite(&mut packet, &start.packet()[..15]);
+        let bits = packet.len().saturating_sub(15) * 8;
+        overwrite(&mut packet, &[6, (bits >> 8) as u8, bits as u8]);
+        sheet.iter_mut().for_each(|byte| *byte &= 0x7F);
+        overwrite(&mut sheet, &[6, 0, 0, 0, 0, 0]);
+    }
+    Case { name: "noise", packet, sheet, whole: false, marks: vec![0] }
+}
+
+/// Writes bytes over the first ones, as far as there are any.
+fn overwrite(bytes: &mut [u8], start: &[u8]) {
+    bytes.iter_mut().zip(start).for_each(|(byte, other)| *byte = *other);
+}
+
+/// A train, one time in eight one that is not allowed.
+pub fn any_train(random: &mut Random) -> Train {
+    let mut train = Train {
+        length: if random.one_in(2) { random.with_ends(1, 1_000) } else { random.with_ends(1, 150_000) },
+        cant: random.pick(&CANTS),
+        freight_p: random.one_in(2),
+        freight_g: random.one_in(2),
+        passenger: random.one_in(2),
+    };
+    match random.between(0, 15) {
+        0 => train.length = random.pick(&[0, 150_001, u32::MAX]),
+        1 => train.cant = random.pick(&[0, 1, 10, 79, 81, 301, 336]),
+        _ => {}
+    }
+    train
+}
+
+/// A location: about a mark plus the train's length, about a mark, from 0 to L_SP or anywhere.
+pub fn any_location(random: &mut Random, marks: &[u32], train: &Train) -> u32 {
+    let mark = random.pick(marks);
+    let about = random.pick(&[-1, 0, 1]);
+    match random.between(0, 7) {
+        0..=1 => mark.saturating_add(train.length).wrapping_add(about as u32),
+        2..=4 => mark.wrapping_add(about as u32),
+        5..=6 => random.between(0, marks[0]),
+        _ => random.of_any_size(),
+    }
+}

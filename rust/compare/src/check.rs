@@ -1,0 +1,118 @@
+//! One case put to both programs, and the customer's demands looked at directly.
+
+use crate::archive::Archive;
+use crate::case::{any_location, any_train, Case};
+use crate::program::{Answer, Operation, Program, Question, Train};
+use crate::random::Random;
+use crate::second_program::Second;
+use crate::tally::Tally;
+
+/// Speed questions a case.
+const SPEEDS: usize = 3;
+/// Bytes before and after a room, which no program may touch.
+const GUARD: usize = 16;
+const LARGEST_SHEET: usize = 5_608;
+const LARGEST_PACKET: usize = 2_001;
+
+/// Compares the five operations on a case, every answer and every byte of the rooms; then the demands.
+pub fn check(random: &mut Random, case: &Case, tally: &mut Tally) -> Result<(), String> {
+    for question in [
+        Question::without_train(Operation::PacketToSheet, &case.packet),
+        Question::without_train(Operation::SheetToPacket, &case.sheet),
+        Question::without_train(Operation::AltitudeOfPacket, &case.packet),
+    ] {
+        let room = room_for(random, &question);
+        compare(random, &question, room, tally)?;
+    }
+    let packet = round_trips(case)?;
+    for _ in 0..SPEEDS {
+        let train = any_train(random);
+        let x = any_location(random, &case.marks, &train);
+        speeds(random, case, packet.as_deref(), (train, x), tally)?;
+    }
+    Ok(())
+}
+
+/// Puts one question to both programs, with rooms that hold the same random bytes.
+pub fn compare(random: &mut Random, question: &Question, room: usize, tally: &mut Tally) -> Result<Answer, String> {
+    let mut lent = random.bytes(GUARD + room + GUARD);
+    let mut other = lent.clone();
+    let answer = Archive::answer(question, &mut lent[GUARD..GUARD + room]);
+    let expected = Second::answer(question, &mut other[GUARD..GUARD + room]);
+    tally.count(question.operation, answer.refusal);
+    let asked = || format!("{:?}, {:?} at {}, room {room}", question.operation, question.train, question.x);
+    if answer != expected {
+        return Err(format!("{}: the archive gave {answer:?}, the second program {expected:?}", asked()));
+    }
+    match lent.iter().zip(&other).position(|(byte, expected)| byte != expected) {
+        Some(place) => Err(format!("{}: the rooms differ, first at byte {}", asked(), place as i64 - GUARD as i64)),
+        None => Ok(answer),
+    }
+}
+
+/// A room of exactly the result's size, one byte short, larger, empty or of any size.
+fn room_for(random: &mut Random, question: &Question) -> usize {
+    let result = Archive::answer(question, &mut [0; LARGEST_SHEET]).value.max(0) as usize;
+    match (question.operation, random.between(0, 5)) {
+        (Operation::AltitudeOfPacket, _) | (_, 0) => 0,
+        (_, 1 | 2) => result,
+        (_, 3) => result.saturating_sub(1),
+        (_, 4) => result + random.between(1, 64) as usize,
+        _ => random.place(LARGEST_SHEET + 1),
+    }
+}
+
+/// Packet to sheet to packet is the same packet; an accepted sheet's packet comes back too, and is handed on.
+fn round_trips(case: &Case) -> Result<Option<Vec<u8>>, String> {
+    let sheet = converted(Archive::packet_to_sheet, &case.packet, LARGEST_SHEET);
+    if let Some(sheet) = &sheet {
+        let again = converted(Archive::sheet_to_packet, sheet, LARGEST_PACKET);
+        require(again.as_ref() == Some(&case.packet), "packet to sheet to packet is not the same packet")?;
+    }
+    let packet = converted(Archive::sheet_to_packet, &case.sheet, LARGEST_PACKET);
+    if let Some(packet) = &packet {
+        let lowered = converted(Archive::packet_to_sheet, packet, LARGEST_SHEET);
+        let again = lowered.and_then(|sheet| converted(Archive::sheet_to_packet, &sheet, LARGEST_PACKET));
+        require(again.as_ref() == Some(packet), "the lowered sheet does not make the sheet's packet")?;
+    }
+    if case.whole {
+        require(sheet.is_some(), "a whole packet is refused")?;
+        require(packet.as_ref() == Some(&case.packet), "a whole sheet does not make its packet")?;
+    }
+    Ok(packet)
+}
+
+/// A conversion into the largest room that any result needs.
+fn converted(convert: fn(&[u8], &mut [u8]) -> Answer, input: &[u8], size: usize) -> Option<Vec<u8>> {
+    let mut room = vec![0; size];
+    let answer = convert(input, &mut room);
+    room.truncate(answer.value as usize);
+    (answer.refusal == 0).then_some(room)
+}
+
+/// The speeds at one location; from the packet of a sheet, the greatest multiple of 5 not above the sheet's.
+fn speeds(
+    random: &mut Random,
+    case: &Case,
+    packet: Option<&[u8]>,
+    (train, x): (Train, u32),
+    tally: &mut Tally,
+) -> Result<(), String> {
+    let ask = |operation, input| Question { operation, input, train: train.clone(), x };
+    compare(random, &ask(Operation::SpeedFromPacket, &case.packet), 0, tally)?;
+    let by_sheet = compare(random, &ask(Operation::SpeedFromSheet, &case.sheet), 0, tally)?;
+    if let Some(packet) = packet {
+        let by_packet = Archive::speed_from_packet(packet, &train, x);
+        let lowered = Answer { refusal: by_sheet.refusal, value: by_sheet.value / 5 * 5 };
+        require(by_packet == lowered, "the speed from a sheet's packet is not the lowered speed from the sheet")?;
+    }
+    Ok(())
+}
+
+fn require(holds: bool, otherwise: &str) -> Result<(), String> {
+    if holds {
+        Ok(())
+    } else {
+        Err(otherwise.to_string())
+    }
+}

@@ -1,0 +1,128 @@
+//! A segment as a list of fields, each with its value in the packet and its number in the sheet: right ones, or any others.
+
+/// The kinds of fields, as far as their ranges and sets differ.
+#[derive(Clone, Copy, Debug, PartialEq, Eq)]
+pub enum Kind {
+    PacketNumber,
+    Operational,
+    /// Every value of the field's width is allowed.
+    Plain,
+    Seconds,
+    Length,
+    UtcOffset,
+    Speed,
+    Front,
+    SpeedCount,
+    QDiff,
+    Cant,
+    Category,
+    Location,
+    Voltage,
+    Traction,
+    WireCount,
+    Current,
+}
+
+#[derive(Clone)]
+pub struct Field {
+    pub kind: Kind,
+    pub width: u32,
+    pub value: u32,
+    /// May be past what a sheet takes.
+    pub number: u64,
+    /// Zero groups after the shortest form.
+    pub zero_groups: u32,
+}
+
+#[derive(Clone, Default)]
+pub struct Draft {
+    pub fields: Vec<Field>,
+}
+
+pub const CANTS: [u32; 11] = [80, 100, 130, 150, 165, 180, 210, 225, 245, 275, 300];
+pub const VOLTAGES: [u32; 6] = [0, 25_000, 15_000, 3_000, 1_500, 750];
+
+/// The header's fields in the sheet; L_PACKET_ATO is worked out when the packet is written.
+const HEADER_FIELDS: usize = 6;
+
+impl Draft {
+    /// A field whose number equals its value.
+    pub fn same(&mut self, kind: Kind, width: u32, value: u32) {
+        self.field(kind, width, value, value);
+    }
+
+    pub fn speed(&mut self, speed: u32) {
+        self.field(Kind::Speed, 7, speed / 5, speed);
+    }
+
+    pub fn cant(&mut self, place: u32) {
+        self.field(Kind::Cant, 4, place, CANTS[place as usize]);
+    }
+
+    pub fn voltage(&mut self, place: u32, traction: u32) {
+        self.field(Kind::Voltage, 4, place, VOLTAGES[place as usize]);
+        self.same(Kind::Traction, 10, traction);
+    }
+
+    /// By the number in the sheet: 0 for no limit, else amperes + 1.
+    pub fn current(&mut self, number: u32) {
+        let value = number.checked_sub(1).map_or(1_023, |amperes| amperes / 10);
+        self.field(Kind::Current, 10, value, number);
+    }
+
+    fn field(&mut self, kind: Kind, width: u32, value: u32, number: u32) {
+        self.fields.push(Field { kind, width, value, number: number.into(), zero_groups: 0 });
+    }
+
+    /// The places of a kind's fields.
+    pub fn places(&self, kind: Kind) -> Vec<usize> {
+        (0..self.fields.len()).filter(|place| self.fields[*place].kind == kind).collect()
+    }
+
+    pub fn packet(&self) -> Vec<u8> {
+        let (header, body) = self.fields.split_at(HEADER_FIELDS);
+        let length = body.iter().map(|field| field.width).sum();
+        let mut bits = vec![(8, header[0].value), (16, length)];
+        bits.extend(self.fields[1..].iter().map(|field| (field.width, field.value)));
+        packed(&bits)
+    }
+
+    pub fn sheet(&self) -> Vec<u8> {
+        let mut sheet = Vec::new();
+        for field in &self.fields {
+            write_number(&mut sheet, field.number, field.zero_groups);
+        }
+        sheet
+    }
+}
+
+/// Fields, each of a width and a value, one after the other and padded with zero bits.
+fn packed(fields: &[(u32, u32)]) -> Vec<u8> {
+    let mut bytes = Vec::new();
+    let (mut held, mut count) = (0u64, 0);
+    for (width, value) in fields {
+        held = held << width | u64::from(*value) & ((1 << width) - 1);
+        count += width;
+        while count >= 8 {
+            count -= 8;
+            bytes.push((held >> count) as u8);
+        }
+    }
+    if count > 0 {
+        bytes.push((held << (8 - count)) as u8);
+    }
+    bytes
+}
+
+fn write_number(sheet: &mut Vec<u8>, number: u64, zero_groups: u32) {
+    let mut left = number;
+    while left > 127 {
+        sheet.push(left as u8 | 0x80);
+        left >>= 7;
+    }
+    sheet.push(left as u8);
+    for _ in 0..zero_groups {
+        *sheet.last_mut().expect("a group was written") |= 0x80;
+        sheet.push(0);
+    }
+}

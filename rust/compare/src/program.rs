@@ -1,0 +1,76 @@
+//! What both programs answer: five operations, and a question that is handed to either.
+
+pub use second::Train;
+
+/// A refusal, or 0 with a length, a speed or an altitude.
+#[derive(Clone, Copy, Debug, PartialEq, Eq)]
+pub struct Answer {
+    pub refusal: u32,
+    pub value: i64,
+}
+
+#[derive(Clone, Copy, Debug, PartialEq, Eq)]
+pub enum Operation {
+    PacketToSheet,
+    SheetToPacket,
+    SpeedFromPacket,
+    SpeedFromSheet,
+    AltitudeOfPacket,
+}
+
+pub const OPERATIONS: [Operation; 5] = [
+    Operation::PacketToSheet,
+    Operation::SheetToPacket,
+    Operation::SpeedFromPacket,
+    Operation::SpeedFromSheet,
+    Operation::AltitudeOfPacket,
+];
+
+impl Operation {
+    /// The refusals that the operation can give, and 0.
+    pub fn refusals(self) -> &'static [u32] {
+        match self {
+            Operation::PacketToSheet => &[0, 1, 2, 3, 4, 5, 6, 7, 8],
+            Operation::SheetToPacket => &[0, 2, 4, 5, 8, 9],
+            Operation::SpeedFromPacket => &[0, 1, 2, 3, 4, 5, 6, 7, 10, 11],
+            Operation::SpeedFromSheet => &[0, 2, 4, 5, 9, 10, 11],
+            Operation::AltitudeOfPacket => &[0, 1, 2, 3, 4, 5, 6, 7],
+        }
+    }
+}
+
+/// A question to one operation. The train and x matter to a speed alone.
+pub struct Question<'a> {
+    pub operation: Operation,
+    pub input: &'a [u8],
+    pub train: Train,
+    pub x: u32,
+}
+
+impl<'a> Question<'a> {
+    /// A question to an operation that looks at no train.
+    pub fn without_train(operation: Operation, input: &'a [u8]) -> Question<'a> {
+        let train = Train { length: 0, cant: 0, freight_p: false, freight_g: false, passenger: false };
+        Question { operation, input, train, x: 0 }
+    }
+}
+
+pub trait Program {
+    fn packet_to_sheet(packet: &[u8], room: &mut [u8]) -> Answer;
+    fn sheet_to_packet(sheet: &[u8], room: &mut [u8]) -> Answer;
+    fn speed_from_packet(packet: &[u8], train: &Train, x: u32) -> Answer;
+    fn speed_from_sheet(sheet: &[u8], train: &Train, x: u32) -> Answer;
+    fn altitude_of_packet(packet: &[u8]) -> Answer;
+
+    /// The answer to a question; the room matters to a conversion alone.
+    fn answer(question: &Question, room: &mut [u8]) -> Answer {
+        let Question { operation, input, train, x } = question;
+        match operation {
+            Operation::PacketToSheet => Self::packet_to_sheet(input, room),
+            Operation::SheetToPacket => Self::sheet_to_packet(input, room),
+            Operation::SpeedFromPacket => Self::speed_from_packet(input, train, *x),
+            Operation::SpeedFromSheet => Self::speed_from_sheet(input, train, *x),
+            Operation::AltitudeOfPacket => Self::altitude_of_packet(input),
+        }
+    }
+}

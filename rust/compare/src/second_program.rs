@@ -1,0 +1,36 @@
+//! The second program under the common interface.
+
+use crate::program::{Answer, Program, Train};
+use second::Refusal;
+
+pub struct Second;
+
+impl Program for Second {
+    fn packet_to_sheet(packet: &[u8], room: &mut [u8]) -> Answer {
+        answer(second::packet_to_sheet(packet, room).map(|length| length as i64))
+    }
+
+    fn sheet_to_packet(sheet: &[u8], room: &mut [u8]) -> Answer {
+        answer(second::sheet_to_packet(sheet, room).map(|length| length as i64))
+    }
+
+    fn speed_from_packet(packet: &[u8], train: &Train, x: u32) -> Answer {
+        answer(second::speed_from_packet(packet, train, x))
+    }
+
+    fn speed_from_sheet(sheet: &[u8], train: &Train, x: u32) -> Answer {
+        answer(second::speed_from_sheet(sheet, train, x))
+    }
+
+    fn altitude_of_packet(packet: &[u8]) -> Answer {
+        answer(second::altitude_of_packet(packet))
+    }
+}
+
+/// A refusal comes with length, speed or altitude 0.
+fn answer(result: Result<impl Into<i64>, Refusal>) -> Answer {
+    match result {
+        Ok(value) => Answer { refusal: 0, value: value.into() },
+        Err(refusal) => Answer { refusal: refusal as u32, value: 0 },
+    }
+}

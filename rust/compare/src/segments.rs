@@ -1,0 +1,126 @@
+//! Random segments of any size, within every rule.
+
+use crate::draft::{Draft, Kind, CANTS, VOLTAGES};
+use crate::random::Random;
+use std::collections::BTreeSet;
+
+/// How many changes a segment has, and how many entries, from the one number to the other, each element.
+#[derive(Clone, Copy)]
+pub struct Sizes {
+    pub changes: u32,
+    pub entries: (u32, u32),
+    pub voltages: u32,
+    pub currents: u32,
+}
+
+pub const SMALLEST: Sizes = Sizes { changes: 0, entries: (0, 0), voltages: 0, currents: 0 };
+pub const LARGEST: Sizes = Sizes { changes: 31, entries: (31, 31), voltages: 23, currents: 23 };
+
+/// The largest length of a segment in centimetres.
+const LONGEST: u32 = 16_777_215;
+
+/// Sizes of every order, the ends among them.
+pub fn any_sizes(random: &mut Random) -> Sizes {
+    let most = match random.between(0, 19) {
+        0..=3 => return SMALLEST,
+        4 => return LARGEST,
+        5..=15 => Sizes { changes: 3, entries: (0, 3), voltages: 3, currents: 3 },
+        _ => LARGEST,
+    };
+    Sizes {
+        changes: random.with_ends(0, most.changes),
+        entries: (0, random.with_ends(0, most.entries.1)),
+        voltages: random.with_ends(0, most.voltages),
+        currents: random.with_ends(0, most.currents),
+    }
+}
+
+/// A random segment. Counts past the limits are taken as they are; everything else keeps the rules.
+pub fn segment(random: &mut Random, sizes: Sizes) -> Draft {
+    let mut draft = Draft::default();
+    let least = 1 + sizes.changes.max(sizes.voltages).max(sizes.currents);
+    let length = match random.between(0, 3) {
+        0 => least,
+        1 => random.with_ends(least, 2_000),
+        2 => random.with_ends(least, 400_000),
+        _ => random.with_ends(least, LONGEST),
+    };
+    header(random, &mut draft);
+    identity(random, &mut draft, length);
+    list(random, &mut draft, length, (Kind::SpeedCount, sizes.changes), |random, draft| element(random, draft, sizes.entries));
+    list(random, &mut draft, length, (Kind::WireCount, sizes.voltages), voltage);
+    list(random, &mut draft, length, (Kind::WireCount, sizes.currents), current);
+    draft
+}
+
+fn header(random: &mut Random, draft: &mut Draft) {
+    let digits = (0..8).fold(0, |number, _| number << 4 | random.pick(&[0, 1, 2, 3, 4, 5, 6, 7, 8, 9, 15]));
+    draft.same(Kind::PacketNumber, 8, 6);
+    draft.same(Kind::Operational, 32, digits);
+    plain(random, draft, 24);
+    plain(random, draft, 15);
+    draft.same(Kind::Seconds, 17, random.with_ends(0, 86_399));
+    plain(random, draft, 8);
+}
+
+fn identity(random: &mut Random, draft: &mut Draft, length: u32) {
+    for width in [10, 32, 8, 8] {
+        plain(random, draft, width);
+    }
+    draft.same(Kind::Length, 24, length);
+    plain(random, draft, 24);
+    draft.same(Kind::UtcOffset, 7, random.with_ends(0, 112));
+    plain(random, draft, 20);
+}
+
+fn plain(random: &mut Random, draft: &mut Draft, width: u32) {
+    let largest = u32::MAX >> (32 - width);
+    let value = if random.one_in(2) { random.with_ends(0, largest) } else { random.of_any_size() & largest };
+    draft.same(Kind::Plain, width, value);
+}
+
+/// What stands at the start, the count, and changes at rising locations, near one another or far apart.
+fn list(random: &mut Random, draft: &mut Draft, length: u32, (kind, count): (Kind, u32), item: impl Fn(&mut Random, &mut Draft)) {
+    item(random, draft);
+    draft.same(kind, 5, count);
+    let last = if random.one_in(4) { count * 2 } else { length - 1 }.min(length - 1);
+    let mut locations = BTreeSet::new();
+    while locations.len() < count as usize {
+        locations.insert(random.with_ends(1, last.max(1)));
+    }
+    for location in locations {
+        draft.same(Kind::Location, 24, location);
+        item(random, draft);
+    }
+}
+
+fn element(random: &mut Random, draft: &mut Draft, (least, most): (u32, u32)) {
+    let entries = random.between(least, most);
+    draft.speed(random.with_ends(0, 604));
+    draft.same(Kind::Front, 1, random.between(0, 1));
+    draft.same(Kind::SpeedCount, 5, entries);
+    for _ in 0..entries {
+        entry(random, draft);
+    }
+}
+
+fn entry(random: &mut Random, draft: &mut Draft) {
+    let differs_by = random.between(0, 2);
+    draft.same(Kind::QDiff, 2, differs_by);
+    if differs_by == 0 {
+        draft.cant(random.place(CANTS.len()) as u32);
+    } else {
+        draft.same(Kind::Category, 4, random.between(0, 2));
+    }
+    draft.speed(random.with_ends(0, 604));
+}
+
+fn voltage(random: &mut Random, draft: &mut Draft) {
+    let place = random.place(VOLTAGES.len()) as u32;
+    let traction = if place == 0 { 0 } else { random.with_ends(0, 1_023) };
+    draft.voltage(place, traction);
+}
+
+fn current(random: &mut Random, draft: &mut Draft) {
+    draft.current(random.with_ends(0, 10_010));
+}

@@ -1,0 +1,51 @@
+//! The second program: the five operations of the build definition, written from the document alone, to be compared with the proved archive.
+//! It favours plainness over speed: bits are a list, and a segment is an owned structure that every operation builds whole.
+
+mod bits;
+#[cfg(test)]
+mod desk;
+mod numbers;
+mod packet_reading;
+mod packet_writing;
+mod refusal;
+mod segment;
+mod sheet_reading;
+mod sheet_writing;
+mod speed;
+
+pub use refusal::Refusal;
+pub use speed::Train;
+
+/// Packet to sheet: the sheet's length, with the sheet at the start of the room.
+pub fn packet_to_sheet(packet: &[u8], room: &mut [u8]) -> Result<usize, Refusal> {
+    let segment = packet_reading::segment_of(packet)?;
+    lay(&sheet_writing::sheet_of(&segment), room)
+}
+
+/// Sheet to packet: the packet's length, with the packet at the start of the room.
+pub fn sheet_to_packet(sheet: &[u8], room: &mut [u8]) -> Result<usize, Refusal> {
+    let segment = sheet_reading::segment_of(sheet)?;
+    lay(&packet_writing::packet_of(&segment), room)
+}
+
+/// The permitted speed in km/h at location `x`, by the packet's speeds times 5.
+pub fn speed_from_packet(packet: &[u8], train: &Train, x: u32) -> Result<u32, Refusal> {
+    speed::permitted(&packet_reading::segment_of(packet)?, train, x)
+}
+
+/// The permitted speed in km/h at location `x`, by the sheet's own speeds.
+pub fn speed_from_sheet(sheet: &[u8], train: &Train, x: u32) -> Result<u32, Refusal> {
+    speed::permitted(&sheet_reading::segment_of(sheet)?, train, x)
+}
+
+/// The altitude of a packet in signed centimetres.
+pub fn altitude_of_packet(packet: &[u8]) -> Result<i32, Refusal> {
+    Ok(packet_reading::segment_of(packet)?.altitude)
+}
+
+/// Copies a result to the start of the room, or leaves the room as it was.
+fn lay(result: &[u8], room: &mut [u8]) -> Result<usize, Refusal> {
+    let start = room.get_mut(..result.len()).ok_or(Refusal::Room)?;
+    start.copy_from_slice(result);
+    Ok(result.len())
+}

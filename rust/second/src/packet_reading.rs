@@ -1,0 +1,158 @@
+//! Reading a packet: the frame, then field by field down into a segment.
+
+use crate::bits::{bits_of, Reader};
+use crate::refusal::Refusal;
+use crate::segment::*;
+
+const HEADER_BYTES: usize = 15;
+
+/// The segment of a packet, or the refusal that comes first in the document's order.
+pub fn segment_of(packet: &[u8]) -> Result<Segment, Refusal> {
+    if packet.len() < HEADER_BYTES {
+        return Err(Refusal::Short);
+    }
+    let (header, body) = packet.split_at(HEADER_BYTES);
+    let mut header = Fields(Reader::new(bits_of(header)));
+    if header.any(8)? != PACKET_NUMBER {
+        return Err(Refusal::Number);
+    }
+    let length = header.any(16)? as usize;
+    if body.len() != length / 8 + usize::from(length % 8 > 0) {
+        return Err(Refusal::Size);
+    }
+    let header = header.header()?;
+    let mut bits = bits_of(body);
+    let padding = bits.split_off(length);
+    let mut body = Fields(Reader::new(bits));
+    let segment = body.segment(header)?;
+    match (body.0.is_empty(), padding.contains(&true)) {
+        (false, _) => Err(Refusal::Bits),
+        (true, true) => Err(Refusal::Padding),
+        (true, false) => Ok(segment),
+    }
+}
+
+struct Fields(Reader);
+
+impl Fields {
+    /// A field of which every value is allowed.
+    fn any(&mut self, width: usize) -> Result<u32, Refusal> {
+        self.0.take(width).ok_or(Refusal::Bits)
+    }
+
+    fn up_to(&mut self, width: usize, largest: u32) -> Result<u32, Refusal> {
+        self.field(width, |value| value <= largest)
+    }
+
+    fn field(&mut self, width: usize, allowed: impl Fn(u32) -> bool) -> Result<u32, Refusal> {
+        let value = self.any(width)?;
+        if allowed(value) {
+            Ok(value)
+        } else {
+            Err(Refusal::Field)
+        }
+    }
+
+    fn header(&mut self) -> Result<Header, Refusal> {
+        Ok(Header {
+            operational: self.field(32, is_operational)?,
+            engine: self.any(24)?,
+            date: self.any(15)?,
+            seconds: self.up_to(17, 86_399)?,
+            counter: self.any(8)?,
+        })
+    }
+
+    // A structure's fields are read in the order in which they are written here, which is the packet's.
+    fn segment(&mut self, header: Header) -> Result<Segment, Refusal> {
+        let identity = Identity { country: self.any(10)?, number: self.any(32)?, version: [self.any(8)?, self.any(8)?] };
+        let length = self.field(24, |length| length > 0)?;
+        Ok(Segment {
+            header,
+            identity,
+            length,
+            eoa_offset: self.any(24)?,
+            utc_offset: self.up_to(7, 112)?,
+            altitude: self.any(20)? as i32 - ALTITUDE_ADDED,
+            elements: self.elements(length)?,
+            voltages: self.voltages(length)?,
+            currents: self.currents(length)?,
+        })
+    }
+
+    /// A change's location: past the one before it, and before the segment's end.
+    fn location(&mut self, before: u32, end: u32) -> Result<u32, Refusal> {
+        let location = self.any(24)?;
+        if before < location && location < end {
+            Ok(location)
+        } else {
+            Err(Refusal::Location)
+        }
+    }
+
+    fn elements(&mut self, end: u32) -> Result<Vec<Element>, Refusal> {
+        let mut start = 0;
+        let mut elements = vec![self.element(start)?];
+        for _ in 0..self.any(5)? {
+            start = self.location(start, end)?;
+            elements.push(self.element(start)?);
+        }
+        Ok(elements)
+    }
+
+    fn element(&mut self, start: u32) -> Result<Element, Refusal> {
+        let speed = self.speed()?;
+        let front = self.any(1)? == 1;
+        let count = self.any(5)?;
+        let entries = (0..count).map(|_| self.entry()).collect::<Result<_, _>>()?;
+        Ok(Element { start, speed, front, entries })
+    }
+
+    fn speed(&mut self) -> Result<u32, Refusal> {
+        Ok(self.up_to(7, 120)? * 5)
+    }
+
+    fn entry(&mut self) -> Result<Entry, Refusal> {
+        let class = match self.up_to(2, 2)? {
+            0 => Class::Cant(CANTS[self.up_to(4, 10)? as usize]),
+            1 => Class::Instead(self.up_to(4, 2)?),
+            _ => Class::Lower(self.up_to(4, 2)?),
+        };
+        Ok(Entry { class, speed: self.speed()? })
+    }
+
+    fn voltages(&mut self, end: u32) -> Result<Vec<VoltageChange>, Refusal> {
+        let mut location = 0;
+        let mut voltages = vec![self.voltage(location)?];
+        for _ in 0..self.up_to(5, 23)? {
+            location = self.location(location, end)?;
+            voltages.push(self.voltage(location)?);
+        }
+        Ok(voltages)
+    }
+
+    fn voltage(&mut self, location: u32) -> Result<VoltageChange, Refusal> {
+        let volts = VOLTAGES[self.up_to(4, 5)? as usize];
+        let traction = self.field(10, |traction| traction == 0 || volts > 0)?;
+        Ok(VoltageChange { location, volts, traction })
+    }
+
+    fn currents(&mut self, end: u32) -> Result<Vec<CurrentChange>, Refusal> {
+        let mut location = 0;
+        let mut currents = vec![self.current(location)?];
+        for _ in 0..self.up_to(5, 23)? {
+            location = self.location(location, end)?;
+            currents.push(self.current(location)?);
+        }
+        Ok(currents)
+    }
+
+    fn current(&mut self, location: u32) -> Result<CurrentChange, Refusal> {
+        let amperes = match self.any(10)? {
+            1_023 => None,
+            tens @ 0..=1_000 => Some(tens * 10),
+            _ => return Err(Refusal::Field),
+        };
+        Ok(CurrentChange { location, amperes })
+    }
+}

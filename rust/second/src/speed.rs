@@ -1,0 +1,58 @@
+//! The permitted speed: the lowest speed of the elements that hold at a location.
+
+use crate::refusal::Refusal;
+use crate::segment::{Class, Element, Entry, Segment, CANTS};
+
+#[derive(Clone, Debug)]
+pub struct Train {
+    pub length: u32,
+    pub cant: u32,
+    pub freight_p: bool,
+    pub freight_g: bool,
+    pub passenger: bool,
+}
+
+impl Train {
+    fn is_allowed(&self) -> bool {
+        (1..=150_000).contains(&self.length) && CANTS.contains(&self.cant)
+    }
+
+    /// Whether the train belongs to a category: 0 freight in P position, 1 freight in G position, 2 passenger.
+    fn belongs(&self, category: u32) -> bool {
+        [self.freight_p, self.freight_g, self.passenger][category as usize]
+    }
+}
+
+/// The permitted speed of a train at location `x` of a segment.
+pub fn permitted(segment: &Segment, train: &Train, x: u32) -> Result<u32, Refusal> {
+    if !train.is_allowed() {
+        return Err(Refusal::Train);
+    }
+    if x >= segment.length {
+        return Err(Refusal::Place);
+    }
+    let starts = segment.elements.iter().map(|element| element.start);
+    let ends = starts.skip(1).chain([segment.length]);
+    let holding = segment.elements.iter().zip(ends).filter(|(element, end)| holds(element, *end, train, x));
+    let speed = holding.map(|(element, _)| speed_of(element, train)).min();
+    Ok(speed.expect("the elements together cover the segment"))
+}
+
+/// Whether an element holds at x: from its start to its end, with Q_FRONT 0 to its end plus the train's length.
+fn holds(element: &Element, end: u32, train: &Train, x: u32) -> bool {
+    let delay = if element.front { 0 } else { train.length };
+    element.start <= x && x < end + delay
+}
+
+/// An element's speed for a train.
+fn speed_of(element: &Element, train: &Train) -> u32 {
+    let lowest = |names: &dyn Fn(&Class) -> bool| {
+        let named = element.entries.iter().filter(|entry: &&Entry| names(&entry.class));
+        named.map(|entry| entry.speed).min()
+    };
+    let by_cant = lowest(&|class| matches!(class, Class::Cant(cant) if *cant == train.cant));
+    let instead = lowest(&|class| matches!(class, Class::Instead(category) if train.belongs(*category)));
+    let lower = lowest(&|class| matches!(class, Class::Lower(category) if train.belongs(*category)));
+    let speed = instead.or(by_cant).unwrap_or(element.speed);
+    lower.map_or(speed, |lower| lower.min(speed))
+}

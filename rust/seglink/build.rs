@@ -1,0 +1,29 @@
+//! Finds the static library: in the folder that SEGLINK_LIB_DIR names, else in the repository's target/staticlib.
+use std::env;
+use std::path::PathBuf;
+
+fn main() {
+    println!("cargo:rerun-if-env-changed=SEGLINK_LIB_DIR");
+    let architecture = env::var("CARGO_CFG_TARGET_ARCH").unwrap_or_default();
+    assert!(
+        architecture == "x86_64",
+        "libseglink.a is for x86-64, and not for {architecture}: build for x86_64-unknown-linux-gnu"
+    );
+    let folder = library_folder();
+    let library = folder.join("libseglink.a");
+    assert!(
+        library.is_file(),
+        "{} is missing: run `rt staticlib seglink`, or set SEGLINK_LIB_DIR to its folder",
+        library.display()
+    );
+    println!("cargo:rerun-if-changed={}", library.display());
+    println!("cargo:rustc-link-search=native={}", folder.display());
+    println!("cargo:rustc-link-lib=static=seglink");
+}
+
+fn library_folder() -> PathBuf {
+    match env::var_os("SEGLINK_LIB_DIR") {
+        Some(folder) => PathBuf::from(folder),
+        None => PathBuf::from(env!("CARGO_MANIFEST_DIR")).join("../../target/staticlib"),
+    }
+}

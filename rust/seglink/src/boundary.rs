@@ -1,0 +1,56 @@
+//! The static library's functions as C declares them, and one safe call of each: the crate's only unsafe code.
+#![allow(unsafe_code)]
+
+use crate::Train;
+
+#[repr(C)]
+pub(crate) struct Converted {
+    pub(crate) refusal: u32,
+    pub(crate) length: u32,
+}
+
+#[repr(C)]
+pub(crate) struct Speed {
+    pub(crate) refusal: u32,
+    pub(crate) speed: u32,
+}
+
+#[repr(C)]
+pub(crate) struct Altitude {
+    pub(crate) refusal: u32,
+    pub(crate) altitude: i32,
+}
+
+// As in include/seglink.h.
+extern "C" {
+    fn seglink_packet_to_sheet(packet: *const u8, packet_len: usize, room: *mut u8, room_len: usize) -> Converted;
+    fn seglink_sheet_to_packet(sheet: *const u8, sheet_len: usize, room: *mut u8, room_len: usize) -> Converted;
+    fn seglink_speed_from_packet(packet: *const u8, packet_len: usize, train: Train, x: u32) -> Speed;
+    fn seglink_speed_from_sheet(sheet: *const u8, sheet_len: usize, train: Train, x: u32) -> Speed;
+    fn seglink_altitude_of_packet(packet: *const u8, packet_len: usize) -> Altitude;
+}
+
+pub(crate) fn packet_to_sheet(packet: &[u8], room: &mut [u8]) -> Converted {
+    // SAFETY: each pointer comes with its own slice's length and is not null; `&mut` shares no byte with `&`; neither is kept.
+    unsafe { seglink_packet_to_sheet(packet.as_ptr(), packet.len(), room.as_mut_ptr(), room.len()) }
+}
+
+pub(crate) fn sheet_to_packet(sheet: &[u8], room: &mut [u8]) -> Converted {
+    // SAFETY: each pointer comes with its own slice's length and is not null; `&mut` shares no byte with `&`; neither is kept.
+    unsafe { seglink_sheet_to_packet(sheet.as_ptr(), sheet.len(), room.as_mut_ptr(), room.len()) }
+}
+
+pub(crate) fn speed_from_packet(packet: &[u8], train: Train, x: u32) -> Speed {
+    // SAFETY: the pointer comes with its slice's length, is not null and is only read; Train has the C layout.
+    unsafe { seglink_speed_from_packet(packet.as_ptr(), packet.len(), train, x) }
+}
+
+pub(crate) fn speed_from_sheet(sheet: &[u8], train: Train, x: u32) -> Speed {
+    // SAFETY: the pointer comes with its slice's length, is not null and is only read; Train has the C layout.
+    unsafe { seglink_speed_from_sheet(sheet.as_ptr(), sheet.len(), train, x) }
+}
+
+pub(crate) fn altitude_of_packet(packet: &[u8]) -> Altitude {
+    // SAFETY: the pointer comes with its slice's length, is not null and is only read.
+    unsafe { seglink_altitude_of_packet(packet.as_ptr(), packet.len()) }
+}

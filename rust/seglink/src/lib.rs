@@ -1,0 +1,89 @@
+//! The segment link in safe Rust: packets to sheets and back, permitted speeds and the altitude, by the proved static library.
+//!
+//! Any bytes may be handed over. An operation answers, or gives the one [`Refusal`] that the build definition names,
+//! and then a lent room keeps every byte it had.
+//!
+//! ```
+//! use seglink::{Refusal, Train};
+//!
+//! // The build definition's sample sheet: a segment of 1 cm, 80 km/h.
+//! let sheet = [6, 0xC5, 0xC6, 4, 1, 0, 0, 7, 0, 0, 0, 0, 1, 0, 0, 0, 80, 0, 0, 0, 0, 0, 0, 0, 0];
+//! let packet = seglink::packet_of(&sheet)?;
+//! assert_eq!(packet.len(), 39);
+//! assert_eq!(seglink::sheet_of(&packet)?, sheet);
+//! assert_eq!(seglink::altitude_of_packet(&packet)?, -100_000);
+//!
+//! let train = Train { length: 200, cant: 150, freight_p: false, freight_g: false, passenger: true };
+//! assert_eq!(seglink::speed_from_packet(&packet, train, 0)?, 80);
+//! assert_eq!(seglink::speed_from_packet(&packet, train, 1), Err(Refusal::PastEnd));
+//! # Ok::<(), Refusal>(())
+//! ```
+#![deny(unsafe_code, missing_docs)]
+
+mod boundary;
+mod refusal;
+mod train;
+
+pub use refusal::Refusal;
+pub use train::Train;
+
+/// The smallest packet's count of bytes.
+pub const SMALLEST_PACKET: usize = 39;
+/// The largest packet's count of bytes: a room of this size holds any packet.
+pub const LARGEST_PACKET: usize = 2001;
+/// The largest sheet's count of bytes: a room of this size holds any sheet.
+pub const LARGEST_SHEET: usize = 5608;
+
+/// Writes the sheet of a packet to the start of the room and answers its length; the room's bytes past it stay.
+pub fn packet_to_sheet(packet: &[u8], room: &mut [u8]) -> Result<usize, Refusal> {
+    let converted = boundary::packet_to_sheet(packet, room);
+    answer(converted.refusal, converted.length as usize)
+}
+
+/// Writes the packet of a sheet to the start of the room and answers its length; the room's bytes past it stay.
+pub fn sheet_to_packet(sheet: &[u8], room: &mut [u8]) -> Result<usize, Refusal> {
+    let converted = boundary::sheet_to_packet(sheet, room);
+    answer(converted.refusal, converted.length as usize)
+}
+
+/// The sheet of a packet, in a room of its own: never refused with [`Refusal::ShortRoom`].
+pub fn sheet_of(packet: &[u8]) -> Result<Vec<u8>, Refusal> {
+    let mut room = vec![0; LARGEST_SHEET];
+    let length = packet_to_sheet(packet, &mut room)?;
+    room.truncate(length);
+    Ok(room)
+}
+
+/// The packet of a sheet, in a room of its own: never refused with [`Refusal::ShortRoom`].
+pub fn packet_of(sheet: &[u8]) -> Result<Vec<u8>, Refusal> {
+    let mut room = vec![0; LARGEST_PACKET];
+    let length = sheet_to_packet(sheet, &mut room)?;
+    room.truncate(length);
+    Ok(room)
+}
+
+/// The permitted speed in km/h of a train at `x` cm from the segment's start, by the packet's speeds: multiples of 5.
+pub fn speed_from_packet(packet: &[u8], train: Train, x: u32) -> Result<u32, Refusal> {
+    let asked = boundary::speed_from_packet(packet, train, x);
+    answer(asked.refusal, asked.speed)
+}
+
+/// The permitted speed in km/h of a train at `x` cm from the segment's start, by the sheet's own speeds.
+pub fn speed_from_sheet(sheet: &[u8], train: Train, x: u32) -> Result<u32, Refusal> {
+    let asked = boundary::speed_from_sheet(sheet, train, x);
+    answer(asked.refusal, asked.speed)
+}
+
+/// The altitude of a packet's segment in signed centimetres.
+pub fn altitude_of_packet(packet: &[u8]) -> Result<i32, Refusal> {
+    let asked = boundary::altitude_of_packet(packet);
+    answer(asked.refusal, asked.altitude)
+}
+
+/// Refusal 0 is success; the library is proved to give no number past those of [`Refusal`].
+fn answer<T>(refusal: u32, value: T) -> Result<T, Refusal> {
+    if refusal == 0 {
+        return Ok(value);
+    }
+    Err(Refusal::from_number(refusal).expect("the static library is of this crate's version"))
+}

@@ -1,0 +1,70 @@
+//! The refusals of the build definition, each with its number and its ground.
+use std::error::Error;
+use std::fmt;
+
+/// Why an operation refused. Where several grounds hold, the build definition's order decides which is given.
+#[derive(Clone, Copy, Debug, PartialEq, Eq, Hash)]
+#[non_exhaustive]
+pub enum Refusal {
+    /// 1: a packet has fewer than 15 bytes.
+    ShortPacket = 1,
+    /// 2: the packet number is not 6.
+    PacketNumber = 2,
+    /// 3: the packet's bytes are not 15 + L_PACKET_ATO / 8, rounded up.
+    PacketLength = 3,
+    /// 4: a field is outside its range or set, or NID_CTRACTION is not 0 at voltage 0.
+    FieldValue = 4,
+    /// 5: a change's location does not rise, is 0, or is at or past L_SP.
+    ChangeLocation = 5,
+    /// 6: a field does not fit in the body's remaining bits, or bits remain after the last field.
+    BodyBits = 6,
+    /// 7: a padding bit is 1.
+    PaddingBit = 7,
+    /// 8: the result is longer than the lent room.
+    ShortRoom = 8,
+    /// 9: a sheet ends too soon, has bytes left, or a number is not in its shortest form or not below 4,294,967,296.
+    SheetForm = 9,
+    /// 10: the train's length or cant deficiency is not allowed.
+    TrainValue = 10,
+    /// 11: x is at or past L_SP.
+    PastEnd = 11,
+}
+
+/// Each refusal with its ground, in the words of the C header.
+const GROUNDS: [(Refusal, &str); 11] = [
+    (Refusal::ShortPacket, "a packet has fewer than 15 bytes"),
+    (Refusal::PacketNumber, "the packet number is not 6"),
+    (Refusal::PacketLength, "the packet's bytes are not 15 + L_PACKET_ATO / 8, rounded up"),
+    (Refusal::FieldValue, "a field is outside its range or set, or NID_CTRACTION is not 0 at voltage 0"),
+    (Refusal::ChangeLocation, "a change's location does not rise, is 0, or is at or past L_SP"),
+    (Refusal::BodyBits, "a field does not fit in the body's remaining bits, or bits remain after the last field"),
+    (Refusal::PaddingBit, "a padding bit is 1"),
+    (Refusal::ShortRoom, "the result is longer than the lent room"),
+    (
+        Refusal::SheetForm,
+        "a sheet ends too soon, has bytes left, or a number is not in its shortest form or not below 4,294,967,296",
+    ),
+    (Refusal::TrainValue, "the train's length or cant deficiency is not allowed"),
+    (Refusal::PastEnd, "x is at or past L_SP"),
+];
+
+impl Refusal {
+    /// The build definition's number, 1 to 11.
+    pub fn number(self) -> u32 {
+        self as u32
+    }
+
+    /// The refusal of a number, if there is one.
+    pub fn from_number(number: u32) -> Option<Refusal> {
+        GROUNDS.iter().map(|&(refusal, _)| refusal).find(|refusal| refusal.number() == number)
+    }
+}
+
+impl fmt::Display for Refusal {
+    fn fmt(&self, f: &mut fmt::Formatter<'_>) -> fmt::Result {
+        let (_, ground) = GROUNDS[self.number() as usize - 1];
+        write!(f, "refused {}: {}", self.number(), ground)
+    }
+}
+
+impl Error for Refusal {}

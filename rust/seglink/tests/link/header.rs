@@ -1,0 +1,48 @@
+//! The C header and this crate name the same refusals, grounds and sizes.
+use seglink::{Refusal, LARGEST_PACKET, LARGEST_SHEET, SMALLEST_PACKET};
+
+const HEADER: &str = include_str!("../../../../include/seglink.h");
+
+/// The header's constants: name without SEGLINK_, value, and the comment behind it.
+fn constants() -> Vec<(&'static str, u32, &'static str)> {
+    HEADER
+        .lines()
+        .filter_map(|line| {
+            let (name, rest) = line.trim().strip_prefix("SEGLINK_")?.split_once(" = ")?;
+            let (value, comment) = rest.split_once("//").unwrap_or((rest, ""));
+            Some((name, value.trim().trim_end_matches(',').parse().ok()?, comment.trim()))
+        })
+        .collect()
+}
+
+/// SHORT_PACKET as ShortPacket.
+fn in_rust(name: &str) -> String {
+    name.split('_').map(|word| word[..1].to_string() + &word[1..].to_lowercase()).collect()
+}
+
+#[test]
+fn every_refusal_has_its_name_number_and_ground_in_both() {
+    let named: Vec<_> = constants().into_iter().filter(|(_, _, comment)| !comment.is_empty()).collect();
+    assert_eq!(named.iter().map(|&(_, number, _)| number).collect::<Vec<_>>(), (1..=11).collect::<Vec<_>>());
+    for (name, number, ground) in named {
+        let refusal = Refusal::from_number(number).unwrap();
+        assert_eq!(refusal.number(), number);
+        assert_eq!(format!("{refusal:?}"), in_rust(name));
+        assert_eq!(refusal.to_string(), format!("refused {number}: {ground}"));
+    }
+}
+
+#[test]
+fn no_other_number_is_a_refusal() {
+    for number in [0, 12, u32::MAX] {
+        assert_eq!(Refusal::from_number(number), None);
+    }
+}
+
+#[test]
+fn the_sizes_are_the_same_in_both() {
+    let size = |name| constants().iter().find(|constant| constant.0 == name).unwrap().1 as usize;
+    assert_eq!(size("SMALLEST_PACKET"), SMALLEST_PACKET);
+    assert_eq!(size("LARGEST_PACKET"), LARGEST_PACKET);
+    assert_eq!(size("LARGEST_SHEET"), LARGEST_SHEET);
+}

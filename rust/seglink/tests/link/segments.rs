@@ -1,0 +1,111 @@
+//! Segments written from the build definition: their fields in order, as a packet and as a sheet.
+
+/// A field: its width and value in the packet, and its number in the sheet.
+#[derive(Clone, Copy)]
+pub struct Field {
+    width: usize,
+    value: u32,
+    number: u32,
+}
+
+pub const DESK_PACKET: [u8; 39] = [
+    0x06, 0x00, 0xB9, 0x00, 0x01, 0x23, 0x45, 0x00, 0x00, 0x01, 0x00, 0x00, 0x00, 0x00, 0x07, // header
+    0x00, 0x00, 0x00, 0x00, 0x00, 0x00, 0x00, 0x00, 0x00, 0x00, 0x40, 0x00, 0x00, 0x00, 0x00, 0x00, // identity
+    0x01, 0x00, 0x00, 0x00, 0x00, 0x3F, 0xF0, 0x00, // speed, voltage, current
+];
+
+pub const DESK_SHEET: [u8; 25] =
+    [0x06, 0xC5, 0xC6, 0x04, 0x01, 0x00, 0x00, 0x07, 0, 0, 0, 0, 0x01, 0, 0, 0, 0x50, 0, 0, 0, 0, 0, 0, 0, 0];
+
+const CANT: [u32; 11] = [80, 100, 130, 150, 165, 180, 210, 225, 245, 275, 300];
+/// The fields of the sheet that stand in the packet's header, beside L_PACKET_ATO.
+const HEADER_FIELDS: usize = 6;
+
+fn same(width: usize, value: u32) -> Field {
+    Field { width, value, number: value }
+}
+
+fn speed(kmh: u32) -> Field {
+    Field { width: 7, value: kmh / 5, number: kmh }
+}
+
+/// An element of the speed profile; an entry is Q_DIFF, class and km/h.
+pub fn element(kmh: u32, front: u32, entries: &[(u32, u32, u32)]) -> Vec<Field> {
+    let mut fields = vec![speed(kmh), same(1, front), same(5, entries.len() as u32)];
+    for &(q_diff, class, kmh) in entries {
+        let number = if q_diff == 0 { CANT[class as usize] } else { class };
+        fields.extend([same(2, q_diff), Field { width: 4, value: class, number }, speed(kmh)]);
+    }
+    fields
+}
+
+/// The desk segment with another length, altitude (as it is sent) and speed profile.
+pub fn segment(l_sp: u32, altitude: u32, start: &[Field], changes: &[(u32, Vec<Field>)]) -> Vec<Field> {
+    let mut fields = vec![same(8, 6), same(32, 0x0001_2345), same(24, 1), same(15, 0), same(17, 0), same(8, 7)];
+    fields.extend([
+        same(10, 0),
+        same(32, 0),
+        same(8, 0),
+        same(8, 0),
+        same(24, l_sp),
+        same(24, 0),
+        same(7, 0),
+        same(20, altitude),
+    ]);
+    fields.extend(start);
+    fields.push(same(5, changes.len() as u32));
+    for (location, element) in changes {
+        fields.push(same(24, *location));
+        fields.extend(element);
+    }
+    let no_limit = Field { width: 10, value: 1023, number: 0 };
+    fields.extend([same(4, 0), same(10, 0), same(5, 0), no_limit, same(5, 0)]);
+    fields
+}
+
+/// Every list full, and every number in as many groups as its field allows.
+pub fn largest() -> Vec<Field> {
+    let mut fields = vec![same(8, 6), same(32, u32::MAX), same(24, 16_777_215), same(15, 32_767), same(17, 86_399), same(8, 255)];
+    fields.extend([same(10, 1023), same(32, u32::MAX), same(8, 255), same(8, 255), same(24, 16_777_215)]);
+    fields.extend([same(24, 16_777_215), same(7, 112), same(20, 1_048_575)]);
+    let volts = Field { width: 4, value: 1, number: 25_000 };
+    let amperes = Field { width: 10, value: 1000, number: 10_001 };
+    fields.extend(full_list(&element(600, 1, &[(0, 10, 600); 31]), 31));
+    fields.extend(full_list(&[volts, same(10, 1023)], 23));
+    fields.extend(full_list(&[amperes], 23));
+    fields
+}
+
+/// What holds from the start, a count, and that many changes which repeat it.
+fn full_list(start: &[Field], count: u32) -> Vec<Field> {
+    let mut fields = start.to_vec();
+    fields.push(same(5, count));
+    for i in 0..count {
+        fields.push(same(24, 2_097_152 + i));
+        fields.extend(start);
+    }
+    fields
+}
+
+/// Bits are filled from the top bit of each byte, each field most significant bit first.
+pub fn packet(fields: &[Field]) -> Vec<u8> {
+    let body: usize = fields[HEADER_FIELDS..].iter().map(|field| field.width).sum();
+    let mut all = fields.to_vec();
+    all.insert(1, same(16, body as u32));
+    let bits: Vec<bool> = all.iter().flat_map(|field| (0..field.width).rev().map(move |i| field.value >> i & 1 == 1)).collect();
+    bits.chunks(8).map(|byte| byte.iter().enumerate().map(|(i, &bit)| (bit as u8) << (7 - i)).sum()).collect()
+}
+
+/// Numbers in groups of seven bits, lowest group first; the top bit is 1 when another group follows.
+pub fn sheet(fields: &[Field]) -> Vec<u8> {
+    let mut bytes = Vec::new();
+    for field in fields {
+        let mut number = field.number;
+        while number > 127 {
+            bytes.push((128 + number % 128) as u8);
+            number /= 128;
+        }
+        bytes.push(number as u8);
+    }
+    bytes
+}

@@ -1,0 +1,66 @@
+//! The permitted speed, from a packet and from a sheet.
+use crate::segments::{element, packet, segment, sheet, Field};
+use seglink::{speed_from_packet, speed_from_sheet, Refusal, Train};
+
+const SHUTTLE: Train = Train { length: 200, cant: 150, freight_p: false, freight_g: false, passenger: false };
+
+/// The answer from the packet, which is also that from the sheet where all speeds are multiples of 5.
+fn permitted(fields: &[Field], train: Train, x: u32) -> u32 {
+    let answer = speed_from_packet(&packet(fields), train, x).unwrap();
+    assert_eq!(speed_from_sheet(&sheet(fields), train, x), Ok(answer));
+    answer
+}
+
+/// The change has the other Q_FRONT, so that a delay tied to the element that follows is seen.
+fn faster_from_500(front: u32) -> Vec<Field> {
+    segment(1000, 0, &element(100, front, &[]), &[(500, element(140, 1 - front, &[]))])
+}
+
+#[test]
+fn the_tail_delays_a_rise() {
+    assert_eq!(permitted(&faster_from_500(0), SHUTTLE, 699), 100);
+    assert_eq!(permitted(&faster_from_500(0), SHUTTLE, 700), 140);
+    assert_eq!(permitted(&faster_from_500(0), Train { length: 1, ..SHUTTLE }, 501), 140);
+}
+
+#[test]
+fn the_front_alone_counts_where_q_front_is_1() {
+    assert_eq!(permitted(&faster_from_500(1), SHUTTLE, 499), 100);
+    assert_eq!(permitted(&faster_from_500(1), SHUTTLE, 500), 140);
+}
+
+#[test]
+fn each_membership_and_the_cant_reach_their_own_entry() {
+    let entries = [(1, 0, 50), (1, 1, 60), (1, 2, 70), (0, 1, 110)];
+    let fields = segment(1000, 0, &element(100, 0, &entries), &[]);
+    assert_eq!(permitted(&fields, SHUTTLE, 0), 100);
+    assert_eq!(permitted(&fields, Train { cant: 100, ..SHUTTLE }, 0), 110);
+    assert_eq!(permitted(&fields, Train { freight_p: true, ..SHUTTLE }, 0), 50);
+    assert_eq!(permitted(&fields, Train { freight_g: true, ..SHUTTLE }, 0), 60);
+    assert_eq!(permitted(&fields, Train { passenger: true, ..SHUTTLE }, 0), 70);
+    assert_eq!(permitted(&fields, Train { freight_g: true, passenger: true, ..SHUTTLE }, 0), 60);
+}
+
+#[test]
+fn a_sheet_answers_with_its_own_speeds() {
+    let fields = segment(1000, 0, &element(84, 0, &[]), &[]);
+    assert_eq!(speed_from_sheet(&sheet(&fields), SHUTTLE, 0), Ok(84));
+    assert_eq!(speed_from_packet(&packet(&fields), SHUTTLE, 0), Ok(80));
+}
+
+#[test]
+fn trains_at_the_ends_of_their_range_are_allowed() {
+    for length in [1, 150_000] {
+        assert_eq!(permitted(&faster_from_500(0), Train { length, ..SHUTTLE }, 0), 100);
+    }
+    for cant in [80, 100, 130, 150, 165, 180, 210, 225, 245, 275, 300] {
+        assert_eq!(permitted(&faster_from_500(0), Train { cant, ..SHUTTLE }, 999), 140);
+    }
+}
+
+#[test]
+fn empty_slices_are_refused_before_train_and_x() {
+    let train = Train { length: 0, ..SHUTTLE };
+    assert_eq!(speed_from_packet(&[], train, u32::MAX), Err(Refusal::ShortPacket));
+    assert_eq!(speed_from_sheet(&[], train, u32::MAX), Err(Refusal::SheetForm));
+}
