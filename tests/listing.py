@@ -1,21 +1,11 @@
 """Runs the listing program on packets that are written here, bit by bit, from the build definition, and compares what it prints."""
 import pathlib
-import platform
 import subprocess
 import sys
 import time
 
 ROOT = pathlib.Path(__file__).resolve().parent.parent
-
-
-def command():
-    """The program is for x86-64: on another processor it runs under Debian's emulator, with the cross compiler's C library."""
-    program = str(ROOT / "target" / "bin" / "listing")
-    if platform.machine() == "x86_64":
-        return [program]
-    said = subprocess.run(["x86_64-linux-gnu-gcc", "-print-file-name=ld-linux-x86-64.so.2"], capture_output=True, text=True, check=True)
-    loader = pathlib.Path(said.stdout.strip())
-    return ["qemu-x86_64", str(loader), "--library-path", str(loader.parent), program]
+RUN = [ROOT / "tests" / "x86", ROOT / "target" / "bin" / "listing"]
 
 
 def field(width, value):
@@ -92,15 +82,15 @@ def refused():
     yield "8207 bytes, the most that pass rule 3", packet(body() + "0" * (65535 - len(body()))), 6
 
 
-def said(run, data):
+def said(data):
     """What the program prints of the data on a pipe."""
-    done = subprocess.run(run, input=data, capture_output=True, check=False)
+    done = subprocess.run(RUN, input=data, capture_output=True, check=False)
     return done.returncode, done.stdout.decode("ascii", "replace"), done.stderr.decode("ascii", "replace")
 
 
-def piece_by_piece(run, data):
+def piece_by_piece(data):
     """The same, where the data comes in three pieces."""
-    child = subprocess.Popen(run, stdin=subprocess.PIPE, stdout=subprocess.PIPE, stderr=subprocess.PIPE)
+    child = subprocess.Popen(RUN, stdin=subprocess.PIPE, stdout=subprocess.PIPE, stderr=subprocess.PIPE)
     for piece in (data[:1], data[1:20], data[20:]):
         child.stdin.write(piece)
         child.stdin.flush()
@@ -110,13 +100,12 @@ def piece_by_piece(run, data):
 
 
 def main():
-    run = command()
     cases = [(name, said, data, text) for name, data, text in accepted()]
     cases += [(name, said, data, f"REFUSED {number}\n") for name, data, number in refused()]
     cases += [("the document's packet, piece by piece", piece_by_piece, SAMPLE, TWO_LINES)]
     failed = 0
     for name, how, data, text in cases:
-        answer = how(run, data)
+        answer = how(data)
         if answer != (0, text, ""):
             failed += 1
             print(f"FAILED: {name}: {answer!r} for {text!r}")

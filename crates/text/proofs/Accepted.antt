@@ -87,7 +87,7 @@ pub record Made (s cells : List ℕ) (n : ℕ) : Type 0 where
   pub numbers : numbersIn (take n cells) ≡ sheetNumbers (valuesOf (fromPacket wireChanges s))
   pub few : changesOf (numbersIn (take n cells)) ≤ 31
 
-pub made : (s room cells : List ℕ) (answer : Converted) → Bytes s → Accepts s → length room ≡ 5608
+pub made : (s room cells : List ℕ) (answer : Converted) → Bytes s → Accepts s → 5608 ≤ length room
     → record { answer = answer; room = cells } ≡ packetToSheet s room → Made s cells (answer .length)
 unfolding packetToSheet
 made s room cells answer ok e h o =

@@ -1,4 +1,4 @@
--- The whole listing: by the altitude's answer, and never longer than a room of 2,048 bytes.
+-- The whole listing: by the altitude's answer, and never longer than 1,669 bytes.
 -- Assumes nothing.
 use mathlib.Core.Path.{_≡_, refl, sym, ap, _∙_}
 use mathlib.Core.List.{List, [], _∷_, _++_}
@@ -79,7 +79,7 @@ listing-short s ok = go (fromPacket wireChanges s) refl
     go (refused q left) d = rw d (omega (arith, refused-short q))
     go (accepted l) d = rw d (lines-short (centimetres (altitudeField l)) (sheetNumbers l) (few-changes s l ok d))
 
-pub listing-laid : (s room t : List ℕ) {r : ℕ} {cells : List ℕ} → Bytes s → length room ≡ 2048 → Laid room 0 t r cells → t ≡ listingOf s
+pub listing-laid : (s room t : List ℕ) {r : ℕ} {cells : List ℕ} → Bytes s → 1669 ≤ length room → Laid room 0 t r cells → t ≡ listingOf s
     → record { length = r; room = cells } ≡ listingIn s room
 unfolding listingIn
 listing-laid s room t {r} {cells} ok h e d =

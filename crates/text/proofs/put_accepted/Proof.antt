@@ -9,6 +9,7 @@ use lib.Seq.{length-take-le}
 use Prim.Native.Nat.{ℕ}
 use mathlib.Core.Path.{sym}
 use denote.Ref.{now}
+use native.Mathlib.Omega.{arith}
 use borrow.Author.Needs.{needs}
 use Rattle.text.proofs.put_accepted.Statement.{statement}
 use Rattle.text.proofs.put_accepted.Tie as tie
@@ -26,7 +27,7 @@ made-here : (c : tie.After-packet-to-sheet) → Made (now (c .before .before .be
 made-here c =
     let s = c .before .before .before .before in
     let ok = bytes-of (now (s .args .packet)) (λ i. c .before .before .before .shared-slice-known .given i .fits) in
-    made (now (s .args .packet)) _ (c .packet-to-sheet .last .1 .0) (c .packet-to-sheet .result) ok (s .pre .0) (length-replicate {A = ℕ} 5608 0) (c .packet-to-sheet .ensures)
+    made (now (s .args .packet)) _ (c .packet-to-sheet .last .1 .0) (c .packet-to-sheet .result) ok (s .pre .0) (omega (arith, length-replicate {A = ℕ} 5608 0)) (c .packet-to-sheet .ensures)
 
 array-share-prefix-sheet : tie.Need-array-share-prefix-sheet
 array-share-prefix-sheet c = made-here (c .before .before) .inside

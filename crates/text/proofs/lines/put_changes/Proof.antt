@@ -18,7 +18,7 @@ abbrev μ-loop : tie.MeasureT-loop
 μ-loop sheet from left room₀ at more₀ place₀ next₀ room more place next = more
 
 loop-holds : tie.Need-loop-holds Inv-loop μ-loop
-loop-holds c = let p = c .before .before .pre in (record { inside = p .0; fits = p .1; makes = λ last cells l. l }, refl)
+loop-holds c = let p = c .before .before .pre in (record { inside = p .0; fits = omega (arith, p .1); makes = λ last cells l. l }, refl)
 
 number-requires : tie.Need-number-requires Inv-loop μ-loop
 number-requires c κs = tt
