@@ -1,7 +1,7 @@
 -- The lines of a listing, put piece by piece, and the numbers that they show.
 -- Assumes nothing.
-use mathlib.Core.Path.{_≡_, refl, sym, ap, _∙_}
-use mathlib.Core.List.{List, [], _∷_, _++_}
+use mathlib.Core.Path.{_≡_, refl, sym, _∙_}
+use mathlib.Core.List.{List, _++_}
 use Prim.Native.Nat.{ℕ, zero, suc, _+_, _*_, _-_, _≤_}
 use native.Mathlib.Nat.{add-zero}
 use native.Mathlib.Omega.{arith}
@@ -10,7 +10,7 @@ use lib.ListN.{length, drop, getD, length-append}
 use lib.Seq.{drop-drop, getD-drop}
 use Rattle.speed.specs.Speed.{Element, afterEntries, afterElement, elementOf, changesFrom, profileOf}
 use Rattle.text.specs.Numbers.{numbersIn, StandsAt}
-use Rattle.words.specs.Words.{ascii, decimal, signed, labelled, Laid}
+use Rattle.words.specs.Words.{ascii, signed, labelled, Laid}
 use Rattle.text.specs.Listing.{names, measures, segmentLine, elementLine, elementLines, lines, changesOf}
 use Rattle.words.proofs.Putting.{laid-on, laid-long, decimal-short}
 

@@ -1,8 +1,8 @@
 -- "no longer input can pass rule 3": what is past 8,208 bytes changes nothing.
 -- Assumes nothing.
 use mathlib.Core.Path.{_≡_, refl, ap, _∙_}
-use mathlib.Core.Bool.{Bool, true, false, cond}
-use mathlib.Core.List.{List, [], _∷_, _++_}
+use mathlib.Core.Bool.{cond}
+use mathlib.Core.List.{List, [], _∷_}
 use Prim.Native.Nat.{ℕ, suc, _+_, _/_, _≤_}
 use native.Mathlib.Omega.{arith}
 use borrow.Author.Tests.{le-ltb, ne-eqb}
@@ -12,7 +12,7 @@ use lib.Seq.{length-take-le}
 use Rattle.bits.specs.Bits.{bitsOf, number, fieldAt}
 use Rattle.bits.proofs.Fields.{field-small}
 use Rattle.bits.proofs.Tests.{by-cases}
-use Rattle.format.specs.Format.{Read, refused}
+use Rattle.format.specs.Format.{refused}
 use Rattle.segment.specs.Segment.{wireChanges}
 use Rattle.segment.specs.Frame.{packetNumber, bodyBits}
 use Rattle.segment.specs.Judgement.{fromPacket}

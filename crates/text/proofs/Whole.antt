@@ -1,13 +1,13 @@
 -- The whole listing: by the altitude's answer, and never longer than 1,669 bytes.
 -- Assumes nothing.
 use mathlib.Core.Path.{_≡_, refl, sym, ap, _∙_}
-use mathlib.Core.List.{List, [], _∷_, _++_}
+use mathlib.Core.List.{List, _++_}
 use Prim.Native.Nat.{ℕ, zero, suc, _+_, _*_, _≤_}
 use native.Mathlib.Omega.{arith}
 use lib.Dec.{lit≤}
-use lib.ListN.{length, drop, getD, length-append}
+use lib.ListN.{length, take, drop, getD, length-append}
 use lib.IntN.{ℤ}
-use lib.Seq.{sets, sets-eq}
+use lib.Seq.{sets, sets-eq, take-append-seam}
 use Rattle.bits.specs.Bits.{Bytes}
 use Rattle.format.specs.Format.{Read, accepted, refused, valuesOf, sheetNumbers}
 use Rattle.segment.specs.Segment.{wireChanges}
@@ -16,7 +16,7 @@ use Rattle.segment.proofs.Refusals.{packet-refusal}
 use Rattle.speed.specs.Speed.{afterElement, elementOf, changesFrom, profileOf}
 use Rattle.altitude.specs.declared.Altitude.{Altitude}
 use Rattle.altitude.specs.Altitude.{centimetres, altitudeField, answered, altitudeOf}
-use Rattle.words.specs.Words.{ascii, labelled, Laid}
+use Rattle.words.specs.Words.{Laid}
 use Rattle.text.specs.Listing.{segmentLine, elementLine, elementLines, lines, refusedLine, listed, listingOf, Listed, listingIn, Accepts, changesOf}
 use Rattle.words.proofs.Putting.{decimal-short}
 use Rattle.text.proofs.Laying.{element-short, segment-short}
@@ -94,3 +94,10 @@ unfolding listingIn
 listing-inside s room e =
     let t = listingOf s in
     omega (arith, ap (λ (x : Listed). x .length) e, ap (λ (x : Listed). length (x .room)) e ∙ length-append t (drop (length t) room))
+
+-- and what the program writes of it is the listing
+pub listing-written : (s room : List ℕ) {r : ℕ} {cells : List ℕ} → record { length = r; room = cells } ≡ listingIn s room → take r cells ≡ listingOf s
+unfolding listingIn
+listing-written s room e =
+    let t = listingOf s in
+    rw (ap (λ (x : Listed). x .length) e, ap (λ (x : Listed). x .room) e) (take-append-seam t (drop (length t) room))

@@ -1,6 +1,4 @@
 -- `text::put_accepted` meets its contract.
-use Rattle.words.specs.Words.{Laid}
-use Rattle.text.specs.Listing.{lines}
 use Rattle.text.proofs.Accepted.{Made, made}
 use Rattle.words.proofs.Signs.{same}
 use Rattle.bits.proofs.Padding.{bytes-of}

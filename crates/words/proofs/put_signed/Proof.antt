@@ -1,5 +1,4 @@
 -- `words::put_signed` meets its contract.
-use Rattle.words.specs.Words.{Laid}
 use Rattle.words.proofs.Putting.{laid-on, laid-long}
 use Rattle.words.proofs.Signs.{text-below, text-not-below}
 use lib.ListN.{length}

@@ -3,7 +3,6 @@ use Rattle.text.specs.Numbers.{numbersIn}
 use Rattle.text.proofs.Laying.{value-at, after-here}
 use lib.ListN.{drop}
 use denote.Ref.{now}
-use native.Mathlib.Omega.{arith}
 use borrow.Author.Needs.{needs}
 use Rattle.text.proofs.lines.after_element.Statement.{statement}
 use Rattle.text.proofs.lines.after_element.Tie as tie

@@ -4,7 +4,7 @@ use Rattle.text.proofs.Reading.{groups-inside, past-more, past-end}
 use Rattle.bits.proofs.Padding.{bytes-of}
 use lib.ListN.{length, drop}
 use Prim.Native.Nat.{_+_, _≤_}
-use mathlib.Core.Path.{_≡_, refl, sym, ap, _∙_}
+use mathlib.Core.Path.{_≡_, refl, sym, _∙_}
 use denote.Ref.{now}
 use native.Mathlib.Omega.{arith}
 use borrow.Author.Needs.{needs}
