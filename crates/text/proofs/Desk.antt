@@ -1,0 +1,23 @@
+-- The desk case of the listing, and the lines of refusals.
+-- Assumes nothing.
+use mathlib.Core.Path.{_≡_, refl}
+use mathlib.Core.List.{[]}
+use lib.ListN.{take}
+use Rattle.bits.specs.Bits.{fieldAt}
+use Rattle.kinds.specs.Kinds.{digits}
+use Rattle.segment.specs.Segment.{entries, changes, lists, body, fields, sheetFields}
+use Rattle.segment.specs.Judgement.{fromPacket}
+use Rattle.segment.specs.Desk.{firstPacket}
+use Rattle.words.specs.Words.{ascii, decimal}
+use Rattle.text.specs.Listing.{listingOf}
+use Rattle.text.specs.Desk.{firstListing}
+
+-- the document's packet gives the document's two lines
+pub desk-listing : listingOf firstPacket ≡ firstListing
+unfolding fieldAt digits entries changes lists body fields sheetFields fromPacket decimal listingOf
+desk-listing = refl
+
+-- "as "REFUSED n" is": the packet without its last byte, and the empty packet
+pub desk-refused : (listingOf (take 38 firstPacket) ≡ ascii "REFUSED 3\n") × (listingOf [] ≡ ascii "REFUSED 1\n")
+unfolding fieldAt digits entries changes lists body fields sheetFields fromPacket decimal listingOf
+desk-refused = (refl, refl)

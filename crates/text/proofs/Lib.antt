@@ -1,0 +1,6 @@
+pub mod Reading
+pub mod Laying
+pub mod Accepted
+pub mod Whole
+pub mod Desk
+pub mod Longer

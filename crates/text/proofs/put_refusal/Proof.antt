@@ -1,0 +1,32 @@
+-- `text::put_refusal` meets its contract.
+use Rattle.words.proofs.Putting.{laid-on, laid-long, decimal-short}
+use native.Mathlib.Omega.{arith}
+use borrow.Author.Needs.{needs}
+use Rattle.text.proofs.put_refusal.Statement.{statement}
+use Rattle.text.proofs.put_refusal.Tie as tie
+
+slice-aggregate-put-labelled : tie.Need-slice-aggregate-put-labelled
+slice-aggregate-put-labelled c = search needs
+
+put-labelled-requires : tie.Need-put-labelled-requires
+put-labelled-requires c κs = let s = c .before .before .before in omega (arith, s .pre, decimal-short (s .args .refusal))
+
+slice-aggregate-put-word : tie.Need-slice-aggregate-put-word
+slice-aggregate-put-word c = search needs
+
+put-word-requires : tie.Need-put-word-requires
+put-word-requires c κs =
+    let s = c .before .before .before .before .before .before .before .before in
+    let e = c .before .before .before .before .put-labelled .ensures in
+    omega (arith, s .pre, e .place, laid-long e, decimal-short (s .args .refusal))
+
+same-length : tie.Need-same-length
+same-length c = search needs
+
+returns : tie.Need-returns
+returns c = laid-on (c .before .before .before .before .before .before .before .put-labelled .ensures) (c .before .before .put-word .ensures)
+
+pub put-refusal-spec : {M : Type 1} → statement M
+put-refusal-spec =
+    tie.close
+    (tie.spec slice-aggregate-put-labelled put-labelled-requires slice-aggregate-put-word put-word-requires same-length returns)

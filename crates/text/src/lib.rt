@@ -1,0 +1,50 @@
+// The listing of a packet as text, in a room of the caller's.
+ghost use mathlib.Core.Path.{_≡_};
+ghost use Prim.Native.Nat.{_≤_};
+ghost use lib.ListN.{length};
+ghost use Rattle.format.specs.Format.{sheetNumbers, valuesOf};
+ghost use Rattle.segment.specs.Segment.{wireChanges};
+ghost use Rattle.segment.specs.Judgement.{fromPacket};
+ghost use Rattle.words.specs.Words.{Laid};
+ghost use Rattle.text.specs.Listing.{Accepts, refusedLine, lines, listingIn};
+
+mod lines;
+mod sheet;
+
+// The bytes of a room that holds any listing.
+pub const ROOM: usize = 2048;
+
+// The most bytes of a sheet.
+const SHEET: usize = 5608;
+
+// Writes the line of a refusal at the front of the room.
+fn put_refusal(refusal: u32, room: &mut [u8]) -> usize
+    requires { ⌜ 19 ≤ length (now room) ⌝ }
+    ensures { λ r. ⌜ Laid (now (room .entry)) 0 (refusedLine refusal) r (now (room .exit)) ⌝ }
+{
+    let at = words::put_labelled(room, 0, b"REFUSED ", refusal);
+    words::put_word(room, at, b"\n")
+}
+
+// Writes the lines of an accepted packet at the front of the room, by way of its sheet.
+fn put_accepted(packet: &[u8], altitude: i32, room: &mut [u8]) -> usize
+    requires { ⌜ Accepts (now packet) × (1669 ≤ length (now room)) ⌝ }
+    ensures { λ r. ⌜ Laid (now (room .entry)) 0 (lines altitude (sheetNumbers (valuesOf (fromPacket wireChanges (now (packet .entry)))))) r (now (room .exit)) ⌝ }
+{
+    let mut sheet = [0u8; SHEET];
+    let converted = convert::to_sheet::packet_to_sheet(packet, &mut sheet);
+    let length = converted.length as usize;
+    lines::put_lines(&sheet[..length], altitude, room)
+}
+
+// The listing of a packet, at the front of a room that holds any listing; the length is returned.
+pub fn listing(packet: &[u8], room: &mut [u8; ROOM]) -> usize
+    ensures { λ r. ⌜ record { length = r; room = now (room .exit) } ≡ listingIn (now (packet .entry)) (now (room .entry)) ⌝ }
+{
+    let answer = altitude::altitude_of_packet(packet);
+    let refusal = answer.refusal;
+    if refusal != 0 {
+        return put_refusal(refusal, room);
+    }
+    put_accepted(packet, answer.altitude, room)
+}
