@@ -3,3 +3,4 @@ pub mod Spelling
 pub mod Padding
 pub mod OneBit
 pub mod Fields
+pub mod Cells

@@ -1,8 +1,5 @@
-// The two conversions: judged whole, and then written with nothing left to refuse.
+// What a conversion answers.
 ghost use mathlib.Core.Path.{_≡_};
-
-pub mod to_packet;
-pub mod to_sheet;
 
 // A refusal's number, or 0 and the length of the result.
 #[repr(C)]
@@ -14,13 +11,13 @@ pub struct Converted {
 // The result is longer than the lent room.
 pub const TOO_LONG: u32 = 8;
 
-fn refused(refusal: u32) -> Converted
+pub fn refused(refusal: u32) -> Converted
     ensures { λ r. ⌜ r ≡ record { refusal = refusal; length = 0 } ⌝ }
 {
     Converted { refusal, length: 0 }
 }
 
-fn done(length: u32) -> Converted
+pub fn done(length: u32) -> Converted
     ensures { λ r. ⌜ r ≡ record { refusal = 0; length = length } ⌝ }
 {
     Converted { refusal: 0, length }

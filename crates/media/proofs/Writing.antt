@@ -3,10 +3,11 @@
 use mathlib.Core.Path.{_≡_, refl, sym, ap, _∙_}
 use mathlib.Core.List.{List, [], _∷_, _++_}
 use mathlib.Core.Option.{none, some}
-use Prim.Native.Nat.{ℕ, _+_, _≤_, suc}
+use Prim.Native.Nat.{ℕ, _+_, _≤_}
 use native.Mathlib.Omega.{arith}
-use lib.ListN.{length, length-append, set}
+use lib.ListN.{length, length-append}
 use lib.Seq.{sets}
+use Rattle.bits.proofs.Cells.{sets-append}
 use Rattle.kinds.specs.declared.Item.{Item}
 use Rattle.kinds.specs.Kind.{Kind}
 use Rattle.format.specs.Format.{Format, end, Read, accepted, refused, Medium, with, read, write}
@@ -18,10 +19,6 @@ use Rattle.media.specs.declared.Taken.{Taken}
 use Rattle.media.specs.declared.Taken.the-variants.{Is, Refused}
 use Rattle.media.proofs.Sources.{Source}
 use Rattle.media.proofs.Loops.{went, read-on, read-off}
-
-pub sets-append : {B : Type 0} (l : List B) (i : ℕ) (p q : List B) → sets l i (p ++ q) ≡ sets (sets l i p) (i + length p) q
-sets-append l i [] q = let e : i + 0 ≡ i = omega arith in rw e
-sets-append l i (v ∷ p) q = let e : i + suc (length p) ≡ suc i + length p = omega arith in rw e (sets-append (set l i v) (suc i) p q)
 
 with-accepted : {C : Type 0} (i : Item) (r : Read) (l : List Item) → with i r ≡ accepted l → ((t : List Item) → r ≡ accepted t → l ≡ i ∷ t → C) → C
 with-accepted i (accepted t) l e k = k t refl (cc)

@@ -13,7 +13,7 @@ use speed::Train;
 pub extern "C" fn seglink_packet_to_sheet(packet: &[u8], room: &mut [u8]) -> Converted
     ensures { λ r. ⌜ record { answer = r; room = now (room .exit) } ≡ packetToSheet (now (packet .entry)) (now (room .entry)) ⌝ }
 {
-    convert::to_sheet::packet_to_sheet(packet, room)
+    to_sheet::packet_to_sheet(packet, room)
 }
 
 // The packet of a sheet, in a lent room: a refusal's number, or 0 and the packet's length.
@@ -21,7 +21,7 @@ pub extern "C" fn seglink_packet_to_sheet(packet: &[u8], room: &mut [u8]) -> Con
 pub extern "C" fn seglink_sheet_to_packet(sheet: &[u8], room: &mut [u8]) -> Converted
     ensures { λ r. ⌜ record { answer = r; room = now (room .exit) } ≡ sheetToPacket (now (sheet .entry)) (now (room .entry)) ⌝ }
 {
-    convert::to_packet::sheet_to_packet(sheet, room)
+    to_packet::sheet_to_packet(sheet, room)
 }
 
 // The permitted speed at x for a train, from a packet: a refusal's number, or 0 and the speed in km/h.

@@ -24,9 +24,10 @@ use Rattle.segment.proofs.Ends.{sheetFields-lawful, sheet-most}
 use Rattle.convert.specs.declared.Converted.{Converted}
 use Rattle.convert.specs.Convert.{Outcome, placed, converted, packetToSheet}
 use Rattle.speed.specs.Speed.{afterEntries, afterElement}
-use Rattle.text.specs.Numbers.{numbersIn}
-use Rattle.text.specs.Listing.{Accepts, changesOf}
-use Rattle.text.proofs.Reading.{numbers-written}
+use Rattle.sheets.specs.Numbers.{numbersIn}
+use Rattle.lines.specs.Lines.{changesOf}
+use Rattle.text.specs.Listing.{Accepts}
+use Rattle.sheets.proofs.Reading.{numbers-written}
 
 -- ---- "N_ITER 5 (0 to 31), then that many changes"
 

@@ -1,5 +1,3 @@
-pub mod Reading
-pub mod Laying
 pub mod Accepted
 pub mod Whole
 pub mod Desk

@@ -17,9 +17,10 @@ use Rattle.speed.specs.Speed.{afterElement, elementOf, changesFrom, profileOf}
 use Rattle.altitude.specs.declared.Altitude.{Altitude}
 use Rattle.altitude.specs.Altitude.{centimetres, altitudeField, answered, altitudeOf}
 use Rattle.words.specs.Words.{Laid}
-use Rattle.text.specs.Listing.{segmentLine, elementLine, elementLines, lines, refusedLine, listed, listingOf, Listed, listingIn, Accepts, changesOf}
+use Rattle.lines.specs.Lines.{segmentLine, elementLine, elementLines, lines, changesOf}
+use Rattle.text.specs.Listing.{refusedLine, listed, listingOf, Listed, listingIn, Accepts}
 use Rattle.words.proofs.Putting.{decimal-short}
-use Rattle.text.proofs.Laying.{element-short, segment-short}
+use Rattle.lines.proofs.Laying.{element-short, segment-short}
 use Rattle.text.proofs.Accepted.{few-changes}
 
 -- ---- by the altitude's answer

@@ -6,10 +6,8 @@ ghost use Rattle.format.specs.Format.{sheetNumbers, valuesOf};
 ghost use Rattle.segment.specs.Segment.{wireChanges};
 ghost use Rattle.segment.specs.Judgement.{fromPacket};
 ghost use Rattle.words.specs.Words.{Laid};
-ghost use Rattle.text.specs.Listing.{Accepts, refusedLine, lines, listingIn};
-
-mod lines;
-mod sheet;
+ghost use Rattle.lines.specs.Lines.{lines};
+ghost use Rattle.text.specs.Listing.{Accepts, refusedLine, listingIn};
 
 // The bytes of a room that holds any listing.
 pub const ROOM: usize = 2048;
@@ -32,7 +30,7 @@ fn put_accepted(packet: &[u8], altitude: i32, room: &mut [u8]) -> usize
     ensures { λ r. ⌜ Laid (now (room .entry)) 0 (lines altitude (sheetNumbers (valuesOf (fromPacket wireChanges (now (packet .entry)))))) r (now (room .exit)) ⌝ }
 {
     let mut sheet = [0u8; SHEET];
-    let converted = convert::to_sheet::packet_to_sheet(packet, &mut sheet);
+    let converted = to_sheet::packet_to_sheet(packet, &mut sheet);
     let length = converted.length as usize;
     lines::put_lines(&sheet[..length], altitude, room)
 }

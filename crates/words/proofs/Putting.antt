@@ -11,7 +11,7 @@ use lib.Dec.{ltb}
 use lib.ListN.{length, length-append, drop, getD}
 use lib.Seq.{sets, length-sets, drop-cons}
 use Rattle.bits.proofs.Tests.{by-cases}
-use Rattle.media.proofs.Writing.{sets-append}
+use Rattle.bits.proofs.Cells.{sets-append}
 use Rattle.words.specs.Words.{digit, digitsOf, decimal, Laid}
 
 -- ---- text after text

@@ -1,21 +1,22 @@
 -- `speed::valid` meets its contract.
 use Rattle.speed.proofs.Laws.{valid-short, valid-long, valid-figure}
 use mathlib.Core.Path.{_∙_}
+use native.Mathlib.Omega.{arith}
 use borrow.Author.Needs.{needs}
 use Rattle.speed.proofs.valid.Statement.{statement}
 use Rattle.speed.proofs.valid.Tie as tie
 
 returns : tie.Need-returns
-returns c = valid-short (c .before .before .args .train) (c .if1 .taken)
+returns c = valid-short (c .before .before .args .train) (omega (arith, c .if1 .taken))
 
 returns-2 : tie.Need-returns-2
-returns-2 c = valid-long (c .before .before .before .before .args .train) (c .if2 .taken)
+returns-2 c = valid-long (c .before .before .before .before .args .train) (omega (arith, c .if2 .taken))
 
 is-figure-requires : tie.Need-is-figure-requires
 is-figure-requires c κs = search needs
 
 returns-3 : tie.Need-returns-3
-returns-3 c = c .is-figure .ensures ∙ valid-figure (c .before .before .before .before .before .args .train) (c .before .before .before .if1 .left) (c .before .if2 .left)
+returns-3 c = c .is-figure .ensures ∙ valid-figure (c .before .before .before .before .before .args .train) (omega (arith, c .before .before .before .if1 .left)) (omega (arith, c .before .if2 .left))
 
 pub valid-spec : {M : Type 1} → statement M
 valid-spec = tie.close (tie.spec returns returns-2 is-figure-requires returns-3)

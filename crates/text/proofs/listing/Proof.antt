@@ -2,7 +2,8 @@
 use Rattle.format.specs.Format.{valuesOf, sheetNumbers}
 use Rattle.segment.specs.Segment.{wireChanges}
 use Rattle.segment.specs.Judgement.{fromPacket}
-use Rattle.text.specs.Listing.{lines, refusedLine}
+use Rattle.lines.specs.Lines.{lines}
+use Rattle.text.specs.Listing.{refusedLine}
 use Rattle.text.proofs.Whole.{refused-text, accepted-packet, accepted-text, listing-laid}
 use Rattle.words.proofs.Signs.{same}
 use Rattle.bits.proofs.Padding.{bytes-of}

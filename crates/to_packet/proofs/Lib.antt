@@ -1,0 +1,2 @@
+pub mod ToPacket
+pub mod Parts
