@@ -26,13 +26,16 @@ pub record Placed (s : List ℕ) (at stop : ℕ) : Type 0 where
   pub inside : stop ≤ 8 * length s
   pub few : stop < 2 ^ 32
 
+-- a value judged by its kind, and the place after it
 abbrev pub takenAt : Field → ℕ → Taken
 takenAt (Judged.Is i) next = Is i next
 takenAt (Judged.Refused r) next = Refused r
 
+-- "field by field in order (6 before 4 or 5)"
 abbrev pub bitsTaken : Kind → List ℕ → ℕ → ℕ → Taken
 bitsTaken k s at stop = cond (ltb (stop - at) (k .width)) (Refused 6) (takenAt (fromPacket k (fieldAt s at (k .width))) (at + k .width))
 
+-- "number by number, 9 before 2, 4 or 5"
 abbrev pub numbered : Kind → ℕ → Number → Taken
 numbered k at (Value a) = takenAt (fromSheet k a) (at + length (groupsIn a))
 numbered k at Bad = Refused (refusalOf Bad)

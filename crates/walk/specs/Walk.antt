@@ -1,4 +1,4 @@
--- Where each state of the walk stands in the segment's tree.
+-- Where each state of the walk stands in the segment's tree, and the walk after a value.
 -- Assumes nothing.
 use mathlib.Core.Bool.{Bool, true, false}
 use mathlib.Core.Option.{Option, none, some}
@@ -22,7 +22,7 @@ abbrev pub asked : Asked → Option Kind
 asked (Field rule) = some (meaning rule)
 asked Nothing = none
 
--- what a part begins with, the limit of its changes, and what comes after it
+-- what a part begins with: "V_STATIC", "M_VOLTAGE", "M_CURRENT"
 abbrev pub startOf : Part → Format → Format
 startOf Speeds f = profile f
 startOf Volts f = voltage f
@@ -33,11 +33,13 @@ firstPhase Speeds = VStatic
 firstPhase Volts = MVoltage
 firstPhase Amperes = MCurrent
 
+-- the limit of its changes: "N_ITER 5 (0 to 31)", "N_ITER 5 (0 to 23)"
 abbrev pub limitOf : Part → ℕ
 limitOf Speeds = 31
 limitOf Volts = wireChanges
 limitOf Amperes = wireChanges
 
+-- what comes after it: the parts "in order"
 abbrev pub afterPart : Part → ℕ → Format
 afterPart Speeds lsp = part voltage wireChanges lsp (part current wireChanges lsp end)
 afterPart Volts lsp = part current wireChanges lsp end
