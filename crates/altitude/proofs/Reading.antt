@@ -23,10 +23,11 @@ use Rattle.media.specs.Places.{rest}
 use Rattle.media.proofs.Sources.{rest-length}
 use Rattle.format.specs.Media.{sheet}
 use Rattle.judge.specs.declared.Verdict.the-variants.{Accepted, Refused}
-use Rattle.judge.specs.declared.Frame.{Frame}
-use Rattle.judge.specs.declared.Frame.the-variants as Frame
-use Rattle.judge.specs.Verdict.{sizeFrom, packetVerdict, frameOf}
-use Rattle.judge.proofs.Framing.{whole}
+use Rattle.frame.specs.declared.Frame.{Frame}
+use Rattle.frame.specs.declared.Frame.the-variants as Frame
+use Rattle.judge.specs.Verdict.{sizeFrom, packetVerdict}
+use Rattle.frame.specs.Framed.{frameOf}
+use Rattle.frame.proofs.Framing.{whole}
 use Rattle.judge.proofs.Accepted.{verdict-accepted, verdict-refused, parts, accepted-frame}
 use Rattle.altitude.specs.declared.Altitude.{Altitude}
 use Rattle.altitude.specs.Altitude.{centimetres, altitudeField, answered, altitudeOf}

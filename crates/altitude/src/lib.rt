@@ -16,7 +16,7 @@ pub struct Altitude {
 const ADDED: i32 = 100000;
 
 // The bit of M_SP_ALTITUDE, after the header and the seven fields before it.
-const FIELD: usize = 8 * judge::HEADER
+const FIELD: usize = 8 * frame::HEADER
     + (body::NidC::WIDTH
         + body::NidSp::WIDTH
         + 2 * body::MSpVersion::WIDTH

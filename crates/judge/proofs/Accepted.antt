@@ -15,9 +15,10 @@ use Rattle.segment.specs.Judgement.{fromPacket}
 use Rattle.segment.proofs.Framing.{padded-accepted}
 use Rattle.media.specs.Places.{rest}
 use Rattle.judge.specs.declared.Verdict.the-variants.{Accepted, Refused}
-use Rattle.judge.specs.declared.Frame.the-variants as Frame
-use Rattle.judge.specs.Verdict.{verdictOf, frameOf}
-use Rattle.judge.proofs.Framing.{packet-frame, packet-fields}
+use Rattle.frame.specs.declared.Frame.the-variants as Frame
+use Rattle.judge.specs.Verdict.{verdictOf}
+use Rattle.frame.specs.Framed.{frameOf}
+use Rattle.frame.proofs.Framing.{packet-frame, packet-fields}
 use Rattle.judge.proofs.Sizes.{refused-apart}
 
 pub verdict-accepted : {C : Type 0} (size : List Item → ℕ) (r : Read) (n : ℕ) → Accepted n ≡ verdictOf size r → (r ≡ accepted (valuesOf r) → n ≡ size (valuesOf r) → C) → C

@@ -1,21 +1,17 @@
 -- A verdict on a packet or a sheet: the size of what it converts to, or the refusal.
 -- Assumes nothing.
-use mathlib.Core.Bool.{Bool, true, false, cond}
 use mathlib.Core.List.{List, _∷_}
-use Prim.Native.Nat.{ℕ, _+_, _/_}
-use lib.Dec.{eqb, ltb}
+use Prim.Native.Nat.{ℕ, _+_}
 use lib.ListN.{length}
 use Rattle.kinds.specs.declared.Item.{Item}
 use Rattle.format.specs.Format.{Format, Medium, Read, read, write, answerOf}
 use Rattle.format.specs.Media.{packet, sheet}
 use Rattle.segment.specs.Segment.{fields, sheetFields, wireChanges}
-use Rattle.segment.specs.Frame.{packetNumber, bodyBits, numberItem}
+use Rattle.segment.specs.Frame.{numberItem}
 use Rattle.segment.specs.Judgement.{segmentNumber, fromPacket, fromSheet}
 use Rattle.media.specs.Places.{rest}
 use Rattle.judge.specs.declared.Verdict.{Verdict}
 use Rattle.judge.specs.declared.Verdict.the-variants.{Accepted, Refused}
-use Rattle.judge.specs.declared.Frame.{Frame}
-use Rattle.judge.specs.declared.Frame.the-variants as Frame
 
 abbrev pub verdictOf : (List Item → ℕ) → Read → Verdict
 verdictOf size r = answerOf Refused (λ l. Accepted (size l)) r
@@ -36,11 +32,3 @@ packetVerdict s = verdictOf (sizeFrom sheet (sheetFields wireChanges) 0) (fromPa
 -- the verdict on a sheet, with the bits of its packet without L_PACKET_ATO and padding
 unfoldable pub sheetVerdict : List ℕ → Verdict
 sheetVerdict s = verdictOf (sizeFrom packet (sheetFields wireChanges) 0) (fromSheet wireChanges s)
-
--- refusals 1, 2 and 3, or the bit where a packet's fields end
-abbrev pub frameOf : List ℕ → Frame
-frameOf s =
-    cond (ltb (length s) 15) (Frame.Refused 1)
-    (cond (eqb (packetNumber s) segmentNumber)
-    (cond (eqb (length s) (15 + (bodyBits s + 7) / 8)) (Frame.End (120 + bodyBits s)) (Frame.Refused 3))
-    (Frame.Refused 2))

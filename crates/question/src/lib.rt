@@ -2,7 +2,7 @@
 ghost use mathlib.Core.Path.{_≡_};
 ghost use Rattle.media.specs.Places.{Placed};
 ghost use Rattle.question.specs.Question.{refusedWith, answered, fieldsHeard, sheetHeard, speedFromPacket, speedFromSheet};
-use judge::Frame;
+use frame::Frame;
 use kinds::header;
 use media::Taken;
 use speed::Train;
@@ -52,7 +52,7 @@ fn packet_fields(s: &[u8], stop: usize, train: Train, x: u32) -> Heard
 {
     let mut w = walk::start().next(header::NidPacketAto::LARGEST);
     let mut dial = dial::start();
-    let mut at = judge::FIRST_FIELD;
+    let mut at = frame::FIRST_FIELD;
     loop {
         match w.rule() {
             Asked::Nothing => {
@@ -108,15 +108,15 @@ fn sheet_fields(s: &[u8], train: Train, x: u32) -> Heard
 pub fn speed_from_packet(packet: &[u8], train: Train, x: u32) -> Speed
     ensures { λ r. ⌜ r ≡ speedFromPacket (now (packet .entry)) train x ⌝ }
 {
-    match judge::framed(packet) {
+    match frame::framed(packet) {
         Frame::Refused(r) => refused(r),
         Frame::End(stop) => match packet_fields(packet, stop, train, x) {
             Heard::Refused(r) => refused(r),
             Heard::Speed(lsp, speed) => {
-                if judge::zero_from(packet, stop) {
+                if frame::zero_from(packet, stop) {
                     answer(train, x, lsp, speed)
                 } else {
-                    refused(judge::PADDING)
+                    refused(frame::PADDING)
                 }
             }
         },

@@ -25,10 +25,11 @@ use Rattle.segment.proofs.Framing.{padded-accepted}
 use Rattle.media.specs.Places.{rest}
 use Rattle.bits.proofs.Cells.{sets-append}
 use Rattle.judge.specs.declared.Verdict.the-variants.{Accepted, Refused}
-use Rattle.judge.specs.declared.Frame.{Frame}
-use Rattle.judge.specs.declared.Frame.the-variants as Frame
-use Rattle.judge.specs.Verdict.{verdictOf, sizeFrom, packetVerdict, frameOf}
-use Rattle.judge.proofs.Framing.{whole}
+use Rattle.frame.specs.declared.Frame.{Frame}
+use Rattle.frame.specs.declared.Frame.the-variants as Frame
+use Rattle.judge.specs.Verdict.{verdictOf, sizeFrom, packetVerdict}
+use Rattle.frame.specs.Framed.{frameOf}
+use Rattle.frame.proofs.Framing.{whole}
 use Rattle.judge.proofs.Accepted.{verdict-accepted, verdict-refused, accepted-frame, Parts, parts}
 use Rattle.convert.specs.Convert.{Outcome, refusedWith, placed, fitted, converted, packetToSheet, sheetOf, Writable, fieldsOf, FieldsWritable}
 

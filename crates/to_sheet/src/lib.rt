@@ -6,7 +6,7 @@ use convert::Converted;
 use convert::TOO_LONG;
 use convert::done;
 use convert::refused;
-use judge::Frame;
+use frame::Frame;
 use judge::Verdict;
 use kinds::header;
 use media::Taken;
@@ -18,7 +18,7 @@ fn write_fields(packet: &[u8], stop: usize, room: &mut [u8], start: usize)
     ensures { λ _. ⌜ now (room .exit) ≡ sets (now (room .entry)) start (fieldsOf (now (packet .entry)) stop) ⌝ }
 {
     let mut w = walk::start().next(header::NidPacketAto::LARGEST);
-    let mut at = judge::FIRST_FIELD;
+    let mut at = frame::FIRST_FIELD;
     let mut n = start;
     loop {
         match w.rule() {
@@ -44,7 +44,7 @@ fn write_sheet(packet: &[u8], room: &mut [u8])
     requires { ⌜ Writable (now packet) (now room) ⌝ }
     ensures { λ _. ⌜ now (room .exit) ≡ sets (now (room .entry)) 0 (sheetOf (now (packet .entry))) ⌝ }
 {
-    match judge::framed(packet) {
+    match frame::framed(packet) {
         Frame::Refused(_) => {}
         Frame::End(stop) => {
             let n = numbers::put_number(room, 0, header::NidPacketAto::LARGEST);

@@ -1,6 +1,6 @@
 -- `judge::judge_packet` meets its contract.
 use mathlib.Core.Path.{sym, _∙_}
-use Rattle.judge.proofs.Framing.{whole, packet-frame, packet-refused, packet-accepted, packet-padding}
+use Rattle.frame.proofs.Framing.{whole, packet-frame, packet-refused, packet-accepted, packet-padding}
 use Rattle.judge.proofs.Sizes.{refused-apart}
 use Rattle.judge.specs.declared.Verdict.{Verdict}
 use Rattle.judge.specs.declared.Verdict.the-variants.{Accepted, Refused}

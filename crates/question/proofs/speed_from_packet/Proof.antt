@@ -2,7 +2,7 @@
 use Rattle.question.proofs.Hearing.{packet-answered, refused-apart}
 use Rattle.question.specs.declared.Heard.the-variants.{Refused}
 use Rattle.question.specs.Question.{heard}
-use Rattle.judge.proofs.Framing.{whole, packet-frame, packet-refused, packet-accepted, packet-padding}
+use Rattle.frame.proofs.Framing.{whole, packet-frame, packet-refused, packet-accepted, packet-padding}
 use mathlib.Core.Path.{sym, _∙_}
 use denote.Ref.{now}
 use borrow.Author.Needs.{needs}

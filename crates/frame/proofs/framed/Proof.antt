@@ -1,12 +1,12 @@
--- `judge::framed` meets its contract.
+-- `frame::framed` meets its contract.
 use Rattle.segment.specs.Frame.{packetNumber}
 use mathlib.Core.Path.{_≡_, sym, _∙_}
-use Rattle.judge.proofs.Framing.{frame-short, frame-number, frame-end, frame-length}
+use Rattle.frame.proofs.Framing.{frame-short, frame-number, frame-end, frame-length}
 use denote.Ref.{now}
 use native.Mathlib.Omega.{arith}
 use borrow.Author.Needs.{needs}
-use Rattle.judge.proofs.framed.Statement.{statement}
-use Rattle.judge.proofs.framed.Tie as tie
+use Rattle.frame.proofs.framed.Statement.{statement}
+use Rattle.frame.proofs.framed.Tie as tie
 
 returns : tie.Need-returns
 returns c = frame-short (now (c .before .before .args .s)) (c .if1 .taken)

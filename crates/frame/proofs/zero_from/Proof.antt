@@ -1,10 +1,10 @@
--- `judge::zero_from` meets its contract.
+-- `frame::zero_from` meets its contract.
 use lib.Dec.{eqb}
 use Prim.Native.Nat.{ℕ}
 use mathlib.Core.Path.{ap}
 use borrow.Author.Needs.{needs}
-use Rattle.judge.proofs.zero_from.Statement.{statement}
-use Rattle.judge.proofs.zero_from.Tie as tie
+use Rattle.frame.proofs.zero_from.Statement.{statement}
+use Rattle.frame.proofs.zero_from.Tie as tie
 
 mul-read-field : tie.Need-mul-read-field
 mul-read-field c = search needs

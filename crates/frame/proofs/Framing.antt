@@ -21,9 +21,9 @@ use Rattle.segment.specs.Segment.{fields, wireChanges}
 use Rattle.segment.specs.Frame.{packetNumber, bodyBits, fromOne, numberItem, padded}
 use Rattle.segment.specs.Judgement.{segmentNumber, fromPacket}
 use Rattle.media.specs.Places.{rest, Placed}
-use Rattle.judge.specs.declared.Frame.{Frame}
-use Rattle.judge.specs.declared.Frame.the-variants as Frame
-use Rattle.judge.specs.Verdict.{frameOf}
+use Rattle.frame.specs.declared.Frame.{Frame}
+use Rattle.frame.specs.declared.Frame.the-variants as Frame
+use Rattle.frame.specs.Framed.{frameOf}
 
 module _ (s : List ℕ) where
   pub frame-short : length s < 15 → Frame.Refused 1 ≡ frameOf s

@@ -1,0 +1,19 @@
+-- The frame of a packet as the code answers it: a refusal, or where the fields end.
+-- Assumes nothing.
+use mathlib.Core.Bool.{cond}
+use mathlib.Core.List.{List}
+use Prim.Native.Nat.{ℕ, _+_, _/_}
+use lib.Dec.{eqb, ltb}
+use lib.ListN.{length}
+use Rattle.segment.specs.Frame.{packetNumber, bodyBits}
+use Rattle.segment.specs.Judgement.{segmentNumber}
+use Rattle.frame.specs.declared.Frame.{Frame}
+use Rattle.frame.specs.declared.Frame.the-variants as Frame
+
+-- refusals 1, 2 and 3, or the bit where a packet's fields end
+abbrev pub frameOf : List ℕ → Frame
+frameOf s =
+    cond (ltb (length s) 15) (Frame.Refused 1)
+    (cond (eqb (packetNumber s) segmentNumber)
+    (cond (eqb (length s) (15 + (bodyBits s + 7) / 8)) (Frame.End (120 + bodyBits s)) (Frame.Refused 3))
+    (Frame.Refused 2))

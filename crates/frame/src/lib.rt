@@ -1,0 +1,51 @@
+// The frame of a packet: its refusals, the bit where its fields end, and its padding.
+ghost use mathlib.Core.Path.{_≡_};
+ghost use Prim.Native.Nat.{_+_, _*_, _-_, _^_, _≤_, _<_};
+ghost use lib.ListN.{length};
+ghost use lib.Dec.{eqb};
+ghost use Rattle.bits.specs.Bits.{fieldAt};
+ghost use Rattle.frame.specs.Framed.{frameOf};
+use kinds::header;
+
+pub enum Frame {
+    End(usize),
+    Refused(u32),
+}
+
+// The refusals of a frame.
+pub const SHORT: u32 = 1;
+
+pub const LENGTH: u32 = 3;
+
+pub const PADDING: u32 = 7;
+
+// The bytes of a header, and the bits before its field NID_OPERATIONAL.
+pub const HEADER: usize = 15;
+
+pub const FIRST_FIELD: usize = 24;
+
+// The bit where a packet's fields end, or the refusal of its frame.
+pub fn framed(s: &[u8]) -> Frame
+    ensures { λ r. ⌜ r ≡ frameOf (now (s .entry)) ⌝ }
+{
+    if s.len() < HEADER {
+        return Frame::Refused(SHORT);
+    }
+    if bits::read_field(s, 0, header::NidPacketAto::WIDTH) != header::NidPacketAto::LARGEST {
+        return Frame::Refused(kinds::PACKET_NUMBER);
+    }
+    let body = bits::read_field(s, 8, header::LPacketAto::WIDTH) as usize;
+    if s.len() == HEADER + (body + 7) / 8 {
+        Frame::End(8 * HEADER + body)
+    } else {
+        Frame::Refused(LENGTH)
+    }
+}
+
+// Whether the bits from stop on, fewer than eight, are zero.
+pub fn zero_from(s: &[u8], stop: usize) -> bool
+    requires { ⌜ (stop ≤ 8 * length (now s)) × (8 * length (now s) < stop + 8) × (stop < 2 ^ 32) ⌝ }
+    ensures { λ r. ⌜ r ≡ eqb (fieldAt (now (s .entry)) stop (8 * length (now (s .entry)) - stop)) 0 ⌝ }
+{
+    bits::read_field(s, stop, (8 * s.len() - stop) as u32) == 0
+}
