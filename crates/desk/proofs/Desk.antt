@@ -11,7 +11,7 @@ use Rattle.segment.specs.Judgement.{fromPacket, fromSheet, toPacket, toSheet}
 use Rattle.convert.specs.Convert.{packetToSheet, sheetToPacket}
 use Rattle.question.specs.Question.{speedFromPacket, speedFromSheet}
 use Rattle.altitude.specs.Altitude.{altitudeOf}
-use Rattle.seglink.specs.Desk.{desk}
+use Rattle.desk.specs.Desk.{desk}
 
 pub desk-holds : map (λ c. c .said) desk ≡ map (λ c. c .due) desk
 unfolding fieldAt numberOf groupsIn digits place entries changes lists body fields sheetFields fromPacket fromSheet toPacket toSheet packetToSheet sheetToPacket speedFromPacket speedFromSheet altitudeOf
