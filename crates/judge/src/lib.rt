@@ -5,7 +5,7 @@ ghost use Rattle.judge.specs.Verdict.{fieldsVerdict, packetVerdict, shee
 use frame::Frame;
 use kinds::header;
 use media::Taken;
-use walk::Asked;
+use rules::Asked;
 
 pub enum Verdict {
     Accepted(usize),
@@ -21,7 +21,7 @@ fn packet_fields(s: &[u8], stop: usize) -> Verdict
     let mut at = frame::FIRST_FIELD;
     let mut n: usize = 1;
     loop {
-        match w.rule() {
+        match rules::rule(w) {
             Asked::Nothing => {
                 if at == stop {
                     return Verdict::Accepted(n);
@@ -69,7 +69,7 @@ pub fn judge_sheet(s: &[u8]) -> Verdict
     let mut at: usize = 0;
     let mut n: usize = 0;
     loop {
-        match w.rule() {
+        match rules::rule(w) {
             Asked::Nothing => {
                 if at == s.len() {
                     return Verdict::Accepted(n);

@@ -5,8 +5,8 @@ ghost use Rattle.question.specs.Question.{refusedWith, answered, fieldsH
 use frame::Frame;
 use kinds::header;
 use media::Taken;
+use rules::Asked;
 use speed::Train;
-use walk::Asked;
 
 // A refusal's number, or 0 and the permitted speed in km/h.
 #[repr(C)]
@@ -54,7 +54,7 @@ fn packet_fields(s: &[u8], stop: usize, train: Train, x: u32) -> Heard
     let mut dial = dial::start();
     let mut at = frame::FIRST_FIELD;
     loop {
-        match w.rule() {
+        match rules::rule(w) {
             Asked::Nothing => {
                 if at == stop {
                     return Heard::Speed(w.lsp, dial.permitted(train, w.lsp, x));
@@ -83,7 +83,7 @@ fn sheet_fields(s: &[u8], train: Train, x: u32) -> Heard
     let mut dial = dial::start();
     let mut at: usize = 0;
     loop {
-        match w.rule() {
+        match rules::rule(w) {
             Asked::Nothing => {
                 if at == s.len() {
                     return Heard::Speed(w.lsp, dial.permitted(train, w.lsp, x));

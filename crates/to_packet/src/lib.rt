@@ -14,7 +14,7 @@ use frame::HEADER;
 use judge::Verdict;
 use kinds::header;
 use media::Taken;
-use walk::Asked;
+use rules::Asked;
 
 // The fields of the header after L_PACKET_ATO.
 const HEADER_FIELDS: u32 = 5;
@@ -39,7 +39,7 @@ fn write_header(sheet: &[u8], header: &mut [u8], bits: u32) -> usize
     let mut bit = FIRST_FIELD;
     let mut left = HEADER_FIELDS;
     while 0 < left {
-        match w.rule() {
+        match rules::rule(w) {
             Asked::Nothing => {
                 return at;
             }
@@ -70,7 +70,7 @@ fn write_body(sheet: &[u8], start: usize, body: &mut [u8])
     let mut at = start;
     let mut bit: usize = 0;
     loop {
-        match w.rule() {
+        match rules::rule(w) {
             Asked::Nothing => {
                 bits::store_field(body, bit, ((8 - bit % 8) % 8) as u32, 0);
                 return;

@@ -10,7 +10,7 @@ use frame::Frame;
 use judge::Verdict;
 use kinds::header;
 use media::Taken;
-use walk::Asked;
+use rules::Asked;
 
 // Writes the numbers of a packet's fields, which end at the bit stop, from the byte start of the room on.
 fn write_fields(packet: &[u8], stop: usize, room: &mut [u8], start: usize)
@@ -21,7 +21,7 @@ fn write_fields(packet: &[u8], stop: usize, room: &mut [u8], start: usize)
     let mut at = frame::FIRST_FIELD;
     let mut n = start;
     loop {
-        match w.rule() {
+        match rules::rule(w) {
             Asked::Nothing => {
                 return;
             }

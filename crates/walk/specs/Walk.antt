@@ -1,11 +1,8 @@
 -- Where each state of the walk stands in the segment's tree, and the walk after a value.
 -- Assumes nothing.
 use mathlib.Core.Bool.{Bool, true, false}
-use mathlib.Core.Option.{Option, none, some}
 use Prim.Native.Nat.{ℕ, zero, suc}
-use Rattle.kinds.specs.Kind.{Kind}
 use Rattle.kinds.specs.Kinds.{speed, qFront, nIter, class, nidCTraction}
-use Rattle.kinds.specs.Rules.{meaning}
 use Rattle.format.specs.Format.{Format, end, field, then}
 use Rattle.format.specs.Place.{after, skip}
 use Rattle.segment.specs.Segment.{entries, profile, voltage, current, changes, part, sheetFields, wireChanges}
@@ -14,13 +11,6 @@ use Rattle.walk.specs.declared.Part.{Part}
 use Rattle.walk.specs.declared.Part.the-variants.{Speeds, Volts, Amperes}
 use Rattle.walk.specs.declared.Phase.{Phase}
 use Rattle.walk.specs.declared.Phase.the-variants.{NidPacketAto, NidOperational, NidEngine, TTimestampDate, TTimestampSeconds, NPacketCounter, NidC, NidSp, MajorVersion, MinorVersion, LSp, DEoAOffset, QUtcOffset, MSpAltitude, VStatic, QFront, Entries, QDiff, Class, VDiff, MVoltage, NidCTraction, MCurrent, Changes, DLocation, End}
-use Rattle.walk.specs.declared.Asked.{Asked}
-use Rattle.walk.specs.declared.Asked.the-variants.{Field, Nothing}
-
--- the kind that is asked for
-abbrev pub asked : Asked → Option Kind
-asked (Field rule) = some (meaning rule)
-asked Nothing = none
 
 -- what a part begins with: "V_STATIC", "M_VOLTAGE", "M_CURRENT"
 abbrev pub startOf : Part → Format → Format

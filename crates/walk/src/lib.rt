@@ -1,13 +1,6 @@
 // The walk: a place in the segment's tree, one value on at a time.
 ghost use mathlib.Core.Path.{_≡_};
-ghost use Rattle.format.specs.Place.{next};
-ghost use Rattle.walk.specs.Walk.{asked, firstPhase, limitOf, formatOf, firstWalk, moved, to, beforeElement, partEnd, beforeChanges, pastElement, beforeEntries, on};
-use kinds::Rule;
-use kinds::body;
-use kinds::header;
-
-// The most voltage changes, and the most current changes.
-pub const WIRE_CHANGES: u32 = 23;
+ghost use Rattle.walk.specs.Walk.{firstPhase, firstWalk, moved, to, beforeElement, partEnd, beforeChanges, pastElement, beforeEntries, on};
 
 // The three parts that have changes: the speed profile, the rated voltage, the current limitation.
 pub enum Part {
@@ -62,11 +55,6 @@ pub struct Walk {
     pub chosen: u32,
 }
 
-pub enum Asked {
-    Field(Rule),
-    Nothing,
-}
-
 // Before a sheet's first number.
 pub fn start() -> Walk
     ensures { λ r. ⌜ r ≡ firstWalk ⌝ }
@@ -88,16 +76,6 @@ pub fn body_start() -> Walk
     ensures { λ r. ⌜ r ≡ to firstWalk Phase.NidC 0 ⌝ }
 {
     start().at(Phase::NidC, 0)
-}
-
-fn limit(part: Part) -> u32
-    ensures { λ r. ⌜ r ≡ limitOf part ⌝ }
-{
-    match part {
-        Part::Speeds => body::NIter::LARGEST,
-        Part::Volts => WIRE_CHANGES,
-        Part::Amperes => WIRE_CHANGES,
-    }
 }
 
 fn first_phase(part: Part) -> Phase
@@ -229,42 +207,6 @@ impl Walk {
             left: self.left,
             more: n - 1,
             chosen: 0,
-        }
-    }
-
-    // The rule of the field that stands next.
-    pub fn rule(self) -> Asked
-        ensures { λ r. ⌜ asked r ≡ next (formatOf self) ⌝ }
-    {
-        let phase = self.phase;
-        let part = self.part;
-        match phase {
-            Phase::NidPacketAto => Asked::Field(header::NidPacketAto::rule()),
-            Phase::NidOperational => Asked::Field(header::NidOperational::rule()),
-            Phase::NidEngine => Asked::Field(header::NidEngine::rule()),
-            Phase::TTimestampDate => Asked::Field(header::TTimestampDate::rule()),
-            Phase::TTimestampSeconds => Asked::Field(header::TTimestampSeconds::rule()),
-            Phase::NPacketCounter => Asked::Field(header::NPacketCounter::rule()),
-            Phase::NidC => Asked::Field(body::NidC::rule()),
-            Phase::NidSp => Asked::Field(body::NidSp::rule()),
-            Phase::MajorVersion => Asked::Field(body::MSpVersion::rule()),
-            Phase::MinorVersion => Asked::Field(body::MSpVersion::rule()),
-            Phase::LSp => Asked::Field(body::LSp::rule()),
-            Phase::DEoAOffset => Asked::Field(body::DEoAOffset::rule()),
-            Phase::QUtcOffset => Asked::Field(body::QUtcOffset::rule()),
-            Phase::MSpAltitude => Asked::Field(body::MSpAltitude::rule()),
-            Phase::VStatic => Asked::Field(body::VStatic::rule()),
-            Phase::QFront => Asked::Field(body::QFront::rule()),
-            Phase::Entries => Asked::Field(body::NIter::rule(body::NIter::LARGEST)),
-            Phase::QDiff => Asked::Field(body::QDiff::rule()),
-            Phase::Class => Asked::Field(body::class_at(self.chosen)),
-            Phase::VDiff => Asked::Field(body::VStatic::rule()),
-            Phase::MVoltage => Asked::Field(body::MVoltage::rule()),
-            Phase::NidCTraction => Asked::Field(body::NidCTraction::rule(self.chosen)),
-            Phase::MCurrent => Asked::Field(body::MCurrent::rule()),
-            Phase::Changes => Asked::Field(body::NIter::rule(limit(part))),
-            Phase::DLocation => Asked::Field(body::DLocation::rule(self.last, self.lsp)),
-            Phase::End => Asked::Nothing,
         }
     }
 

@@ -7,7 +7,8 @@ use Rattle.judge.proofs.Sizes.{sized, sized-on, sized-end}
 use Rattle.judge.specs.declared.Verdict.the-variants.{Refused}
 use Rattle.walk.proofs.Standing.{walk-on}
 use Rattle.judge.specs.Verdict.{sheetVerdict}
-use Rattle.walk.specs.Walk.{asked, formatOf}
+use Rattle.rules.specs.Asked.{asked}
+use Rattle.walk.specs.Walk.{formatOf}
 use Rattle.media.proofs.Sources.{sheet-source}
 use Rattle.segment.proofs.Ends.{sheetFields-lawful}
 use Rattle.segment.specs.Judgement.{fromSheet}

@@ -7,7 +7,8 @@ use Rattle.media.proofs.Loops.{Going, went, alike, going-on, going-off, going-e
 use Rattle.judge.proofs.Sizes.{sized, sized-first, sized-on, sized-end}
 use Rattle.judge.specs.declared.Verdict.the-variants.{Refused}
 use Rattle.walk.proofs.Standing.{walk-on}
-use Rattle.walk.specs.Walk.{asked, formatOf}
+use Rattle.rules.specs.Asked.{asked}
+use Rattle.walk.specs.Walk.{formatOf}
 use Rattle.media.proofs.Sources.{packet-source, rest-none, rest-some}
 use Rattle.segment.specs.Segment.{fields, sheetFields}
 use Rattle.format.proofs.Stepping.{lawful-kind}

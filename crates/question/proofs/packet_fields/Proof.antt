@@ -2,7 +2,8 @@
 use Rattle.question.proofs.Hearing.{leftHeard, hearing-on, hearing-end}
 use Rattle.question.specs.declared.Heard.the-variants.{Refused}
 use Rattle.question.specs.Question.{fieldsHeard}
-use Rattle.walk.specs.Walk.{asked, formatOf}
+use Rattle.rules.specs.Asked.{asked}
+use Rattle.walk.specs.Walk.{formatOf}
 use Rattle.media.proofs.Loops.{Going, went, going-off, going-left}
 use Rattle.media.proofs.Sources.{packet-source, rest-none, rest-some}
 use Rattle.segment.proofs.Ends.{fields-lawful}

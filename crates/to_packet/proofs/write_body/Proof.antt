@@ -2,7 +2,8 @@
 use Rattle.walk.proofs.Standing.{walk-on, body-stands}
 use Rattle.to_packet.proofs.ToPacket.{body-lawful, body-done}
 use Rattle.convert.specs.Convert.{bodyBitsOf}
-use Rattle.walk.specs.Walk.{asked, formatOf}
+use Rattle.rules.specs.Asked.{asked}
+use Rattle.walk.specs.Walk.{formatOf}
 use Rattle.media.proofs.Loops.{went}
 use Rattle.media.proofs.Writing.{Writing, never-off, writing-on, field-fits, writing-all, writing-end}
 use Rattle.media.proofs.Sources.{sheet-source}

@@ -2,7 +2,8 @@
 use Rattle.walk.proofs.Standing.{walk-on, first-stands}
 use Rattle.to_packet.proofs.ToPacket.{Heading, heading-start, header-start, heading-on, field-end, head-inside, head-goes-on, header-cells, body-place, body-rest, bits-low}
 use Rattle.convert.specs.Convert.{bitsOfSheet}
-use Rattle.walk.specs.Walk.{asked, formatOf}
+use Rattle.rules.specs.Asked.{asked}
+use Rattle.walk.specs.Walk.{formatOf}
 use Rattle.media.proofs.Writing.{never-off}
 use Rattle.media.proofs.Sources.{sheet-source}
 use Rattle.segment.specs.Segment.{sheetFields}

@@ -1,7 +1,8 @@
 -- `to_sheet::write_fields` meets its contract.
 use Rattle.walk.proofs.Standing.{walk-on}
 use Rattle.convert.specs.Convert.{fieldsOf}
-use Rattle.walk.specs.Walk.{asked, formatOf}
+use Rattle.rules.specs.Asked.{asked}
+use Rattle.walk.specs.Walk.{formatOf}
 use Rattle.media.proofs.Loops.{went}
 use Rattle.media.proofs.Writing.{Writing, never-off, writing-on, field-fits, writing-end}
 use Rattle.media.proofs.Sources.{packet-source}

@@ -1,0 +1,96 @@
+-- `rules::rule` meets its contract.
+use Rattle.walk.proofs.Standing.{stands}
+use Rattle.segment.specs.Segment.{entries, changes, lists, body, fields, sheetFields}
+use Rattle.format.specs.Place.{next}
+use Rattle.kinds.specs.Kinds.{nIter}
+use Rattle.kinds.specs.Kind.{Kind}
+use Prim.Native.Nat.{ℕ}
+use mathlib.Core.Option.{some}
+use mathlib.Core.Path.{ap, _∙_}
+use borrow.Author.Needs.{needs}
+use Rattle.rules.proofs.rule.Statement.{statement}
+use Rattle.rules.proofs.rule.Tie as tie
+
+pub rule-spec : {M : Type 1} → statement M
+unfolding entries changes lists body fields sheetFields
+rule-spec =
+    tie.close
+    (tie.spec
+    (λ c. search needs)
+    (λ c κs. search needs)
+    (λ c. search needs)
+    (λ c κs. search needs)
+    (λ c. search needs)
+    (λ c κs. search needs)
+    (λ c. search needs)
+    (λ c κs. search needs)
+    (λ c. search needs)
+    (λ c κs. search needs)
+    (λ c. search needs)
+    (λ c κs. search needs)
+    (λ c. search needs)
+    (λ c κs. search needs)
+    (λ c. search needs)
+    (λ c κs. search needs)
+    (λ c. search needs)
+    (λ c κs. search needs)
+    (λ c. search needs)
+    (λ c κs. search needs)
+    (λ c. search needs)
+    (λ c κs. search needs)
+    (λ c. search needs)
+    (λ c κs. search needs)
+    (λ c. search needs)
+    (λ c κs. search needs)
+    (λ c. search needs)
+    (λ c κs. search needs)
+    (λ c. search needs)
+    (λ c κs. search needs)
+    (λ c. search needs)
+    (λ c κs. search needs)
+    (λ c. search needs)
+    (λ c κs. search needs)
+    (λ c. search needs)
+    (λ c κs. search needs)
+    (λ c. search needs)
+    (λ c κs. search needs)
+    (λ c. search needs)
+    (λ c κs. search needs)
+    (λ c. search needs)
+    (λ c κs. search needs)
+    (λ c. search needs)
+    (λ c κs. search needs)
+    (λ c. search needs)
+    (λ c κs. search needs)
+    (λ c. search needs)
+    (λ c κs. search needs)
+    (λ c κs. search needs)
+    (λ c. search needs)
+    (λ c κs. search needs)
+    (λ c. search needs)
+    (λ c. ap (λ (k : Kind). some k) (c .rule .ensures .kind) ∙ ap next (stands (c .before .before .before .args .w) (c .before .enum-told .given .1)))
+    (λ c. ap (λ (k : Kind). some k) (c .rule2 .ensures .kind) ∙ ap next (stands (c .before .before .before .args .w) (c .before .enum-told2 .given .1)))
+    (λ c. ap (λ (k : Kind). some k) (c .rule3 .ensures .kind) ∙ ap next (stands (c .before .before .before .args .w) (c .before .enum-told3 .given .1)))
+    (λ c. ap (λ (k : Kind). some k) (c .rule4 .ensures .kind) ∙ ap next (stands (c .before .before .before .args .w) (c .before .enum-told4 .given .1)))
+    (λ c. ap (λ (k : Kind). some k) (c .rule5 .ensures .kind) ∙ ap next (stands (c .before .before .before .args .w) (c .before .enum-told5 .given .1)))
+    (λ c. ap (λ (k : Kind). some k) (c .rule6 .ensures .kind) ∙ ap next (stands (c .before .before .before .args .w) (c .before .enum-told6 .given .1)))
+    (λ c. ap (λ (k : Kind). some k) (c .rule7 .ensures .kind) ∙ ap next (stands (c .before .before .before .args .w) (c .before .enum-told7 .given .1)))
+    (λ c. ap (λ (k : Kind). some k) (c .rule8 .ensures .kind) ∙ ap next (stands (c .before .before .before .args .w) (c .before .enum-told8 .given .1)))
+    (λ c. ap (λ (k : Kind). some k) (c .rule9 .ensures .kind) ∙ ap next (stands (c .before .before .before .args .w) (c .before .enum-told9 .given .1)))
+    (λ c. ap (λ (k : Kind). some k) (c .rule10 .ensures .kind) ∙ ap next (stands (c .before .before .before .args .w) (c .before .enum-told10 .given .1)))
+    (λ c. ap (λ (k : Kind). some k) (c .rule11 .ensures .kind) ∙ ap next (stands (c .before .before .before .args .w) (c .before .enum-told11 .given .1)))
+    (λ c. ap (λ (k : Kind). some k) (c .rule12 .ensures .kind) ∙ ap next (stands (c .before .before .before .args .w) (c .before .enum-told12 .given .1)))
+    (λ c. ap (λ (k : Kind). some k) (c .rule13 .ensures .kind) ∙ ap next (stands (c .before .before .before .args .w) (c .before .enum-told13 .given .1)))
+    (λ c. ap (λ (k : Kind). some k) (c .rule14 .ensures .kind) ∙ ap next (stands (c .before .before .before .args .w) (c .before .enum-told14 .given .1)))
+    (λ c. ap (λ (k : Kind). some k) (c .rule15 .ensures .kind) ∙ ap next (stands (c .before .before .before .args .w) (c .before .enum-told15 .given .1)))
+    (λ c. ap (λ (k : Kind). some k) (c .rule16 .ensures .kind) ∙ ap next (stands (c .before .before .before .args .w) (c .before .enum-told16 .given .1)))
+    (λ c. ap (λ (k : Kind). some k) (c .rule17 .ensures .kind) ∙ ap next (stands (c .before .before .before .args .w) (c .before .enum-told17 .given .1)))
+    (λ c. ap (λ (k : Kind). some k) (c .rule18 .ensures .kind) ∙ ap next (stands (c .before .before .before .args .w) (c .before .enum-told18 .given .1)))
+    (λ c. ap (λ (k : Kind). some k) (c .class-at .ensures) ∙ ap next (stands (c .before .before .before .args .w) (c .before .enum-told19 .given .1)))
+    (λ c. ap (λ (k : Kind). some k) (c .rule19 .ensures .kind) ∙ ap next (stands (c .before .before .before .args .w) (c .before .enum-told20 .given .1)))
+    (λ c. ap (λ (k : Kind). some k) (c .rule20 .ensures .kind) ∙ ap next (stands (c .before .before .before .args .w) (c .before .enum-told21 .given .1)))
+    (λ c. ap (λ (k : Kind). some k) (c .rule21 .ensures) ∙ ap next (stands (c .before .before .before .args .w) (c .before .enum-told22 .given .1)))
+    (λ c. ap (λ (k : Kind). some k) (c .rule22 .ensures .kind) ∙ ap next (stands (c .before .before .before .args .w) (c .before .enum-told23 .given .1)))
+    (λ c. ap (λ (k : Kind). some k) (c .rule23 .ensures .kind) ∙ ap (λ (m : ℕ). some (nIter m)) (c .before .limit .ensures) ∙ ap next (stands (c .before .before .before .before .args .w) (c .before .before .enum-told24 .given .1)))
+    (λ c. ap (λ (k : Kind). some k) (c .rule24 .ensures .kind) ∙ ap next (stands (c .before .before .before .args .w) (c .before .enum-told25 .given .1)))
+    (λ c. ap next (stands (c .before .before .args .w) (c .enum-told26 .given .1))))
