@@ -7,6 +7,8 @@ import sys
 ROOT = pathlib.Path(__file__).resolve().parent.parent
 CRATES = [line.split(":")[0].strip() for line in (ROOT / "crates.txt").read_text().splitlines() if ":" in line.split("#")[0]]
 SECONDS = 120
+# what an error says that is of the edit's shape, or of another declaration, and not of a fact
+SHAPES = ("can be named from here", "has no field", "was not admitted")
 
 
 def functions(path):
@@ -80,7 +82,7 @@ def edits():
         for label in labels:
             log = (ROOT / "target" / "must-fail" / crate / label.stem / ".log").read_text()
             errors = [line for line in log.splitlines() if ": error: " in line or "it is not proved that" in line]
-            if not errors or "can be named from here" in errors[0]:
+            if not errors or any(shape in errors[0] for shape in SHAPES):
                 yield f"{crate}/{label.stem}: {errors[0][:200] if errors else 'no error'}"
 
 
