@@ -14,8 +14,9 @@ use Rattle.format.specs.Format.{Read, accepted, sheetNumbers}
 use Rattle.format.specs.Media.{sheet}
 use Rattle.format.specs.Conforming.{lowered}
 use Rattle.format.proofs.Lawful.{to-sheet}
-use Rattle.segment.specs.Segment.{sheetFields, wireChanges}
-use Rattle.segment.specs.Judgement.{fromPacket, fromSheet, toPacket, toSheet}
+use Rattle.segment.specs.Segment.{fields, sheetFields, wireChanges}
+use Rattle.segment.specs.Frame.{framed}
+use Rattle.segment.specs.Judgement.{segmentNumber, fromPacket, fromSheet, afterNumber, toPacket, toSheet}
 use Rattle.segment.proofs.Ends.{sheetFields-lawful}
 use Rattle.speed.specs.declared.Train.{Train}
 use Rattle.speed.specs.Speed.{speedIn}
@@ -23,8 +24,8 @@ use Rattle.question.specs.declared.Speed.{Speed}
 use Rattle.question.specs.Question.{speedFromPacket, speedFromSheet}
 use Rattle.altitude.specs.Altitude.{altitudeOf}
 use Rattle.convert.specs.Convert.{refusedWith, placed, fitted, converted, packetToSheet, sheetToPacket}
-use Rattle.seglink.specs.Promised.{PacketValues, SheetValues, ConvertiblePacket, ConvertibleSheet, AnswerablePacket, AnswerableSheet, answerInFives, GreatestFive, loweredNumbers, Done, result, spelled, Lowering}
-use Rattle.seglink.proofs.Values.{packet-taken, sheet-taken, lowered-packet, lowered-good, kept, packets, sheets, side-result, side-converted, side-speed, side-answered, speed-none, altitude-none, in-fives, asked-lowered, placed-result, numbers-spelled, lowering}
+use Rattle.seglink.specs.Promised.{PacketValues, SheetValues, ConvertiblePacket, ConvertibleSheet, AnswerablePacket, AnswerableSheet, answerInFives, GreatestFive, loweredNumbers, Done, result, spelled, spelledBits, spelledPacket, Lowering}
+use Rattle.seglink.proofs.Values.{packet-taken, sheet-taken, lowered-packet, lowered-good, kept, packets, sheets, side-result, side-converted, side-speed, side-answered, speed-none, altitude-none, in-fives, asked-lowered, placed-result, numbers-spelled, bits-spelled, lowering}
 
 -- ==== 1. "Whatever bytes come in, every public operation ends with an answer or the one refusal the rules name."
 
@@ -80,6 +81,11 @@ module _ (s room : List ℕ) where
 pub every-field : (l : List Item) → PacketValues l → toSheet wireChanges l ≡ spelled (sheetNumbers l)
 unfolding toSheet
 every-field l c = numbers-spelled c
+
+-- the packet of a sheet is the value of every field of every change in its width, in order, framed and padded, and nothing else
+pub every-bit : (l : List Item) → toPacket wireChanges l ≡ spelledPacket (spelledBits (fields wireChanges) (afterNumber l))
+unfolding toPacket
+every-bit l = ap (framed segmentNumber) (bits-spelled (fields wireChanges) (afterNumber l))
 
 -- "Packet read and written again: the same packet."
 pub packet-again : (s room back : List ℕ) → Bytes s → Done (packetToSheet s room) → length s ≤ length back

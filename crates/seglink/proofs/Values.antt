@@ -1,7 +1,7 @@
 -- What the promises rest on: packets and sheets of good values, a conversion's outcomes, and the lowering of any tree's numbers.
 -- Assumes nothing.
 use mathlib.Core.Path.{_≡_, refl, sym, ap, ap₂, _∙_}
-use mathlib.Core.Bool.{true, _&&_}
+use mathlib.Core.Bool.{Bool, true, _&&_}
 use mathlib.Core.List.{List, [], _∷_, _++_}
 use mathlib.Core.Option.{some}
 use mathlib.Core.Logic.{_↔_}
@@ -12,14 +12,14 @@ use borrow.Author.Tests.{leb-true, ltb-true, ltb-false, le-ltb, lt-ltb}
 use lib.Dec.{leb, ltb, lit<, lit≤}
 use lib.ListN.{length, drop}
 use lib.Seq.{take-at}
-use Rattle.bits.specs.Bits.{Bytes}
+use Rattle.bits.specs.Bits.{Bytes, bitsOf}
 use Rattle.bits.proofs.Tests.{by-cases, and-left, and-right}
 use Rattle.numbers.specs.Numbers.{groupsIn}
 use Rattle.kinds.specs.declared.Item.{Item}
 use Rattle.kinds.specs.Kind.{Kind}
 use Rattle.kinds.specs.Kinds.{speed, mCurrent}
 use Rattle.fields.proofs.Lawful.{LawfulKind, speed-lowered, current-lowered}
-use Rattle.format.specs.Format.{Format, Read, accepted, refused, write, answerOf, sheetNumbers}
+use Rattle.format.specs.Format.{Format, end, field, Read, accepted, refused, write, answerOf, sheetNumbers}
 use Rattle.format.specs.Media.{packet, sheet}
 use Rattle.format.specs.Conforming.{Conforming, done, also, InSheet, lowered}
 use Rattle.format.proofs.Lawful.{Lawful, goes, to-packet, lowered-bits}
@@ -38,7 +38,7 @@ use Rattle.question.specs.Question.{asked}
 use Rattle.question.specs.Question as question
 use Rattle.altitude.specs.Altitude.{answered}
 use Rattle.convert.specs.Convert.{Outcome, refusedWith, placed, fitted, converted}
-use Rattle.seglink.specs.Promised.{PacketValues, SheetValues, Convertible, Answerable, answerInFives, GreatestFive, Done, result, spelled, LoweredTo, Lowering, over, one}
+use Rattle.seglink.specs.Promised.{PacketValues, SheetValues, Convertible, Answerable, answerInFives, GreatestFive, Done, result, spelled, spelledBits, LoweredTo, Lowering, over, one}
 
 -- ---- packets and sheets of good values
 
@@ -198,6 +198,12 @@ placed-result bytes room = take-at bytes (drop (length bytes) room) (length byte
 pub numbers-spelled : {f : Format} {l : List Item} {Good : Kind → Item → Type 0} → Conforming Good f l → write sheet f l ≡ spelled (sheetNumbers l)
 numbers-spelled done = refl
 numbers-spelled (also {i = i} g c) = ap (λ (s : List ℕ). groupsIn (i .sheet) ++ s) (numbers-spelled c)
+
+-- what a packet's fields say: every field's value in its width, and nothing else
+pub bits-spelled : (f : Format) (l : List Item) → write packet f l ≡ spelledBits f l
+bits-spelled end l = refl
+bits-spelled (field k next) [] = refl
+bits-spelled (field k next) (i ∷ l) = ap (λ (b : List Bool). bitsOf (k .width) (i .packet) ++ b) (bits-spelled (next (i .packet)) l)
 
 lowered-to : (k : Kind) → LawfulKind k → (a v : ℕ) → k .lower a ≡ some v → LoweredTo k a (k .raise v)
 lowered-to k w a v e = record {

@@ -1,11 +1,12 @@
 -- The words of the promises: what is converted, what is answered, and what lowering makes of a sheet's numbers.
 -- Assumes nothing.
 use mathlib.Core.Path.{_≡_}
-use mathlib.Core.Bool.{true, cond}
+use mathlib.Core.Bool.{Bool, true, cond}
 use mathlib.Core.List.{List, [], _∷_, _++_}
 use Prim.Native.Nat.{ℕ, _+_, _*_, _-_, _/_, _≤_, _<_}
 use lib.Dec.{eqb}
 use lib.ListN.{length, take}
+use Rattle.bits.specs.Bits.{bitsOf, bytesOfBits}
 use Rattle.numbers.specs.Numbers.{groupsIn}
 use Rattle.kinds.specs.declared.Item.{Item}
 use Rattle.kinds.specs.Kind.{Kind}
@@ -76,6 +77,16 @@ result o = take (o .answer .length) (o .room)
 abbrev pub spelled : List ℕ → List ℕ
 spelled [] = []
 spelled (a ∷ l) = groupsIn a ++ spelled l
+
+-- every field's value in its own width, one after the other
+abbrev pub spelledBits : Format → List Item → List Bool
+spelledBits end l = []
+spelledBits (field k next) [] = []
+spelledBits (field k next) (i ∷ l) = bitsOf (k .width) (i .packet) ++ spelledBits (next (i .packet)) l
+
+-- "Header, 120 bits: NID_PACKET_ATO 8 (6 on our link), L_PACKET_ATO 16", then every field after the packet number; "Zero bits pad it to a whole byte"
+abbrev pub spelledPacket : List Bool → List ℕ
+spelledPacket bits = bytesOfBits (bitsOf 8 6 ++ (bitsOf 16 (length bits - 96) ++ bits))
 
 -- "amperes + 1", lowered "to multiples of 10 A"; 0, for no limit, stays
 abbrev pub loweredCurrent : ℕ → ℕ
