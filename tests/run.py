@@ -95,9 +95,29 @@ def promises():
                 yield f"{page.relative_to(ROOT)}: {name} is not in {file}"
 
 
+def used(name, text):
+    """Whether a name that a file imports, an operator's by its sign, stands in its text."""
+    name = name.split(" as ")[-1].strip()
+    if name[0].isalpha():
+        return re.search(r"(?<![\w'·-])%s(?![\w'-])" % re.escape(name), text)
+    return name.replace("_", "") in text
+
+
+def imports():
+    """No file imports a name that it does not use."""
+    for crate in CRATES:
+        for path in sources(crate, "src", ".rt") + sources(crate, "specs", ".antt") + sources(crate, "proofs", ".antt"):
+            text = re.sub(r"(--|//).*", "", path.read_text())
+            lines = re.findall(r"^((?:ghost )?use [^\n{;]*\.\{([^}]*)\};?)$", text, re.M)
+            for line, names in lines:
+                for name in names.split(","):
+                    if not used(name.strip(), text.replace(line, "", 1)):
+                        yield f"{path.relative_to(ROOT)} imports {name.strip()} and does not use it"
+
+
 def main():
     passed = failed = 0
-    for test in (contracts, headed, no_axioms, quick, edits, promises):
+    for test in (contracts, headed, imports, no_axioms, quick, edits, promises):
         faults = list(test())
         print(f"{'FAILED' if faults else 'ok'}: {test.__doc__.splitlines()[0]}")
         for fault in faults:

@@ -3,7 +3,7 @@
 use mathlib.Core.List.{List, [], _∷_, _++_, map}
 use Prim.Native.Nat.{ℕ}
 use lib.IntN.{negsuc}
-use lib.ListN.{length, take, replicate}
+use lib.ListN.{length, replicate}
 use Rattle.segment.specs.Desk.{Question, sheetOf, packetOf, Reply, bytes, refusal, firstPacket, conversions}
 use Rattle.speed.specs.Desk.{plain}
 use Rattle.convert.specs.Convert.{Outcome, packetToSheet, sheetToPacket}

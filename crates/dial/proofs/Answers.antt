@@ -3,10 +3,10 @@
 use mathlib.Core.Path.{_≡_, refl, sym, ap, ap₂, _∙_}
 use mathlib.Core.Bool.{Bool, true, false, cond, _&&_}
 use mathlib.Core.List.{List, [], _∷_}
-use mathlib.Core.Option.{Option, none, some}
+use mathlib.Core.Option.{none, some}
 use Prim.Native.Nat.{ℕ, zero, suc, _+_, min}
 use native.Mathlib.Omega.{arith}
-use lib.Dec.{eqb, ltb, leb}
+use lib.Dec.{eqb, leb}
 use lib.ListN.{drop, getD}
 use Rattle.bits.proofs.Tests.{by-cases}
 use Rattle.kinds.specs.declared.Item.{Item}
@@ -16,17 +16,16 @@ use Rattle.format.specs.Place.{next}
 use Rattle.segment.specs.Segment.{entries, changes, lists, body, fields, sheetFields}
 use Rattle.speed.proofs.Lowering.{when-is}
 use Rattle.speed.specs.declared.Train.{Train}
-use Rattle.speed.specs.Speed.{Entry, Element, namedSpeeds, named, lowest, instead, elementSpeed, endBefore, heldSpeeds, permitted, entriesOf, afterEntries, elementOf, afterElement, changesFrom, elementsFrom, segmentLength, speedIn}
+use Rattle.speed.specs.Speed.{Entry, Element, namedSpeeds, named, lowest, instead, endBefore, heldSpeeds, entriesOf, afterEntries, elementOf, afterElement, changesFrom, elementsFrom, segmentLength, speedIn}
 use Rattle.walk.specs.declared.Walk.{Walk}
 use Rattle.walk.specs.declared.Part.{Part}
 use Rattle.walk.specs.declared.Part.the-variants.{Speeds, Volts, Amperes}
 use Rattle.walk.specs.declared.Phase.{Phase}
 use Rattle.walk.specs.declared.Phase.the-variants.{NidPacketAto, NidOperational, NidEngine, TTimestampDate, TTimestampSeconds, NPacketCounter, NidC, NidSp, MajorVersion, MinorVersion, LSp, DEoAOffset, QUtcOffset, MSpAltitude, VStatic, QFront, Entries, QDiff, Class, VDiff, MVoltage, NidCTraction, MCurrent, Changes, DLocation, End}
-use Rattle.walk.specs.Walk.{limitOf, restOf, standsAt, formatOf, firstWalk, beforeElement, partEnd, beforeChanges, pastElement, beforeEntries, onFrom, on}
-use Rattle.walk.proofs.Standing.{stands}
+use Rattle.walk.specs.Walk.{limitOf, restOf, standsAt, formatOf, firstWalk, beforeElement, beforeChanges, pastElement, beforeEntries, onFrom, on}
 use Rattle.dial.specs.declared.Least.{Least}
 use Rattle.dial.specs.declared.Dial.{Dial}
-use Rattle.dial.specs.Dial.{noSpeed, joined, insteadOf, under, fresh, speedSo, holdsTo, endedAt, startsAt, openedAt, withFront, leastWith, withEntry, atChange, notedAt, noted}
+use Rattle.dial.specs.Dial.{joined, insteadOf, under, fresh, speedSo, holdsTo, endedAt, openedAt, withFront, leastWith, withEntry, atChange, notedAt, noted}
 
 -- ---- the lowest speeds, with those to come
 

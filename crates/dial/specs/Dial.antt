@@ -1,7 +1,7 @@
 -- What the dial shows: the lowest speeds so far, and what a number of each field changes.
 -- Assumes nothing.
 use mathlib.Core.Bool.{Bool, true, false, cond, _&&_}
-use Prim.Native.Nat.{ℕ, zero, suc, _+_, min}
+use Prim.Native.Nat.{ℕ, _+_, min}
 use lib.Dec.{eqb, ltb, leb}
 use Rattle.speed.specs.declared.Train.{Train}
 use Rattle.speed.specs.Speed.{named}

@@ -4,7 +4,7 @@ use mathlib.Core.Path.{_≡_, refl, sym, _∙_}
 use mathlib.Core.Bool.{Bool, true, false, cond}
 use mathlib.Core.List.{List}
 use mathlib.Core.Option.{none, some}
-use Prim.Native.Nat.{ℕ, zero, suc, _-_, _/_, _≤_}
+use Prim.Native.Nat.{ℕ, _-_, _/_, _≤_}
 use native.Mathlib.Omega.{arith}
 use borrow.Author.Tests.{leb-true, leb-false, le-leb, ne-eqb}
 use lib.Dec.{leb}
@@ -14,7 +14,7 @@ use Rattle.kinds.specs.declared.Rule.{Rule}
 use Rattle.kinds.specs.declared.Rule.the-variants.{Range, Location, Operational, Speed, Current, Cant, Volts}
 use Rattle.kinds.specs.Kind.{Kind, when, same, range}
 use Rattle.kinds.specs.Tables.{place, entryOf}
-use Rattle.kinds.specs.Kinds.{nidOperational, speed, dLocation, mCurrent, ncDiff, class, mostTraction}
+use Rattle.kinds.specs.Kinds.{nidOperational, speed, dLocation, mCurrent}
 use Rattle.kinds.specs.Judged.{fromPacket, fromSheet, loweredTo}
 use Rattle.kinds.specs.Rules.{meaning}
 

@@ -21,7 +21,6 @@ use Rattle.kinds.specs.Judged.{fromPacket, fromSheet, loweredTo}
 use Rattle.fields.proofs.Lawful.{LawfulKind}
 use Rattle.format.specs.Format.{Format, Read, accepted, refused, Step, step, stop, Medium, with, follow, read}
 use Rattle.format.specs.Media.{stepped, takeBits, packet, takeGroups, sheet}
-use Rattle.format.specs.Conforming.{InPacket, InSheet}
 use Rattle.format.proofs.Generic.{LawfulMedium, never}
 use Rattle.format.proofs.Media.{packet-lawful, sheet-lawful}
 use Rattle.format.proofs.Lawful.{Lawful, ends, goes}

@@ -1,9 +1,8 @@
 -- A value judged by its kind, from a packet and from a sheet.
 -- Assumes nothing.
-use mathlib.Core.Bool.{Bool, true, false, cond}
+use mathlib.Core.Bool.{cond}
 use mathlib.Core.Option.{Option, none, some}
 use Prim.Native.Nat.{ℕ}
-use Rattle.kinds.specs.declared.Item.{Item}
 use Rattle.kinds.specs.declared.Field.{Field}
 use Rattle.kinds.specs.declared.Field.the-variants.{Is, Refused}
 use Rattle.kinds.specs.Kind.{Kind}

@@ -1,7 +1,7 @@
 -- The field kinds of the header and the segment, in the order of the packet.
 -- Assumes nothing.
-use mathlib.Core.Bool.{Bool, true, false, cond, _&&_, _||_}
-use mathlib.Core.Option.{Option, none, some}
+use mathlib.Core.Bool.{Bool, cond, _&&_, _||_}
+use mathlib.Core.Option.{some}
 use Prim.Native.Nat.{ℕ, zero, suc, _+_, _*_, _-_, _/_, _%_}
 use lib.Dec.{eqb, ltb, leb}
 use Rattle.kinds.specs.Kind.{Kind, when, same, range, upTo}

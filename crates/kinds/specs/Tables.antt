@@ -1,9 +1,9 @@
 -- The two tables of figures, and the kind of a field that is a place in a table.
 -- Assumes nothing.
-use mathlib.Core.Bool.{Bool, true, false, cond}
+use mathlib.Core.Bool.{cond}
 use mathlib.Core.List.{List, [], _∷_}
 use mathlib.Core.Option.{Option, none, some}
-use Prim.Native.Nat.{ℕ, zero, suc, _-_, max}
+use Prim.Native.Nat.{ℕ, suc, _-_, max}
 use lib.Dec.{eqb, ltb}
 use lib.ListN.{length, getD}
 use Rattle.kinds.specs.Kind.{Kind}

@@ -1,6 +1,6 @@
 // The field kinds of a segment, in the order of a packet's body.
 ghost use mathlib.Core.Path.{_≡_};
-ghost use Rattle.kinds.specs.Kinds.{nidC, nidSp, mSpVersion, lSp, dEoAOffset, qUtcOffset, mSpAltitude, speed, qFront, nIter, qDiff, ncCdDiff, ncDiff, class, dLocation, mVoltage, mostTraction, nidCTraction, mCurrent};
+ghost use Rattle.kinds.specs.Kinds.{nidC, nidSp, mSpVersion, lSp, dEoAOffset, qUtcOffset, mSpAltitude, speed, qFront, nIter, qDiff, ncCdDiff, ncDiff, class, dLocation, mVoltage, nidCTraction, mCurrent};
 ghost use Rattle.kinds.specs.Rules.{Keeps, meaning};
 use crate::OUT_OF_RANGE;
 use crate::Rule;

@@ -1,5 +1,4 @@
 // The field kinds of a packet's header, in its order.
-ghost use mathlib.Core.Path.{_≡_};
 ghost use Rattle.kinds.specs.Kinds.{nidPacketAto, lPacketAto, nidOperational, nidEngine, tTimestampDate, tTimestampSeconds, nPacketCounter};
 ghost use Rattle.kinds.specs.Rules.{Keeps};
 use crate::PACKET_NUMBER;

@@ -2,7 +2,7 @@
 ghost use mathlib.Core.Path.{_≡_};
 ghost use Prim.Native.Nat.{_+_, _≤_, _<_};
 ghost use lib.ListN.{length, drop};
-ghost use Rattle.numbers.specs.Numbers.{joined, below, numberOf, numberIn, groupsIn, putNumber, Put};
+ghost use Rattle.numbers.specs.Numbers.{joined, below, numberOf, numberIn, groupsIn, putNumber};
 
 // A number, or none in its shortest form and below 4,294,967,296.
 pub enum Number {

@@ -5,7 +5,7 @@ use mathlib.Core.List.{List, _∷_}
 use Prim.Native.Nat.{ℕ}
 use lib.Dec.{ltb}
 use Rattle.kinds.specs.declared.Item.{Item}
-use Rattle.format.specs.Format.{Read, read, answerOf, sheetNumbers}
+use Rattle.format.specs.Format.{read, answerOf, sheetNumbers}
 use Rattle.format.specs.Media.{packet}
 use Rattle.segment.specs.Segment.{fields, wireChanges}
 use Rattle.segment.specs.Frame.{numberItem}

@@ -11,7 +11,6 @@ use lib.ListN.{length}
 use Rattle.bits.specs.Bits.{Bytes}
 use Rattle.kinds.specs.declared.Item.{Item}
 use Rattle.format.specs.Format.{Read, accepted, sheetNumbers}
-use Rattle.format.specs.Media.{sheet}
 use Rattle.format.specs.Conforming.{lowered}
 use Rattle.format.proofs.Lawful.{to-sheet}
 use Rattle.segment.specs.Segment.{fields, sheetFields, wireChanges}

@@ -9,12 +9,11 @@ use lib.Dec.{eqb, ltb}
 use lib.ListN.{length}
 use Rattle.bits.specs.Bits.{Bytes}
 use Rattle.bits.proofs.Tests.{by-cases}
-use Rattle.kinds.specs.declared.Item.{Item}
 use Rattle.format.specs.Format.{Read, accepted, refused, read}
 use Rattle.format.specs.Media.{packet}
 use Rattle.format.proofs.Generic.{never}
 use Rattle.format.proofs.Refusals as Format
-use Rattle.segment.specs.Segment.{fields, sheetFields}
+use Rattle.segment.specs.Segment.{fields}
 use Rattle.segment.specs.Frame.{packetNumber, bodyBits, fieldBits, padding, fromOne, padded}
 use Rattle.segment.specs.Judgement.{segmentNumber, fromPacket, fromSheet}
 use Rattle.segment.proofs.Ends.{fields-lawful, sheetFields-lawful}

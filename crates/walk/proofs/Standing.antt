@@ -4,7 +4,6 @@ use mathlib.Core.Path.{_≡_, refl, sym, ap, _∙_}
 use mathlib.Core.Bool.{Bool, true, false}
 use Prim.Native.Nat.{ℕ, zero, suc, _-_}
 use native.Mathlib.Omega.{arith}
-use Rattle.format.specs.Format.{Format}
 use Rattle.format.specs.Place.{after}
 use Rattle.segment.specs.Segment.{entries, changes, lists, body, fields, sheetFields, wireChanges}
 use Rattle.walk.specs.declared.Walk.{Walk}

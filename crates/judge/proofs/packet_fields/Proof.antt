@@ -17,7 +17,7 @@ use Rattle.format.specs.Media.{packet, sheet}
 use Rattle.media.specs.Places.{rest}
 use lib.Dec.{lit≤}
 use Prim.Native.Nat.{_*_, _-_, _≤_}
-use mathlib.Core.Path.{refl, sym, ap, _∙_}
+use mathlib.Core.Path.{sym, ap, _∙_}
 use denote.Ref.{now}
 use native.Mathlib.Omega.{arith}
 use borrow.Author.Needs.{needs}

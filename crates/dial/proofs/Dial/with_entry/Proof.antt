@@ -1,5 +1,5 @@
 -- `dial::Dial::with_entry` meets its contract.
-use mathlib.Core.Path.{sym, ap, _∙_}
+use mathlib.Core.Path.{sym, _∙_}
 use Rattle.dial.proofs.Noting.{not-named, other, own, entered}
 use native.Mathlib.Omega.{arith}
 use borrow.Author.Tests.{not-true, not-false}
