@@ -1,53 +1,168 @@
-// A field of up to 32 bits at any bit of a slice, read and stored bit by bit.
+// A field of up to 32 bits at any bit of a slice, read and stored through the eight bytes that hold it.
 ghost use mathlib.Core.Path.{_≡_};
-ghost use Prim.Native.Nat.{_+_, _*_, _-_, _%_, _^_, _≤_, _<_};
+ghost use Prim.Native.Nat.{_+_, _*_, _-_, _/_, _%_, _^_, _≤_, _<_, min};
 ghost use lib.ListN.{length};
 ghost use Rattle.bits.specs.Bits.{fieldAt, withField};
 
-fn wide(x: u8) -> u32
+fn wide(x: u8) -> u64
     ensures { λ r. ⌜ r ≡ x ⌝ }
 {
-    x as u32
+    x as u64
 }
+
+fn low(x: u64) -> u8
+    ensures { λ r. ⌜ r ≡ x % 256 ⌝ }
+{
+    (x % 256) as u8
+}
+
+fn power(k: u32) -> u64
+    requires { ⌜ k < 64 ⌝ }
+    ensures { λ r. ⌜ r ≡ 2 ^ k ⌝ }
+{
+    1 << k
+}
+
+// ---- eight bytes as one number, the first byte at the top: the sum starts with the last, and compiles to one load
+
+fn byte(s: &[u8], i: usize) -> u64
+    requires { ⌜ i < length (now s) ⌝ }
+    ensures { λ r. ⌜ r ≡ fieldAt (now (s .entry)) (8 * i) 8 ⌝ }
+{
+    wide(s[i])
+}
+
+fn two(s: &[u8], i: usize) -> u64
+    requires { ⌜ i + 2 ≤ length (now s) ⌝ }
+    ensures { λ r. ⌜ r ≡ fieldAt (now (s .entry)) (8 * i) 16 ⌝ }
+{
+    byte(s, i + 1) + byte(s, i) * 256
+}
+
+fn four(s: &[u8], i: usize) -> u64
+    requires { ⌜ i + 4 ≤ length (now s) ⌝ }
+    ensures { λ r. ⌜ r ≡ fieldAt (now (s .entry)) (8 * i) 32 ⌝ }
+{
+    two(s, i + 2) + two(s, i) * 65536
+}
+
+fn eight(s: &[u8], i: usize) -> u64
+    requires { ⌜ i + 8 ≤ length (now s) ⌝ }
+    ensures { λ r. ⌜ r ≡ fieldAt (now (s .entry)) (8 * i) 64 ⌝ }
+{
+    four(s, i + 4) + four(s, i) * 4294967296
+}
+
+fn put_byte(s: &mut [u8], i: usize, v: u64)
+    requires { ⌜ i < length (now s) ⌝ }
+    ensures { λ _. ⌜ now (s .exit) ≡ withField (now (s .entry)) (8 * i) 8 v ⌝ }
+{
+    s[i] = low(v);
+}
+
+fn put_two(s: &mut [u8], i: usize, v: u64)
+    requires { ⌜ i + 2 ≤ length (now s) ⌝ }
+    ensures { λ _. ⌜ now (s .exit) ≡ withField (now (s .entry)) (8 * i) 16 v ⌝ }
+{
+    put_byte(s, i, v / 256);
+    put_byte(s, i + 1, v);
+}
+
+fn put_four(s: &mut [u8], i: usize, v: u64)
+    requires { ⌜ i + 4 ≤ length (now s) ⌝ }
+    ensures { λ _. ⌜ now (s .exit) ≡ withField (now (s .entry)) (8 * i) 32 v ⌝ }
+{
+    put_two(s, i, v / 65536);
+    put_two(s, i + 2, v);
+}
+
+fn put_eight(s: &mut [u8], i: usize, v: u64)
+    requires { ⌜ i + 8 ≤ length (now s) ⌝ }
+    ensures { λ _. ⌜ now (s .exit) ≡ withField (now (s .entry)) (8 * i) 64 v ⌝ }
+{
+    put_four(s, i, v / 4294967296);
+    put_four(s, i + 4, v);
+}
+
+// ---- a field of eight bytes
+
+// Where the eight bytes start that hold a field at the bit at, in a slice of n: at the field's first byte, or with the last eight.
+fn start(at: usize, n: usize) -> usize
+    requires { ⌜ 8 ≤ n ⌝ }
+    ensures { λ r. ⌜ r ≡ min (at / 8) (n - 8) ⌝ }
+{
+    if at / 8 < n - 8 { at / 8 } else { n - 8 }
+}
+
+// The field of width bits before the lowest d.
+fn cut(x: u64, d: u32, width: u32) -> u32
+    requires { ⌜ (d < 64) × (width ≤ 32) ⌝ }
+    ensures { λ r. ⌜ r ≡ x / 2 ^ d % 2 ^ width ⌝ }
+{
+    ((x >> d) % power(width)) as u32
+}
+
+// x with the lowest width bits of v in that field.
+fn paste(x: u64, d: u32, width: u32, v: u32) -> u64
+    requires { ⌜ (width ≤ 32) × (d < 64) × (d + width ≤ 64) ⌝ }
+    ensures { λ r. ⌜ r ≡ x - x / 2 ^ d % 2 ^ width * 2 ^ d + v % 2 ^ width * 2 ^ d ⌝ }
+{
+    let p = power(d);
+    let q = power(width);
+    x - x / p % q * p + v as u64 % q * p
+}
+
+// ---- a field of a slice; in a slice shorter than eight bytes, one bit after the other
 
 // The bit at: the top bit of a byte stands first.
 fn bit(s: &[u8], at: usize) -> u32
     requires { ⌜ at < 8 * length (now s) ⌝ }
     ensures { λ r. ⌜ r ≡ fieldAt (now (s .entry)) at 1 ⌝ }
 {
-    (wide(s[at / 8]) >> (7 - at % 8)) % 2
+    cut(byte(s, at / 8), (7 - at % 8) as u32, 1)
 }
 
-// The field of width bits at the bit at.
+// The same of width bits, in a slice of at least eight bytes.
+fn read_long(s: &[u8], at: usize, width: u32) -> u32
+    requires { ⌜ (0 < width) × (width ≤ 32) × (at + width ≤ 8 * length (now s)) × (8 ≤ length (now s)) ⌝ }
+    ensures { λ r. ⌜ r ≡ fieldAt (now (s .entry)) at width ⌝ }
+{
+    let i = start(at, s.len());
+    cut(eight(s, i), (64 - (at - 8 * i)) as u32 - width, width)
+}
+
+// The field of width bits at the bit at. It calls itself, so it stays a function of its own in the compiled code; s[0..] leaves the slice in registers.
 pub fn read_field(s: &[u8], at: usize, width: u32) -> u32
     requires { ⌜ (width ≤ 32) × (at + width ≤ 8 * length (now s)) × (at < 2 ^ 32) ⌝ }
     ensures { λ r. ⌜ r ≡ fieldAt (now (s .entry)) at width ⌝ }
 {
-    let mut v: u32 = 0;
-    let mut i: u32 = 0;
-    while i < width {
-        v = v * 2 + bit(s, at + i as usize);
-        i += 1;
+    if width == 0 {
+        return 0;
     }
-    v
+    if s.len() < 8 {
+        return read_field(&s[0..], at, width - 1) * 2 + bit(s, at + (width - 1) as usize);
+    }
+    read_long(s, at, width)
 }
 
-// The weight of the bit at in its byte.
-fn weight(at: usize) -> u32
-    ensures { λ r. ⌜ r ≡ 2 ^ (7 - at % 8) ⌝ }
-{
-    1 << (7 - at % 8)
-}
-
-// Stores b, 0 or 1, in the bit at.
+// Stores the lowest bit of b in the bit at.
 fn store_bit(s: &mut [u8], at: usize, b: u32)
-    requires { ⌜ (at < 8 * length (now s)) × (b < 2) ⌝ }
+    requires { ⌜ at < 8 * length (now s) ⌝ }
     ensures { λ _. ⌜ now (s .exit) ≡ withField (now (s .entry)) at 1 b ⌝ }
 {
-    let x = wide(s[at / 8]);
-    let w = weight(at);
-    let y = x - x / w % 2 * w + b * w;
-    s[at / 8] = y as u8;
+    let i = at / 8;
+    let x = byte(s, i);
+    put_byte(s, i, paste(x, (7 - at % 8) as u32, 1, b));
+}
+
+// The same for the lowest width bits of v, in a slice of at least eight bytes.
+fn store_long(s: &mut [u8], at: usize, width: u32, v: u32)
+    requires { ⌜ (0 < width) × (width ≤ 32) × (at + width ≤ 8 * length (now s)) × (8 ≤ length (now s)) ⌝ }
+    ensures { λ _. ⌜ now (s .exit) ≡ withField (now (s .entry)) at width v ⌝ }
+{
+    let i = start(at, s.len());
+    let x = eight(s, i);
+    put_eight(s, i, paste(x, (64 - (at - 8 * i)) as u32 - width, width, v));
 }
 
 // Stores the lowest width bits of v in the field at the bit at.
@@ -55,9 +170,13 @@ pub fn store_field(s: &mut [u8], at: usize, width: u32, v: u32)
     requires { ⌜ (width ≤ 32) × (at + width ≤ 8 * length (now s)) × (at < 2 ^ 32) ⌝ }
     ensures { λ _. ⌜ now (s .exit) ≡ withField (now (s .entry)) at width v ⌝ }
 {
-    let mut i: u32 = 0;
-    while i < width {
-        store_bit(s, at + i as usize, (v >> (width - 1 - i)) % 2);
-        i += 1;
+    if width == 0 {
+        return;
     }
+    if 8 <= s.len() {
+        store_long(s, at, width, v);
+        return;
+    }
+    store_bit(s, at, v >> (width - 1));
+    store_field(&mut s[0..], at + 1, width - 1, v);
 }

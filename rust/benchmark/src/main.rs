@@ -1,17 +1,21 @@
-//! The archive's times beside the second program's: conversions and speeds, on a small, a middle and the largest segment.
+//! The archive's times beside the second program's and asn1c's: conversions and speeds, on small, middle and the largest segments.
 
+mod asn1c;
 mod machine;
 mod measure;
 
 use compare::archive::Archive;
-use compare::desk;
 use compare::draft::{Draft, Kind};
 use compare::program::{Operation, Program, Question, Train};
 use compare::random::Random;
 use compare::second_program::Second;
-use compare::segments::{segment, Sizes, SMALLEST};
+use compare::segments::{segment, Sizes, LARGEST, SMALLEST};
+use measure::{Medians, Round};
+use std::time::Instant;
 
-const MIDDLE: Sizes = Sizes { changes: 10, entries: (3, 3), voltages: 3, currents: 3 };
+const MIDDLE: Sizes = Sizes { changes: 10, entries: (0, 6), voltages: 3, currents: 3 };
+/// How many segments of each size: so many fields that a processor cannot learn them.
+const SIZES: [(&str, usize, Sizes); 3] = [("small", 4_000, SMALLEST), ("middle", 600, MIDDLE), ("largest", 30, LARGEST)];
 const LARGEST_RESULT: usize = 5_608;
 const TRAIN: Train = Train { length: 20_000, cant: 150, freight_p: false, freight_g: true, passenger: false };
 
@@ -22,45 +26,83 @@ const OPERATIONS: [(Operation, &str); 4] = [
     (Operation::SpeedFromSheet, "speed from sheet"),
 ];
 
+const HOW_TO_READ: &str = "\
+Medians of rounds taken in turn; one room for all calls, not cleared between them; speeds at the segment's last location.
+Ratio: a program's time by the archive's in the same round.
+asn1c: the codec that Debian's asn1c makes of an ASN.1 module of the packet. It reads a packet into a structure of its own, where
+the others write a sheet, and writes a packet from that structure. Reading, it refuses only a packet that ends too soon; writing, a
+value outside its range; it answers no speeds. Freeing the structures is not counted. The run stops where a packet
+does not come back from it unchanged.";
+
 fn main() {
     println!("Processor: {}", machine::processor());
     if machine::is_emulated() {
         println!("WARNING: under an emulator, times and ratios say nothing of an x86-64 processor.");
     }
-    println!("Medians of rounds taken in turn; one room for all calls, not cleared between them; speeds at the segment's last location.");
-    println!("Ratio: the second program's time by the archive's.");
+    println!("{HOW_TO_READ}");
     let mut random = Random::new(1);
-    for (name, draft) in
-        [("small", segment(&mut random, SMALLEST)), ("middle", segment(&mut random, MIDDLE)), ("largest", desk::largest())]
-    {
-        rows(name, &draft);
+    for (name, count, sizes) in SIZES {
+        let drafts: Vec<Draft> = (0..count).map(|_| segment(&mut random, sizes)).collect();
+        rows(name, &drafts);
     }
 }
 
-/// A segment's four rows.
-fn rows(name: &str, draft: &Draft) {
-    let (packet, sheet, fields) = (draft.packet(), draft.sheet(), draft.fields.len());
-    let last = draft.fields[draft.places(Kind::Length)[0]].value - 1;
-    println!("\n{name}: {} bytes of packet, {} of sheet, {fields} fields", packet.len(), sheet.len());
-    println!("{:18}{:>14}{:>14}{:>14}{:>14}{:>8}", "", "archive ns", "ns a field", "second ns", "ns a field", "ratio");
+/// A size's four rows.
+fn rows(name: &str, drafts: &[Draft]) {
+    let (packets, sheets): (Vec<_>, Vec<_>) = drafts.iter().map(|draft| (draft.packet(), draft.sheet())).unzip();
+    // kept, so that they fill the holes in the heap: asn1c is faster where it allocates beyond them
+    let _kept = packets.iter().map(|packet| asn1c::checked(packet)).collect::<Vec<_>>();
+    let fields = drafts.iter().map(|draft| draft.fields.len()).sum::<usize>();
+    let bytes = |of: &[Vec<u8>]| of.concat().len() / of.len();
+    print!("\n{name}: {} segments, on average {} bytes of packet, ", drafts.len(), bytes(&packets));
+    println!("{} of sheet, {} fields", bytes(&sheets), fields / drafts.len());
+    print!("{:18}{:>14}{:>12}", "", "archive ns", "ns a field");
+    println!("{:>14}{:>12}{:>8}{:>14}{:>12}{:>8}", "second ns", "ns a field", "ratio", "asn1c ns", "ns a field", "ratio");
     for (operation, title) in OPERATIONS {
-        let input = match operation {
-            Operation::PacketToSheet | Operation::SpeedFromPacket => &packet,
-            _ => &sheet,
+        let inputs = match operation {
+            Operation::PacketToSheet | Operation::SpeedFromPacket => &packets,
+            _ => &sheets,
         };
-        let question = Question { operation, input, train: TRAIN, x: last };
-        let (archive, second) = measure::medians(caller::<Archive>(&question), caller::<Second>(&question));
-        let a_field = |time: f64| time / fields as f64;
-        print!("{title:18}{archive:>14.0}{:>14.1}", a_field(archive));
-        println!("{second:>14.0}{:>14.1}{:>8.1}", a_field(second), second / archive);
+        let questions = drafts.iter().zip(inputs).map(|(draft, input)| question(operation, draft, input)).collect::<Vec<_>>();
+        let mut programs = vec![round::<Archive>(&questions), round::<Second>(&questions)];
+        match operation {
+            Operation::PacketToSheet => programs.push(Box::new(|| asn1c::round(&packets).0)),
+            Operation::SheetToPacket => programs.push(Box::new(|| asn1c::round(&packets).1)),
+            _ => {}
+        }
+        row(title, &measure::medians(&mut programs), drafts.len(), fields);
     }
 }
 
-/// A program's call, which must be accepted.
-fn caller<'a, P: Program>(question: &'a Question<'a>) -> impl FnMut() + 'a {
+fn question<'a>(operation: Operation, draft: &Draft, input: &'a [u8]) -> Question<'a> {
+    let last = draft.fields[draft.places(Kind::Length)[0]].value - 1;
+    Question { operation, input, train: TRAIN, x: last }
+}
+
+/// A round of a program's calls, which must all be accepted.
+fn round<'a, P: Program>(questions: &'a [Question<'a>]) -> Round<'a> {
     let mut room = [0; LARGEST_RESULT];
-    move || {
-        let answer = measure::unknown(P::answer(measure::unknown(question), &mut room));
-        assert!(answer.refusal == 0, "the segment is accepted");
+    Box::new(move || {
+        let began = Instant::now();
+        for question in questions {
+            let answer = measure::unknown(P::answer(measure::unknown(question), &mut room));
+            assert!(answer.refusal == 0, "the segment is accepted");
+        }
+        began.elapsed()
+    })
+}
+
+/// A row: of each program the time a call and a field, and of all but the archive the ratio; a dash where asn1c has no such operation.
+fn row(title: &str, programs: &[Medians], calls: usize, fields: usize) {
+    print!("{title:18}");
+    for (place, Medians { time, ratio }) in programs.iter().enumerate() {
+        print!("{:>14.0}{:>12.1}", time / calls as f64, time / fields as f64);
+        if place > 0 {
+            print!("{ratio:>8.1}");
+        }
     }
+    if programs.len() < 3 {
+        print!("{:>14}{:>12}{:>8}", "-", "-", "-");
+    }
+    println!();
 }

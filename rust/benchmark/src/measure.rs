@@ -1,38 +1,28 @@
-//! Times of two programs in one run: rounds in turn, and the median of each.
+//! Times of programs in one run: rounds in turn, and the medians of them.
 
-use std::time::Instant;
+use std::time::Duration;
 
 const ROUNDS: usize = 11;
-/// About how long a round of one program takes.
-const ROUND_SECONDS: f64 = 0.02;
 
-/// The medians of both programs in nanoseconds a call.
-pub fn medians(mut first: impl FnMut(), mut second: impl FnMut()) -> (f64, f64) {
-    let calls = (calls_a_round(&mut first), calls_a_round(&mut second));
-    let mut times = (Vec::new(), Vec::new());
+/// One round of a program, and how long it took.
+pub type Round<'a> = Box<dyn FnMut() -> Duration + 'a>;
+
+/// The median of a program's times in nanoseconds a round, and that of its time by the first program's in the same round.
+pub struct Medians {
+    pub time: f64,
+    pub ratio: f64,
+}
+
+/// The medians of each program.
+pub fn medians(programs: &mut [Round]) -> Vec<Medians> {
+    let mut times = vec![Vec::new(); programs.len()];
     for _ in 0..ROUNDS {
-        times.0.push(nanoseconds(&mut first, calls.0));
-        times.1.push(nanoseconds(&mut second, calls.1));
+        for (round, times) in programs.iter_mut().zip(&mut times) {
+            times.push(round().as_nanos() as f64);
+        }
     }
-    (median(times.0), median(times.1))
-}
-
-/// Calls until they fill a round; these first ones warm the program up.
-fn calls_a_round(call: &mut impl FnMut()) -> u32 {
-    let mut calls = 1;
-    while nanoseconds(call, calls) * f64::from(calls) < ROUND_SECONDS * 1e9 {
-        calls *= 2;
-    }
-    calls
-}
-
-/// Nanoseconds a call.
-fn nanoseconds(call: &mut impl FnMut(), calls: u32) -> f64 {
-    let began = Instant::now();
-    for _ in 0..calls {
-        call();
-    }
-    began.elapsed().as_nanos() as f64 / f64::from(calls)
+    let ratios = |own: &[f64]| own.iter().zip(&times[0]).map(|(own, first)| own / first).collect();
+    times.iter().map(|own| Medians { time: median(own.clone()), ratio: median(ratios(own)) }).collect()
 }
 
 fn median(mut times: Vec<f64>) -> f64 {

@@ -83,7 +83,7 @@ fn start(draft: &mut Draft, plan: Plan) {
 }
 
 /// The largest segment in both media: every list full, and every number of as many groups as its range has.
-pub fn largest() -> Draft {
+fn largest() -> Draft {
     let mut draft = Draft::default();
     let highest = |width: u32| u32::MAX >> (32 - width);
     draft.same(Kind::PacketNumber, 8, 6);
