@@ -19,8 +19,8 @@ use Rattle.format.specs.Format.{accepted, refused, valuesOf}
 use Rattle.format.proofs.Media.{packet-only}
 use Rattle.segment.specs.Segment.{body, fields, sheetFields, wireChanges}
 use Rattle.segment.specs.Judgement.{fromPacket}
-use Rattle.media.specs.Places.{rest}
-use Rattle.media.proofs.Sources.{rest-length}
+use Rattle.format.specs.Places.{rest}
+use Rattle.format.proofs.Places.{rest-length}
 use Rattle.format.specs.Media.{sheet}
 use Rattle.judge.specs.declared.Verdict.the-variants.{Accepted, Refused}
 use Rattle.frame.specs.declared.Frame.{Frame}

@@ -36,7 +36,7 @@ fn signed(v: u32) -> i32
 pub fn altitude_of_packet(packet: &[u8]) -> Altitude
     ensures { λ r. ⌜ r ≡ altitudeOf (now (packet .entry)) ⌝ }
 {
-    match judge::judge_packet(packet) {
+    match judge_packet::judge_packet(packet) {
         Verdict::Refused(r) => Altitude {
             refusal: r,
             altitude: 0,

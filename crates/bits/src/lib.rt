@@ -122,8 +122,8 @@ fn bit(s: &[u8], at: usize) -> u32
     cut(byte(s, at / 8), (7 - at % 8) as u32, 1)
 }
 
-// The same of width bits, in a slice of at least eight bytes.
-fn read_long(s: &[u8], at: usize, width: u32) -> u32
+// The field of width bits at the bit at, in a slice of at least eight bytes.
+pub fn read_window(s: &[u8], at: usize, width: u32) -> u32
     requires { ⌜ (0 < width) × (width ≤ 32) × (at + width ≤ 8 * length (now s)) × (8 ≤ length (now s)) ⌝ }
     ensures { λ r. ⌜ r ≡ fieldAt (now (s .entry)) at width ⌝ }
 {
@@ -142,7 +142,7 @@ pub fn read_field(s: &[u8], at: usize, width: u32) -> u32
     if s.len() < 8 {
         return read_field(&s[0..], at, width - 1) * 2 + bit(s, at + (width - 1) as usize);
     }
-    read_long(s, at, width)
+    read_window(s, at, width)
 }
 
 // Stores the lowest bit of b in the bit at.

@@ -13,7 +13,7 @@ use Rattle.format.specs.Media.{packet, sheet}
 use Rattle.segment.specs.Segment.{body, fields, wireChanges}
 use Rattle.segment.specs.Frame.{frame}
 use Rattle.segment.specs.Judgement.{segmentNumber, fromPacket, fromSheet, afterNumber, toPacket, toSheet}
-use Rattle.media.specs.Places.{rest, Placed}
+use Rattle.format.specs.Places.{rest, Placed}
 use Rattle.convert.specs.declared.Converted.{Converted}
 
 pub record Outcome : Type 0 where

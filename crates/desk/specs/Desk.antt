@@ -36,22 +36,22 @@ abbrev pub converts : Question → Reply → Case
 converts (sheetOf s) r = convertsTo packetToSheet s r
 converts (packetOf s) r = convertsTo sheetToPacket s r
 
--- "Length 1,000 cm, 100 km/h with Q_FRONT 0, change at 500 to 140", and the same with Q_FRONT 1
-abbrev pub changeSheet : ℕ → List ℕ
-changeSheet front =
+-- "Length 1,000 cm, 100 km/h with Q_FRONT 0, change at 500 to 140", over the Q_FRONT of each
+abbrev pub changeSheet : ℕ → ℕ → List ℕ
+changeSheet front next =
     0x06 ∷ 0xC5 ∷ 0xC6 ∷ 0x04 ∷ 0x01 ∷ 0x00 ∷ 0x00 ∷ 0x07 ∷ replicate 4 0 ++ 0xE8 ∷ 0x07 ∷ replicate 3 0
-    ++ 0x64 ∷ front ∷ 0x00 ∷ 0x01 ∷ 0xF4 ∷ 0x03 ∷ 0x8C ∷ 0x01 ∷ front ∷ replicate 6 0
+    ++ 0x64 ∷ front ∷ 0x00 ∷ 0x01 ∷ 0xF4 ∷ 0x03 ∷ 0x8C ∷ 0x01 ∷ next ∷ replicate 6 0
 
 -- its packet of 43 bytes
-abbrev pub changePacket : ℕ → List ℕ
-changePacket front = sheetToPacket (changeSheet front) (room 43) .room
+abbrev pub changePacket : ℕ → ℕ → List ℕ
+changePacket front next = sheetToPacket (changeSheet front next) (room 43) .room
 
 -- a speed for a 200 cm train, from the sheet and from its packet
-abbrev pub fromSheet : ℕ → ℕ → ℕ → Case
-fromSheet front x v = record { said = speed (speedFromSheet (changeSheet front) plain x); due = speed (record { refusal = 0; speed = v }) }
+abbrev pub fromSheet : ℕ → ℕ → ℕ → ℕ → Case
+fromSheet front next x v = record { said = speed (speedFromSheet (changeSheet front next) plain x); due = speed (record { refusal = 0; speed = v }) }
 
-abbrev pub fromPacket : ℕ → ℕ → ℕ → Case
-fromPacket front x v = record { said = speed (speedFromPacket (changePacket front) plain x); due = speed (record { refusal = 0; speed = v }) }
+abbrev pub fromPacket : ℕ → ℕ → ℕ → ℕ → Case
+fromPacket front next x v = record { said = speed (speedFromPacket (changePacket front next) plain x); due = speed (record { refusal = 0; speed = v }) }
 
 abbrev pub desk : List Case
 desk =
@@ -61,6 +61,8 @@ desk =
     ∷ record { said = speed (speedFromPacket firstPacket plain 0); due = speed (record { refusal = 0; speed = 80 }) }
     ∷ record { said = speed (speedFromPacket firstPacket plain 1); due = speed (record { refusal = 11; speed = 0 }) }
     -- "a 200 cm train gets 100 at 699 and 140 at 700. With Q_FRONT 1 it gets 140 at 500"
-    ∷ fromSheet 0 699 100 ∷ fromSheet 0 700 140 ∷ fromSheet 1 500 140
-    ∷ fromPacket 0 699 100 ∷ fromPacket 0 700 140 ∷ fromPacket 1 500 140
+    ∷ fromSheet 0 0 699 100 ∷ fromSheet 0 0 700 140 ∷ fromSheet 1 1 500 140
+    ∷ fromPacket 0 0 699 100 ∷ fromPacket 0 0 700 140 ∷ fromPacket 1 1 500 140
+    -- wire 4: "Q_FRONT's delay tied to the element that follows instead of the one that ends"
+    ∷ fromSheet 0 1 699 100 ∷ fromSheet 1 0 500 140 ∷ fromPacket 0 1 699 100 ∷ fromPacket 1 0 500 140
     ∷ []

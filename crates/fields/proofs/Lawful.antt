@@ -8,7 +8,7 @@ use Prim.Native.Nat.{ℕ, zero, suc, _+_, _*_, _-_, _/_, _^_, _<_, _≤_}
 use native.Mathlib.Nat.{lt-of-lt-of-le, mul-div-cancel}
 use native.Mathlib.Omega.{arith}
 use borrow.Author.Tests.{ltb-true, leb-true, eqb-true, lt-ltb, le-leb, ne-eqb}
-use lib.Dec.{T, eqb, ltb, leb, lit<, lit≤}
+use lib.Dec.{T, eqb, ltb, leb, lit<}
 use lib.ListN.{length}
 use lib.Pow.{pow-mono}
 use Rattle.bits.proofs.Tests.{by-cases, and-right, or-cases, and-left}
@@ -38,8 +38,6 @@ pub record LawfulKind (k : Kind) : Type 0 where
   pub short : k .highest < 2 ^ 32
   pub most : (v : ℕ) → k .allowed v ≡ true → v ≤ k .largest
   pub top : (a v : ℕ) → k .lower a ≡ some v → a ≤ k .highest
-  -- a refusal is not 0
-  pub refuses : 1 ≤ k .refusal
   -- lowering undoes raising
   pub back : (v : ℕ) → k .allowed v ≡ true → k .lower (k .raise v) ≡ some v
   -- what is lowered is allowed
@@ -60,10 +58,9 @@ when-some false a v e f = absurd (let z : _≡_ {A = ℕ} 0 1 = cc in omega arit
 
 -- ---- the same number in both
 
-same-lawful : (width largest refusal : ℕ) (ok : ℕ → Bool) → Narrow width → largest < 2 ^ width → 1 ≤ refusal → ((v : ℕ) → ok v ≡ true → v ≤ largest)
+same-lawful : (width largest refusal : ℕ) (ok : ℕ → Bool) → Narrow width → largest < 2 ^ width → ((v : ℕ) → ok v ≡ true → v ≤ largest)
     → LawfulKind (same width largest refusal ok)
-same-lawful width largest refusal ok n h pos most = record {
-  refuses = pos;
+same-lawful width largest refusal ok n h most = record {
   narrow = n;
   holds = h;
   short = lt-of-lt-of-le h (pow-mono (n .most));
@@ -74,20 +71,20 @@ same-lawful width largest refusal ok n h pos most = record {
   stays = λ _ _ a v e. when-some (ok a) a v e λ t q. sym q;
 }
 
-pub range-lawful : (width least largest refusal : ℕ) → Narrow width → largest < 2 ^ width → 1 ≤ refusal → LawfulKind (range width least largest refusal)
-range-lawful width least largest refusal n h pos =
-    same-lawful width largest refusal (λ v. leb least v && leb v largest) n h pos
+pub range-lawful : (width least largest refusal : ℕ) → Narrow width → largest < 2 ^ width → LawfulKind (range width least largest refusal)
+range-lawful width least largest refusal n h =
+    same-lawful width largest refusal (λ v. leb least v && leb v largest) n h
     λ v e. leb-true v largest (and-right (leb least v) (leb v largest) e)
 
 pub upTo-lawful : (width largest : ℕ) → Narrow width → largest < 2 ^ width → LawfulKind (upTo width largest)
-upTo-lawful width largest h m = range-lawful width 0 largest 4 h m (lit≤ tt)
+upTo-lawful width largest h m = range-lawful width 0 largest 4 h m
 
 pub operational-lawful : LawfulKind nidOperational
-operational-lawful = same-lawful 32 4294967295 4 (nidOperational .allowed) (narrow tt) (lit< tt) (lit≤ tt) λ v e. omega (arith, digits-small 8 v e)
+operational-lawful = same-lawful 32 4294967295 4 (nidOperational .allowed) (narrow tt) (lit< tt) λ v e. omega (arith, digits-small 8 v e)
 
 pub location-lawful : (last lsp : ℕ) → lsp < 2 ^ 24 → LawfulKind (dLocation last lsp)
 location-lawful last lsp h =
-    same-lawful 24 16777215 5 (dLocation last lsp .allowed) (narrow tt) (lit< tt) (lit≤ tt)
+    same-lawful 24 16777215 5 (dLocation last lsp .allowed) (narrow tt) (lit< tt)
     λ x e. omega (arith, ltb-true x lsp (and-right (ltb last x) (ltb x lsp) e))
 
 most-traction : (u : ℕ) → mostTraction u < 2 ^ 10
@@ -101,7 +98,6 @@ traction-lawful u = upTo-lawful 10 (mostTraction u) (narrow tt) (most-traction u
 
 pub speed-lawful : LawfulKind speed
 speed-lawful = record {
-  refuses = lit≤ tt;
   narrow = narrow tt;
   holds = lit< tt;
   short = lit< tt;
@@ -125,7 +121,6 @@ current-into a v e =
 
 pub current-lawful : LawfulKind mCurrent
 current-lawful = record {
-  refuses = lit≤ tt;
   narrow = narrow tt;
   holds = lit< tt;
   short = lit< tt;
@@ -144,7 +139,6 @@ current-lawful = record {
 
 entry-lawful : (width : ℕ) (table : List ℕ) → Narrow width → length table - 1 < 2 ^ width → distinct table ≡ true → greatest table < 2 ^ 32 → LawfulKind (entryOf width table)
 entry-lawful width table n h d g = record {
-  refuses = lit≤ tt;
   narrow = n;
   holds = h;
   short = g;

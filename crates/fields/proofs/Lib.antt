@@ -1,4 +1,3 @@
 pub mod Digits
 pub mod Lookup
-pub mod Judging
 pub mod Lawful

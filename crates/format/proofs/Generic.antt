@@ -18,7 +18,7 @@ pub record LawfulMedium {A : Type 0} (m : Medium A) (Good : Kind → Item → Ty
 pub never : {r n : ℕ} {l : List Item} → refused r n ≡ accepted l → ⊥
 never e = let z : _≡_ {A = ℕ} 0 1 = cc in omega arith
 
-with-accepted : (i : Item) (r : Read) (l : List Item) → with i r ≡ accepted l → (t : List Item) × (r ≡ accepted t) × (l ≡ i ∷ t)
+pub with-accepted : (i : Item) (r : Read) (l : List Item) → with i r ≡ accepted l → (t : List Item) × (r ≡ accepted t) × (l ≡ i ∷ t)
 with-accepted i (accepted t) l e = (t, refl, cc)
 with-accepted i (refused r n) l e = absurd (never e)
 

@@ -2,5 +2,9 @@ pub mod Generic
 pub mod Media
 pub mod Lawful
 pub mod Sized
-pub mod Stepping
-pub mod Refusals
+pub mod Grounds
+pub mod Places
+pub mod Passing
+pub mod Ways
+pub mod Tasks
+pub mod Accepted

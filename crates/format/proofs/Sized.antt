@@ -1,8 +1,6 @@
 -- How long what is written of a format is, at least and at most: counted once for any costs of its fields, and so for any medium.
 -- Assumes nothing.
-use Rattle.format.specs.Place.{next, after}
-use mathlib.Core.Option.{some}
-use mathlib.Core.Path.{_≡_, ap}
+use mathlib.Core.Path.{_≡_}
 use mathlib.Core.Bool.{true}
 use mathlib.Core.List.{List}
 use Prim.Native.Nat.{ℕ, _+_, _≤_, _-_}
@@ -61,6 +59,14 @@ packet-priced = record {
   most = λ k i w g. omega (arith, length-bits (k .width) (i .packet));
 }
 
+-- and so of a value as a sheet gives it
+pub lowered-priced : Priced packet InSheet (λ k. k .width) (λ k. k .width)
+lowered-priced = record {
+  allows = λ k i w g. w .into (i .sheet) (i .packet) (g .lowered);
+  least = λ k i w g. omega (arith, length-bits (k .width) (i .packet));
+  most = λ k i w g. omega (arith, length-bits (k .width) (i .packet));
+}
+
 -- a sheet's field costs a group at least, and the groups of its kind's highest number at most
 pub sheet-priced : Priced sheet InSheet (λ k. 1) (λ k. length (groupsIn (k .highest)))
 sheet-priced = record {
@@ -68,36 +74,3 @@ sheet-priced = record {
   least = λ k i w g. count-some (i .sheet);
   most = λ k i w g. count-most (i .sheet) (k .highest) (w .top (i .sheet) (i .packet) (g .lowered));
 }
-
--- ---- what is left of a measured tree, after a value
-
-pub record Left (lo hi : Kind → ℕ) (f : Format) (most : ℕ) : Type 0 where
-  pub low : ℕ
-  pub high : ℕ
-  pub measured : Measured lo hi f low high
-  pub room : high ≤ most
-
-pub left-after : {lo hi : Kind → ℕ} {f : Format} {a b : ℕ} {k : Kind} → Measured lo hi f a b → next f ≡ some k → (v : ℕ) → k .allowed v ≡ true
-    → (most : ℕ) → b ≤ hi k + most → Left lo hi (after f v) most
-left-after over e v ok most h = absurd (let z : _≡_ {A = ℕ} 0 1 = cc in omega arith)
-left-after {lo} {hi} {k = k} (plus {k = j} {a = a} {b = b} w rest) e v ok most h =
-    let q : k ≡ j = cc in
-    record { low = a; high = b; measured = rest v (rw q at ok); room = omega (arith, ap hi q) }
-left-after (wider s p q) e v ok most h = left-after s e v ok most (omega arith)
-
--- n so far, and what is left, come to at most the bound
-pub record Fitting (hi : Kind → ℕ) (f : Format) (n bound : ℕ) : Type 0 where
-  pub enough : n ≤ bound
-  pub left : Left hi hi f (bound - n)
-
-pub fitting-after : {hi : Kind → ℕ} {f : Format} {n bound : ℕ} {k : Kind} → Fitting hi f n bound → next f ≡ some k → (v : ℕ) → k .allowed v ≡ true
-    → Fitting hi (after f v) (n + hi k) bound
-fitting-after {hi} {f} {n} {bound} {k} t e v ok =
-    let l = t .left in
-    let c : hi k ≤ bound - n = omega (arith, measured-next (l .measured) e, l .room) in
-    record { enough = omega (arith, t .enough); left = left-after (l .measured) e v ok (bound - (n + hi k)) (omega (arith, l .room)) }
-  where
-    measured-next : {g : Format} {a b : ℕ} → Measured hi hi g a b → next g ≡ some k → hi k ≤ b
-    measured-next over d = absurd (let z : _≡_ {A = ℕ} 0 1 = cc in omega arith)
-    measured-next (plus {k = j} w rest) d = let q : k ≡ j = cc in omega (arith, ap hi q)
-    measured-next (wider s p q) d = omega (arith, measured-next s d)

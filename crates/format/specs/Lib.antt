@@ -1,4 +1,9 @@
 pub mod Format
 pub mod Media
 pub mod Conforming
+pub mod Grounds
 pub mod Place
+pub mod Places
+pub mod Pass
+pub mod Ways
+pub mod Tasks

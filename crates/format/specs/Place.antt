@@ -1,13 +1,7 @@
--- Standing at a place in a tree: the kind of the field that comes next, and the tree after a value of it.
+-- The tree after a value, and after some values on which nothing depends.
 -- Assumes nothing.
-use mathlib.Core.Option.{Option, none, some}
 use Prim.Native.Nat.{ℕ, zero, suc}
-use Rattle.kinds.specs.Kind.{Kind}
 use Rattle.format.specs.Format.{Format, end, field}
-
-abbrev pub next : Format → Option Kind
-next end = none
-next (field k rest) = some k
 
 abbrev pub after : Format → ℕ → Format
 after end v = end

@@ -20,7 +20,7 @@ use Rattle.format.specs.Media.{packet}
 use Rattle.segment.specs.Segment.{fields, wireChanges}
 use Rattle.segment.specs.Frame.{packetNumber, bodyBits, fromOne, numberItem, padded}
 use Rattle.segment.specs.Judgement.{segmentNumber, fromPacket}
-use Rattle.media.specs.Places.{rest, Placed}
+use Rattle.format.specs.Places.{rest, Placed}
 use Rattle.frame.specs.declared.Frame.{Frame}
 use Rattle.frame.specs.declared.Frame.the-variants as Frame
 use Rattle.frame.specs.Framed.{frameOf}

@@ -12,7 +12,7 @@ use Rattle.segment.specs.Segment.{fields, wireChanges}
 use Rattle.segment.specs.Frame.{fromOne, numberItem}
 use Rattle.segment.specs.Judgement.{fromPacket}
 use Rattle.segment.proofs.Framing.{padded-accepted}
-use Rattle.media.specs.Places.{rest}
+use Rattle.format.specs.Places.{rest}
 use Rattle.judge.specs.declared.Verdict.the-variants.{Accepted, Refused}
 use Rattle.frame.specs.declared.Frame.the-variants as Frame
 use Rattle.judge.specs.Verdict.{verdictOf}

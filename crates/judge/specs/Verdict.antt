@@ -9,7 +9,7 @@ use Rattle.format.specs.Media.{packet, sheet}
 use Rattle.segment.specs.Segment.{fields, sheetFields, wireChanges}
 use Rattle.segment.specs.Frame.{numberItem}
 use Rattle.segment.specs.Judgement.{segmentNumber, fromPacket, fromSheet}
-use Rattle.media.specs.Places.{rest}
+use Rattle.format.specs.Places.{rest}
 use Rattle.judge.specs.declared.Verdict.{Verdict}
 use Rattle.judge.specs.declared.Verdict.the-variants.{Accepted, Refused}
 

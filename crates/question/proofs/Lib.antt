@@ -1,1 +1,1 @@
-pub mod Hearing
+pub mod Answering

@@ -1,21 +1,16 @@
 -- The two questions on speed, as total functions of the bytes, the train and the place.
 -- Assumes nothing.
 use mathlib.Core.Bool.{cond}
-use mathlib.Core.List.{List, _∷_}
+use mathlib.Core.List.{List}
 use Prim.Native.Nat.{ℕ}
 use lib.Dec.{ltb}
 use Rattle.kinds.specs.declared.Item.{Item}
-use Rattle.format.specs.Format.{read, answerOf, sheetNumbers}
-use Rattle.format.specs.Media.{packet}
-use Rattle.segment.specs.Segment.{fields, wireChanges}
-use Rattle.segment.specs.Frame.{numberItem}
-use Rattle.segment.specs.Judgement.{segmentNumber, fromPacket, fromSheet}
-use Rattle.media.specs.Places.{rest}
+use Rattle.format.specs.Format.{answerOf, sheetNumbers}
+use Rattle.segment.specs.Segment.{wireChanges}
+use Rattle.segment.specs.Judgement.{fromPacket, fromSheet}
 use Rattle.speed.specs.declared.Train.{Train}
 use Rattle.speed.specs.Speed.{validTrain, segmentLength, speedIn}
 use Rattle.question.specs.declared.Speed.{Speed}
-use Rattle.question.specs.declared.Heard.{Heard}
-use Rattle.question.specs.declared.Heard.the-variants as Heard
 
 -- "It returns its number with length, speed or altitude 0"
 abbrev pub refusedWith : ℕ → Speed
@@ -35,16 +30,3 @@ speedFromPacket s t x = answerOf refusedWith (asked t x) (fromPacket wireChanges
 
 unfoldable pub speedFromSheet : List ℕ → Train → ℕ → Speed
 speedFromSheet s t x = answerOf refusedWith (asked t x) (fromSheet wireChanges s)
-
--- ---- before the train and the place are judged
-
--- the segment's length and its speed at x
-abbrev pub heard : Train → ℕ → List Item → Heard
-heard t x l = Heard.Speed (segmentLength (sheetNumbers l)) (speedIn t x (sheetNumbers l))
-
--- of a packet's fields, which end at the bit stop
-abbrev pub fieldsHeard : Train → ℕ → List ℕ → ℕ → Heard
-fieldsHeard t x s stop = answerOf Heard.Refused (λ l. heard t x (numberItem segmentNumber ∷ l)) (read packet (fields wireChanges) (rest s 24 stop))
-
-abbrev pub sheetHeard : Train → ℕ → List ℕ → Heard
-sheetHeard t x s = answerOf Heard.Refused (heard t x) (fromSheet wireChanges s)

@@ -1,2 +1,10 @@
 pub mod Values
-pub mod Promises
+pub mod Agreeing
+pub mod Standing
+pub mod Held
+pub mod Refused
+pub mod Ranges
+pub mod Reached
+pub mod DemandOne
+pub mod DemandTwo
+pub mod DemandThree

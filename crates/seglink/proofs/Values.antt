@@ -121,10 +121,10 @@ pub record Side (judge : List ℕ → Read) (Good : List Item → Type 0) (input
   pub refuses : (s : List ℕ) → Bytes s → (q left : ℕ) → judge s ≡ refused q left → 1 ≤ q
 
 pub packets : Side (fromPacket wireChanges) PacketValues (toPacket wireChanges)
-packets = record { only = packet-values; again = packet-taken; refuses = λ s ok q left e. packet-refusal wireChanges (lit≤ tt) s q left e }
+packets = record { only = packet-values; again = packet-taken; refuses = λ s ok q left e. packet-refusal wireChanges s q left e }
 
 pub sheets : Side (fromSheet wireChanges) SheetValues (toSheet wireChanges)
-sheets = record { only = sheet-values; again = sheet-taken; refuses = λ s ok q left e. sheet-refusal wireChanges (lit≤ tt) s q left ok e }
+sheets = record { only = sheet-values; again = sheet-taken; refuses = λ s ok q left e. sheet-refusal wireChanges s q left ok e }
 
 module _ {judge : List ℕ → Read} {Good : List Item → Type 0} {input : List Item → List ℕ} (side : Side judge Good input) (write : List Item → List ℕ) (s room : List ℕ) where
   pub side-result : (c : Convertible Good input write s room) → converted write (judge s) room ≡ placed (write (c .values)) room
@@ -205,7 +205,7 @@ bits-spelled end l = refl
 bits-spelled (field k next) [] = refl
 bits-spelled (field k next) (i ∷ l) = ap (λ (b : List Bool). bitsOf (k .width) (i .packet) ++ b) (bits-spelled (next (i .packet)) l)
 
-lowered-to : (k : Kind) → LawfulKind k → (a v : ℕ) → k .lower a ≡ some v → LoweredTo k a (k .raise v)
+pub lowered-to : (k : Kind) → LawfulKind k → (a v : ℕ) → k .lower a ≡ some v → LoweredTo k a (k .raise v)
 lowered-to k w a v e = record {
   speeds = λ q. let d : speed .lower a ≡ some v = rw q at e in rw q (speed-lowered a v d);
   currents = λ q. let d : mCurrent .lower a ≡ some v = rw q at e in rw q (current-lowered a v d);

@@ -1,1 +1,4 @@
 pub mod Promised
+pub mod Refused
+pub mod Ranges
+pub mod Samples

@@ -5,18 +5,20 @@ use mathlib.Core.Bool.{Bool, true, cond}
 use mathlib.Core.List.{List, [], _∷_, _++_}
 use Prim.Native.Nat.{ℕ, _+_, _*_, _-_, _/_, _≤_, _<_}
 use lib.Dec.{eqb}
+use lib.IntN.{ℤ, pos, _-ℤ_}
 use lib.ListN.{length, take}
 use Rattle.bits.specs.Bits.{bitsOf, bytesOfBits}
 use Rattle.numbers.specs.Numbers.{groupsIn}
 use Rattle.kinds.specs.declared.Item.{Item}
 use Rattle.kinds.specs.Kind.{Kind}
-use Rattle.kinds.specs.Kinds.{speed, mCurrent}
+use Rattle.kinds.specs.Kinds.{lSp, mSpAltitude, speed, mCurrent}
 use Rattle.format.specs.Format.{Format, end, field, sheetNumbers}
-use Rattle.format.specs.Conforming.{Conforming, InPacket, InSheet, lowered}
+use Rattle.format.specs.Conforming.{Conforming, InPacket, InSheet}
+use Rattle.format.specs.Grounds.{Front, Among}
 use Rattle.segment.specs.Segment.{sheetFields, wireChanges}
 use Rattle.segment.specs.Judgement.{toPacket, toSheet}
 use Rattle.speed.specs.declared.Train.{Train}
-use Rattle.speed.specs.Speed.{validTrain, segmentLength, inFives}
+use Rattle.speed.specs.Speed.{validTrain, heldSpeeds, elementsFrom, segmentLength, profileOf, inFives}
 use Rattle.question.specs.declared.Speed.{Speed}
 use Rattle.convert.specs.Convert.{Outcome}
 
@@ -26,6 +28,15 @@ PacketValues l = Conforming InPacket (sheetFields wireChanges) l
 
 abbrev pub SheetValues : List Item → Type 0
 SheetValues l = Conforming InSheet (sheetFields wireChanges) l
+
+-- the input is written of good values
+pub record OfValues (Good : List Item → Type 0) (input : List Item → List ℕ) (s : List ℕ) : Type 0 where
+  pub values : List Item
+  pub good : Good values
+  pub whole : s ≡ input values
+
+abbrev pub PacketOfValues : List ℕ → Type 0
+PacketOfValues s = OfValues PacketValues (toPacket wireChanges) s
 
 -- the input is written of good values, and the room holds the result that is written of them
 pub record Convertible (Good : List Item → Type 0) (input result : List Item → List ℕ) (s room : List ℕ) : Type 0 where
@@ -98,12 +109,45 @@ pub record LoweredTo (k : Kind) (a b : ℕ) : Type 0 where
   pub currents : k ≡ mCurrent → b ≡ loweredCurrent a
   pub others : (k ≡ speed → ⊥) → (k ≡ mCurrent → ⊥) → b ≡ a
 
--- the numbers of a sheet's values, lowered: as its packet gives them back
-abbrev pub loweredNumbers : List Item → List ℕ
-loweredNumbers l = sheetNumbers (lowered (sheetFields wireChanges) l)
-
 -- field by field
 pub data Lowering : Format → List Item → List Item → Type 0 where
   over : Lowering end [] []
   one : {k : Kind} {next : ℕ → Format} {i j : Item} {l m : List Item} → LoweredTo k (i .sheet) (j .sheet) → Lowering (next (i .packet)) l m
       → Lowering (field k next) (i ∷ l) (j ∷ m)
+
+-- "they agree in every field after that lowering": both are lowered, field by field, to the same numbers
+pub record Agreeing (l m : List Item) : Type 0 where
+  pub lower : List Item
+  pub first : Lowering (sheetFields wireChanges) l lower
+  pub second : Lowering (sheetFields wireChanges) m lower
+
+-- ---- the values that a question is about
+
+-- the item stands where the tree has a field of this kind, after values that conform to the front of the tree
+pub record StandsAt (Good : Kind → Item → Type 0) (f : Format) (k : Kind) (l : List Item) (i : Item) : Type 0 where
+  pub before : List Item
+  pub after : List Item
+  pub next : ℕ → Format
+  pub front : Front Good f before (field k next)
+  pub split : l ≡ before ++ i ∷ after
+
+-- "the altitude of a packet in signed centimetres": the value of M_SP_Altitude, less the 100,000 that is added when it is sent
+pub record AltitudeOf (l : List Item) (a : ℤ) : Type 0 where
+  pub item : Item
+  pub stands : StandsAt InPacket (sheetFields wireChanges) mSpAltitude l item
+  pub signed : a ≡ pos (item .packet) -ℤ pos 100000
+
+-- the number of L_SP
+pub record LengthOf (Good : Kind → Item → Type 0) (l : List Item) (n : ℕ) : Type 0 where
+  pub item : Item
+  pub stands : StandsAt Good (sheetFields wireChanges) lSp l item
+  pub number : n ≡ item .sheet
+
+-- the speeds of the elements that hold at x
+abbrev pub heldAt : Train → ℕ → List ℕ → List ℕ
+heldAt t x s = heldSpeeds t (segmentLength s) x (elementsFrom 0 (profileOf s))
+
+-- "the lowest speed of the elements that hold there", of which there is one
+pub record LowestOf (v : ℕ) (l : List ℕ) : Type 0 where
+  pub one : Among v l
+  pub lowest : (w : ℕ) → Among w l → v ≤ w

@@ -19,7 +19,7 @@ use Rattle.format.specs.Format.{Format, end, field, write}
 use Rattle.format.specs.Media.{packet, sheet}
 use Rattle.format.specs.Conforming.{Conforming, done, also, InPacket, InSheet}
 use Rattle.format.proofs.Lawful.{Lawful}
-use Rattle.format.proofs.Sized.{Measured, Fitting, within, lawful, size-least, size-most, packet-priced, sheet-priced}
+use Rattle.format.proofs.Sized.{Measured, within, lawful, size-least, size-most, packet-priced, sheet-priced}
 use Rattle.kinds.specs.declared.Item.{Item}
 use Rattle.segment.specs.Segment.{entries, changes, lists, body, fields, sheetFields, wireChanges}
 use Rattle.segment.specs.Frame.{framed}
@@ -100,10 +100,9 @@ module _ (limit : ℕ) (h : limit ≤ 31) where
   fields-bits = within (96 + 185) (96 + (14228 + 72 * limit)) (fields-measured bit-costs limit h) (lit≤ tt) (omega arith)
 
   -- with the packet number's 8, as a sheet is judged
-  pub sheet-fitting : Fitting bits (sheetFields limit) 0 (104 + (14228 + 72 * limit))
+  pub sheet-bits : Measured bits bits (sheetFields limit) (104 + 185) (104 + (14228 + 72 * limit))
   unfolding bit-costs
-  sheet-fitting =
-      record { enough = omega arith; left = record { low = _; high = _; measured = sheetFields-measured bit-costs limit h; room = omega arith } }
+  sheet-bits = within (104 + 185) (104 + (14228 + 72 * limit)) (sheetFields-measured bit-costs limit h) (lit≤ tt) (omega arith)
 
   pub sheet-groups : Measured one groups (sheetFields limit) 23 (5263 + 15 * limit)
   unfolding groupsIn group-costs

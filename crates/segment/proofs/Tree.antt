@@ -134,7 +134,7 @@ module _ {lo hi : Kind → ℕ} (c : Costs lo hi) where
       lists-measured limit lsp k (value-small length-lawful lsp e)
     where
       length-lawful : LawfulKind lSp
-      length-lawful = range-lawful 24 1 16777215 4 (narrow tt) (lit< tt) (lit≤ tt)
+      length-lawful = range-lawful 24 1 16777215 4 (narrow tt) (lit< tt)
 
   pub fields-measured : (limit : ℕ) → limit ≤ 31 → Measured lo hi (fields limit) (headerSum lo (bodySum lo listsLow)) (headerSum hi (bodySum hi (listsHigh limit)))
   unfolding fields
@@ -145,4 +145,4 @@ module _ {lo hi : Kind → ℕ} (c : Costs lo hi) where
   pub sheetFields-measured : (limit : ℕ) → limit ≤ 31
       → Measured lo hi (sheetFields limit) (lo nidPacketAto + headerSum lo (bodySum lo listsLow)) (hi nidPacketAto + headerSum hi (bodySum hi (listsHigh limit)))
   unfolding sheetFields
-  sheetFields-measured limit k = plus (range-lawful 8 6 6 2 (narrow tt) (lit< tt) (lit≤ tt)) λ _ _. fields-measured limit k
+  sheetFields-measured limit k = plus (range-lawful 8 6 6 2 (narrow tt) (lit< tt)) λ _ _. fields-measured limit k

@@ -1,4 +1,6 @@
 pub mod Segment
 pub mod Frame
 pub mod Judgement
+pub mod Grounds
 pub mod Desk
+pub mod Parts

@@ -1,1 +1,11 @@
-// The segment: its tree of fields, the frame of a packet, and the judgement of a packet and of a sheet. Definitions and their laws.
+// The tree of a segment and the frame of a packet are definitions; the code has the names of the parts that repeat.
+
+// The three parts that have changes: the speed profile, the rated voltage, the current limitation.
+pub enum Part {
+    Speeds,
+    Volts,
+    Amperes,
+}
+
+// The most voltage changes, and the most current changes.
+pub const WIRE_CHANGES: u32 = 23;

@@ -9,11 +9,10 @@ use native.Mathlib.Omega.{arith}
 use borrow.Author.Tests.{le-leb, lt-leb, lt-ltb, ltb-false, ltb-true}
 use lib.Dec.{eqb, ltb, leb}
 use Rattle.bits.proofs.Tests.{by-cases}
-use Rattle.kinds.specs.declared.Field.{Field}
-use Rattle.kinds.specs.declared.Field.the-variants.{Is, Refused}
-use Rattle.kinds.specs.Judged.{fromSheet, loweredTo}
 use Rattle.kinds.specs.Kinds.{class}
 use Rattle.kinds.specs.Tables.{cantFigures, place}
+use Rattle.fields.proofs.Lookup.{place-small}
+use Rattle.lowering.specs.Lowered.{valueOr, lowered}
 use Rattle.speed.specs.declared.Train.{Train}
 use Rattle.speed.specs.Speed.{found, figure, validTrain, belongs, Entry, Element, named, namedSpeeds, lowest, instead, elementSpeed, endBefore, holds, heldSpeeds, permitted, inFives, entryInFives, elementInFives}
 
@@ -88,17 +87,13 @@ pub named-category : (t : Train) (q class : ℕ) → (q ≡ 0 → ⊥) → belon
 named-category t zero class a = absurd (a refl)
 named-category t (suc q) class a = refl
 
-abbrev pub isField : Field → Bool
-isField (Is i) = true
-isField (Refused r) = false
-
--- a cant deficiency judged as a field of its kind
-pub figure-judged : (cant : ℕ) (f : Field) → fromSheet (class 0) cant ≡ f → isField f ≡ figure cant
-figure-judged cant f e = ap isField (sym e) ∙ go (place 0 cantFigures cant)
+-- a cant deficiency that has a place is one of the figures
+pub figure-place : (a v : ℕ) → v ≡ lowered (class 0) a → ltb v 16 ≡ figure a
+figure-place a v e = rw e (go (place 0 cantFigures a) refl)
   where
-    go : (o : Option ℕ) → isField (loweredTo (class 0) cant o) ≡ found o
-    go none = refl
-    go (some v) = refl
+    go : (o : Option ℕ) → place 0 cantFigures a ≡ o → ltb (valueOr 16 o) 16 ≡ found o
+    go none p = refl
+    go (some i) p = lt-ltb i 16 (omega (arith, place-small 0 cantFigures a i p))
 
 pub valid-short : (t : Train) → t .length < 1 → false ≡ validTrain t
 valid-short t h = rw (lt-leb 1 (t .length) h)

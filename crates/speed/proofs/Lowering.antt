@@ -10,7 +10,7 @@ use lib.ListN.{drop, getD}
 use lib.Seq.{drop-drop, getD-drop}
 use Rattle.kinds.specs.declared.Item.{Item}
 use Rattle.kinds.specs.Kind.{Kind, when, same}
-use Rattle.kinds.specs.Kinds.{class, nIter}
+use Rattle.kinds.specs.Kinds.{lSp, class, nIter}
 use Rattle.kinds.specs.Tables.{cantFigures}
 use Rattle.fields.proofs.Lawful.{speed-lowered}
 use Rattle.fields.proofs.Lookup.{place-stands}
@@ -26,7 +26,7 @@ pub when-is : (b : Bool) (a v : ℕ) → when b a ≡ some v → v ≡ a
 when-is true a v e = let q : a ≡ v = cc in sym q
 when-is false a v e = absurd (let z : _≡_ {A = ℕ} 0 1 = cc in omega arith)
 
-same-is : {width largest refusal : ℕ} {ok : ℕ → Bool} (i : Item) → InSheet (same width largest refusal ok) i → i .packet ≡ i .sheet
+pub same-is : {width largest refusal : ℕ} {ok : ℕ → Bool} (i : Item) → InSheet (same width largest refusal ok) i → i .packet ≡ i .sheet
 same-is {ok = ok} i g = when-is (ok (i .sheet)) (i .sheet) (i .packet) (g .lowered)
 
 class-is : (q : ℕ) (i : Item) → InSheet (class q) i → class q .raise (i .packet) ≡ i .sheet
@@ -34,7 +34,7 @@ class-is zero i g = let z : i .packet - 0 ≡ i .packet = omega arith in rw z at
 class-is (suc q) i g = same-is i g
 
 -- the first value of a field's, and the others
-apart : {k : Kind} {next : ℕ → Format} (C : List Item → Type 0) (l : List Item) → Conforming InSheet (field k next) l
+pub apart : {k : Kind} {next : ℕ → Format} (C : List Item → Type 0) (l : List Item) → Conforming InSheet (field k next) l
     → ((i : Item) (m : List Item) → InSheet k i → Conforming InSheet (next (i .packet)) m → C (i ∷ m)) → C l
 apart C (i ∷ l) (also g c) f = f i l g c
 
@@ -154,21 +154,29 @@ module _ {whole : Format} {l : List Item} {n : ℕ} {k : Kind} where
   past : {f : Format} → Past whole l n (then k f) → Past whole l (n + 1) f
   past p = past-field p λ i g here there q. q
 
+-- past the fields before the lists, L_SP's value among them
+pub at-lists : {C : Type 0} (l : List Item) → Conforming InSheet (sheetFields wireChanges) l
+    → (let low : List ℕ = sheetNumbers (lowered (sheetFields wireChanges) l) in
+    (i : Item) → InSheet lSp i → getD (drop 10 (sheetNumbers l)) 0 0 ≡ i .sheet → getD (drop 10 low) 0 0 ≡ i .packet
+    → Past (sheetFields wireChanges) l 14 (lists wireChanges (i .packet)) → C) → C
+unfolding sheetFields fields body
+at-lists l c k =
+    let whole = sheetFields wireChanges in
+    let p : Past whole l 0 whole = record { rest = l; good = c; here = refl; there = refl } in
+    past-field (past (past (past (past (past (past (past (past (past (past p)))))))))) λ i g here there q. k i g here there (past (past (past q)))
+
 -- L_SP and the elements of a sheet's values, as its packet gives them back
 at-profile : {C : Type 0} (l : List Item) → Conforming InSheet (sheetFields wireChanges) l
     → (let low : List ℕ = sheetNumbers (lowered (sheetFields wireChanges) l) in
     segmentLength low ≡ segmentLength (sheetNumbers l) → elementsFrom 0 (profileOf low) ≡ map elementInFives (elementsFrom 0 (profileOf (sheetNumbers l))) → C)
     → C
-unfolding sheetFields fields body lists
+unfolding lists
 at-profile l c k =
     let whole = sheetFields wireChanges in
-    let p : Past whole l 0 whole = record { rest = l; good = c; here = refl; there = refl } in
-    past-field (past (past (past (past (past (past (past (past (past (past p)))))))))) λ i g here there q.
-    let r = past (past (past q)) in
+    at-lists l c λ i g here there r.
     k (sym (getD-drop 10 (sheetNumbers (lowered whole l)) 0 0) ∙ there ∙ same-is i g ∙ sym here ∙ getD-drop 10 (sheetNumbers l) 0 0)
     (ap (elementsFrom 0) (r .there) ∙ profile-lowered 0 (i .packet) _ (r .rest) (r .good) ∙ ap (λ (s : List ℕ). map elementInFives (elementsFrom 0 s)) (sym (r .here)))
 
--- the length stays
 pub length-stays : (l : List Item) → Conforming InSheet (sheetFields wireChanges) l
     → segmentLength (sheetNumbers (lowered (sheetFields wireChanges) l)) ≡ segmentLength (sheetNumbers l)
 length-stays l c = at-profile l c λ same es. same

@@ -20,9 +20,9 @@ trainOf length cant p g passenger = record { length = length; cant = cant; «fre
 abbrev pub sheetOf : List ℕ → List ℕ
 sheetOf profile = 6 ∷ replicate 9 0 ++ 1000 ∷ replicate 3 0 ++ profile ++ replicate 5 0
 
--- "Length 1,000 cm, 100 km/h with Q_FRONT 0, change at 500 to 140"
-abbrev pub change : ℕ → List ℕ
-change front = sheetOf (100 ∷ front ∷ 0 ∷ 1 ∷ 500 ∷ 140 ∷ front ∷ 0 ∷ [])
+-- "Length 1,000 cm, 100 km/h with Q_FRONT 0, change at 500 to 140", over the Q_FRONT of each
+abbrev pub change : ℕ → ℕ → List ℕ
+change front next = sheetOf (100 ∷ front ∷ 0 ∷ 1 ∷ 500 ∷ 140 ∷ next ∷ 0 ∷ [])
 
 abbrev pub plain : Train
 plain = trainOf 200 80 false false false
@@ -34,10 +34,15 @@ specific = sheetOf (100 ∷ 0 ∷ 4 ∷ 0 ∷ 100 ∷ 120 ∷ 1 ∷ 0 ∷ 130 �
 abbrev pub speeds : List Case
 speeds =
     -- "a 200 cm train gets 100 at 699 and 140 at 700. With Q_FRONT 1 it gets 140 at 500"
-    record { train = plain; x = 699; numbers = change 0; answer = 100 }
-    ∷ record { train = plain; x = 700; numbers = change 0; answer = 140 }
-    ∷ record { train = plain; x = 499; numbers = change 1; answer = 100 }
-    ∷ record { train = plain; x = 500; numbers = change 1; answer = 140 }
+    record { train = plain; x = 699; numbers = change 0 0; answer = 100 }
+    ∷ record { train = plain; x = 700; numbers = change 0 0; answer = 140 }
+    ∷ record { train = plain; x = 499; numbers = change 1 1; answer = 100 }
+    ∷ record { train = plain; x = 500; numbers = change 1 1; answer = 140 }
+    -- the delay is that of the element that ends, and not of "the element that follows"
+    ∷ record { train = plain; x = 699; numbers = change 0 1; answer = 100 }
+    ∷ record { train = plain; x = 700; numbers = change 0 1; answer = 140 }
+    ∷ record { train = plain; x = 499; numbers = change 1 0; answer = 100 }
+    ∷ record { train = plain; x = 500; numbers = change 1 0; answer = 140 }
     -- each sentence of an element's speed
     ∷ record { train = plain; x = 0; numbers = specific; answer = 100 }
     ∷ record { train = trainOf 200 100 false false false; x = 0; numbers = specific; answer = 120 }

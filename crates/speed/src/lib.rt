@@ -1,8 +1,7 @@
 // A train, and what of a segment's speed profile is meant for it.
 ghost use mathlib.Core.Path.{_≡_};
 ghost use Rattle.speed.specs.Speed.{validTrain, figure, belongs, named};
-use kinds::Field;
-use kinds::body;
+use fields::tables;
 
 #[repr(C)]
 pub struct Train {
@@ -23,10 +22,8 @@ pub const OF_CANT: u32 = 0;
 fn is_figure(cant: u32) -> bool
     ensures { λ r. ⌜ r ≡ figure cant ⌝ }
 {
-    match fields::of_sheet(body::class_at(OF_CANT), cant) {
-        Field::Is(_) => true,
-        Field::Refused(_) => false,
-    }
+    let figures = tables::cant_figures();
+    lowering::class_place(&figures, OF_CANT, cant) < lowering::NO_CLASS
 }
 
 // Whether a train's length and cant deficiency are allowed.

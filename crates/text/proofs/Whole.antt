@@ -4,7 +4,6 @@ use mathlib.Core.Path.{_≡_, refl, sym, ap, _∙_}
 use mathlib.Core.List.{List, _++_}
 use Prim.Native.Nat.{ℕ, zero, suc, _+_, _*_, _≤_}
 use native.Mathlib.Omega.{arith}
-use lib.Dec.{lit≤}
 use lib.ListN.{length, take, drop, getD, length-append}
 use lib.IntN.{ℤ}
 use lib.Seq.{sets, sets-eq, take-append-seam}
@@ -43,7 +42,7 @@ module _ (s : List ℕ) (a : Altitude) (e : a ≡ altitudeOf s) where
     accepted-packet = go (fromPacket wireChanges s) refl
       where
         go : (r : Read) → fromPacket wireChanges s ≡ r → Accepts s
-        go (refused q left) d = absurd (omega (arith, packet-refusal wireChanges (lit≤ tt) s q left d, ap (λ (x : Altitude). x .refusal) (by-read (refused q left) d)))
+        go (refused q left) d = absurd (omega (arith, packet-refusal wireChanges s q left d, ap (λ (x : Altitude). x .refusal) (by-read (refused q left) d)))
         go (accepted l) d = rw d
 
     pub accepted-text : lines (a .altitude) (sheetNumbers (valuesOf (fromPacket wireChanges s))) ≡ listingOf s

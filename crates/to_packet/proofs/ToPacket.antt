@@ -1,85 +1,45 @@
 -- From an accepted sheet to its packet: the header's fields, the body's, and the room that they make.
 -- Assumes nothing.
-use mathlib.Core.Path.{_≡_, refl, sym, ap, ap₂, subst, _∙_}
+use mathlib.Core.Path.{_≡_, refl, sym, ap, _∙_}
 use mathlib.Core.Bool.{Bool, _&&_}
 use mathlib.Core.List.{List, [], _∷_, _++_, append-assoc}
 use mathlib.Core.Option.{none, some}
-use Prim.Native.Nat.{ℕ, zero, suc, _+_, _*_, _-_, _/_, _%_, _<_, _≤_}
+use Prim.Native.Nat.{ℕ, _+_, _*_, _-_, _/_, _^_, _<_, _≤_}
 use native.Mathlib.Omega.{arith}
 use borrow.Author.Tests.{lt-ltb, le-ltb, leb-true}
 use lib.Dec.{leb, lit≤}
 use lib.ListN.{length, take, drop, length-append, length-drop, take-append-drop}
-use lib.Seq.{sets, sets-eq, length-sets, set-out, drop-drop, length-take-le, drop-append-add, drop-at}
-use Rattle.bits.specs.Bits.{Bytes, bitsOf, bitsOfBytes, bytesOfBits, withField}
-use Rattle.bits.proofs.Spelling.{length-bits}
-use Rattle.bits.proofs.Padding.{length-bytes, bytes-bits, zeros, length-zeros, zero-bits, bytes-append, bytes-zeros, bits-drop}
-use Rattle.bits.proofs.Fields.{with-bits}
+use lib.Seq.{drop-drop, length-take-le, take-all, take-at, drop-append-add, drop-at}
+use Rattle.bits.specs.Bits.{Bytes, bitsOf, bytesOfBits}
+use Rattle.bits.proofs.Padding.{bytes-append}
 use Rattle.numbers.specs.Numbers.{groupsIn}
+use Rattle.filling.specs.Filling.{Filled, Filling}
 use Rattle.kinds.specs.declared.Item.{Item}
-use Rattle.kinds.specs.Kind.{Kind, when}
-use Rattle.kinds.specs.Kinds.{nidOperational, nidEngine, tTimestampDate, tTimestampSeconds, nPacketCounter}
+use Rattle.kinds.specs.Kind.{when}
 use Rattle.format.specs.Format.{Format, Read, accepted, read, write, valuesOf}
 use Rattle.format.specs.Media.{packet, sheet}
-use Rattle.format.specs.Place.{next, after, skip}
+use Rattle.format.specs.Place.{after}
 use Rattle.bits.proofs.Tests.{by-cases, and-left, and-right}
 use Rattle.format.specs.Conforming.{Conforming, also, InPacket, InSheet, lowered}
-use Rattle.format.proofs.Media.{bytes-drop, sheet-again, sheet-only}
-use Rattle.format.proofs.Lawful.{Lawful, to-packet, lowered-bits}
-use Rattle.format.proofs.Sized.{lawful}
-use Rattle.segment.proofs.Tree.{body-measured}
-use Rattle.segment.proofs.Ends.{bit-costs, fields-lawful, bits-least, bits-most}
+use Rattle.format.proofs.Media.{sheet-again, sheet-only}
+use Rattle.format.proofs.Lawful.{to-packet, lowered-bits}
+use Rattle.segment.proofs.Ends.{fields-lawful, bits-least, bits-most}
 use Rattle.segment.specs.Segment.{body, fields, sheetFields, wireChanges}
 use Rattle.segment.specs.Frame.{frame, framed, numberItem}
 use Rattle.segment.specs.Judgement.{segmentNumber, fromSheet, toPacket, afterNumber}
 use Rattle.segment.proofs.Framing.{frame-length, framed-length}
-use Rattle.media.specs.declared.Taken.the-variants.{Is}
-use Rattle.media.specs.Places.{numberTaken}
-use Rattle.media.proofs.Sources.{sheet-source}
-use Rattle.bits.proofs.Cells.{sets-append}
-use Rattle.media.proofs.Writing.{Writing, writing-on, writing-rest}
+use Rattle.format.specs.Format.{end, refused, answerOf}
+use Rattle.format.specs.Pass.{pass}
+use Rattle.format.specs.Tasks.{Told, recording}
+use Rattle.segment.specs.Parts.{headerPart, bodyPart}
+use Rattle.segment.proofs.Parts.{body-part, header-part}
+use Rattle.write_packet.specs.declared.Spot.{Spot}
+use Rattle.write_packet.specs.Writing.{writer, Ready, Wrote}
+use Rattle.write_packet.proofs.Writing.{run-told}
 use Rattle.judge.specs.declared.Verdict.the-variants.{Accepted, Refused}
 use Rattle.judge.specs.Verdict.{sizeFrom, sheetVerdict}
 use Rattle.convert.specs.Convert.{Outcome, refusedWith, fitted, converted, sheetToPacket, bitsOfSheet, Accepts, bodyRead, bodyBitsOf, BodyAt, Headed}
 use Rattle.judge.proofs.Accepted.{verdict-accepted, verdict-refused}
-
--- ---- cells written past the end
-
-sets-past : (l : List Bool) (i : ℕ) (vs : List Bool) → length l ≤ i → sets l i vs ≡ l
-sets-past l i [] h = refl
-sets-past l i (v ∷ vs) h = ap (λ (c : List Bool). sets c (suc i) vs) (set-out l i v h) ∙ sets-past l (suc i) vs (omega arith)
-
--- more bits than there are cells: the first of them
-sets-clip : (l vs : List Bool) → length l ≤ length vs → sets l 0 vs ≡ take (length l) vs
-sets-clip l vs h =
-    let n : ℕ = length l in
-    let p : List Bool = take n vs in
-    let q : List Bool = drop n vs in
-    let lp : length p ≡ n = length-take-le n vs h in
-    let z : 0 + length p ≡ n = omega arith in
-    let whole : sets l 0 p ≡ p =
-    sets-eq p l 0 (omega arith) ∙ ap (λ (c : List Bool). p ++ c) (ap (λ (k : ℕ). drop k l) z ∙ drop-all l) ∙ append-nil p in
-    ap (sets l 0) (sym (take-append-drop n vs)) ∙ sets-append l 0 p q ∙ sets-past (sets l 0 p) (0 + length p) q (omega (arith, length-sets l 0 p)) ∙ whole
-  where
-    drop-all : (c : List Bool) → drop (length c) c ≡ []
-    drop-all [] = refl
-    drop-all (x ∷ c) = drop-all c
-
-    append-nil : (c : List Bool) → c ++ [] ≡ c
-    append-nil [] = refl
-    append-nil (x ∷ c) = ap (λ (d : List Bool). x ∷ d) (append-nil c)
-
--- what was written is written again
-sets-again : (l p q : List Bool) → length p ≤ length l → sets (sets l 0 p) 0 (p ++ q) ≡ sets (sets l 0 p) (length p) q
-sets-again l p q h =
-    let c : List Bool = sets l 0 p in
-    let z : 0 + length p ≡ length p = omega arith in
-    let n : 0 + length p ≤ length l = omega arith in
-    let m : 0 + length p ≤ length c = omega (arith, length-sets l 0 p) in
-    let once : c ≡ p ++ drop (length p) l = sets-eq p l 0 n ∙ ap (λ (k : ℕ). p ++ drop k l) z in
-    let twice : sets c 0 p ≡ c =
-    sets-eq p c 0 m ∙ ap (λ (k : ℕ). p ++ drop k c) z ∙ ap (λ (x : List Bool). p ++ drop (length p) x) once
-    ∙ ap (λ (x : List Bool). p ++ x) (drop-at p (drop (length p) l) (length p) refl) ∙ sym once in
-    sets-append c 0 p q ∙ ap₂ (λ (x : List Bool) (k : ℕ). sets x k q) twice z
 
 -- ---- the sheet: its first number, and the size of its bits
 
@@ -138,173 +98,100 @@ module _ (s : List ℕ) (ok : Bytes s) (a : Accepts s) where
   pub bits-high : length (bitsOfSheet s) ≤ 96 + 15884
   bits-high = omega (arith, bits-again, bits-most wireChanges (lit≤ tt) good)
 
--- the first 24 bits of a header
-pub header-start : (h : List ℕ) (n : ℕ) (f : List Bool) → length h ≡ 15 → n ≡ length f - 96
-    → let c : List Bool = bitsOfBytes (withField (withField h 0 8 6) 8 16 n) in sets c 24 f ≡ sets c 0 (frame segmentNumber f)
-header-start h n f l e =
-    let b : List Bool = bitsOfBytes h in
-    let p : List Bool = bitsOf 8 6 ++ bitsOf 16 n in
-    let c : bitsOfBytes (withField (withField h 0 8 6) 8 16 n) ≡ sets b 0 p =
-    with-bits (withField h 0 8 6) 8 16 n ∙ ap (λ (x : List Bool). sets x 8 (bitsOf 16 n)) (with-bits h 0 8 6) ∙ sym (sets-append b 0 (bitsOf 8 6) (bitsOf 16 n)) in
-    let d : sets (sets b 0 p) 0 (p ++ f) ≡ sets (sets b 0 p) 24 f = sets-again b p f (omega (arith, length-bytes h)) in
-    rw (c, ← e) (sym (ap (sets (sets b 0 p) 0) (sym (append-assoc (bitsOf 8 6) (bitsOf 16 n) f)) ∙ d))
-
 -- ---- the header
 
--- the bit of the header's next field, by how many are left
-unfoldable pub headBit : ℕ → ℕ
-headBit zero = 120
-headBit (suc zero) = 112
-headBit (suc (suc zero)) = 95
-headBit (suc (suc (suc zero))) = 80
-headBit (suc (suc (suc (suc zero)))) = 56
-headBit (suc (suc (suc (suc (suc n))))) = 24
+filled-none : (s : List ℕ) → Filled [] s 0 0
+filled-none s = record { count = refl; waits = refl; bytes = λ h. refl }
 
--- the header's tree, by how many fields are left
-abbrev pub headTree : ℕ → Format
-headTree left = skip (6 - left) (sheetFields wireChanges)
+cut : (p b r f : List Bool) (n : ℕ) → f ≡ b ++ r → length (p ++ b) ≡ n → take n (p ++ f) ≡ p ++ b
+cut p b r f n e l = ap (λ (x : List Bool). take n (p ++ x)) e ∙ ap (take n) (sym (append-assoc p b r)) ∙ take-at (p ++ b) r n l
 
-head-width : (left : ℕ) (k : Kind) → 0 < left → left ≤ 5 → next (headTree left) ≡ some k → headBit left + k .width ≡ headBit (left - 1)
-unfolding headBit sheetFields fields
-head-width zero k h l e = absurd (omega arith)
-head-width (suc zero) k h l e = let q : k ≡ nPacketCounter = cc in rw q
-head-width (suc (suc zero)) k h l e = let q : k ≡ tTimestampSeconds = cc in rw q
-head-width (suc (suc (suc zero))) k h l e = let q : k ≡ tTimestampDate = cc in rw q
-head-width (suc (suc (suc (suc zero)))) k h l e = let q : k ≡ nidEngine = cc in rw q
-head-width (suc (suc (suc (suc (suc zero))))) k h l e = let q : k ≡ nidOperational = cc in rw q
-head-width (suc (suc (suc (suc (suc (suc n)))))) k h l e = absurd (omega arith)
+module _ (s : List ℕ) (ok : Bytes s) (a : Accepts s) where
+  all-told : (x : List Bool) → writer s .run (headerPart (bodyPart end)) (length (groupsIn 6)) x ≡ Told.told (x ++ bitsOfSheet s)
+  all-told x =
+      ap (λ (f : Format). writer s .run f (length (groupsIn 6)) x) (sym header-part)
+      ∙ run-told s (fields wireChanges) (length (groupsIn 6)) x
+      ∙ rw (own s ok a .reads, sheet-bits s ok a)
 
-head-after : (left v : ℕ) → 0 < left → left ≤ 5 → after (headTree left) v ≡ headTree (left - 1)
-unfolding sheetFields fields
-head-after zero v h l = absurd (omega arith)
-head-after (suc zero) v h l = refl
-head-after (suc (suc zero)) v h l = refl
-head-after (suc (suc (suc zero))) v h l = refl
-head-after (suc (suc (suc (suc zero)))) v h l = refl
-head-after (suc (suc (suc (suc (suc zero))))) v h l = refl
-head-after (suc (suc (suc (suc (suc (suc n)))))) v h l = absurd (omega arith)
+  header-ready : (room : List ℕ) (x : List Bool) (wait : ℕ) → Filled x room 24 wait → Ready headerPart s room (record { from = length (groupsIn 6); at = 24; wait = wait })
+  header-ready room x wait f = record {
+    bytes = ok;
+    inside = own s ok a .inside;
+    bits = x;
+    filled = f;
+    ahead = record { follows = bodyPart end; good = rw (all-told x) (omega (arith, f .count, length-append x (bitsOfSheet s), bits-high s ok a)) };
+  }
 
-pub head-goes-on : (left : ℕ) → 0 < left → left ≤ 5 → next (headTree left) ≡ none → ⊥
-unfolding sheetFields fields
-head-goes-on zero h l e = omega arith
-head-goes-on (suc zero) h l e = let z : _≡_ {A = ℕ} 0 1 = cc in omega arith
-head-goes-on (suc (suc zero)) h l e = let z : _≡_ {A = ℕ} 0 1 = cc in omega arith
-head-goes-on (suc (suc (suc zero))) h l e = let z : _≡_ {A = ℕ} 0 1 = cc in omega arith
-head-goes-on (suc (suc (suc (suc zero)))) h l e = let z : _≡_ {A = ℕ} 0 1 = cc in omega arith
-head-goes-on (suc (suc (suc (suc (suc zero))))) h l e = let z : _≡_ {A = ℕ} 0 1 = cc in omega arith
-head-goes-on (suc (suc (suc (suc (suc (suc n)))))) h l e = omega arith
+  -- the header's bits, and the body's place and bits
+  record Apart (bits : List Bool) (at : ℕ) : Type 0 where
+    pub place : BodyAt s at
+    pub all : bitsOfSheet s ≡ bits ++ bodyBitsOf s at
 
-pub head-inside : (left : ℕ) → headBit left ≤ 120
-unfolding headBit
-head-inside zero = lit≤ tt
-head-inside (suc zero) = lit≤ tt
-head-inside (suc (suc zero)) = lit≤ tt
-head-inside (suc (suc (suc zero))) = lit≤ tt
-head-inside (suc (suc (suc (suc zero)))) = lit≤ tt
-head-inside (suc (suc (suc (suc (suc n))))) = lit≤ tt
+  apart : (bits : List Bool) (at : ℕ) → at ≤ length s → Told.told (bitsOfSheet s) ≡ writer s .run (bodyPart end) at bits → Apart bits at
+  apart bits at l e = go (bodyRead s at) refl (e ∙ ap (λ (f : Format). writer s .run f at bits) (sym body-part) ∙ run-told s (body wireChanges) at bits)
+    where
+      go : (r : Read) → bodyRead s at ≡ r → Told.told (bitsOfSheet s) ≡ answerOf Told.not (λ v. Told.told (bits ++ write packet (body wireChanges) v)) r → Apart bits at
+      go (accepted v) q d =
+          let i : bitsOfSheet s ≡ bits ++ write packet (body wireChanges) v = cc in
+          record { place = record { inside = l; accepts = q ∙ ap accepted (sym (ap valuesOf q)) }; all = i ∙ ap (λ (r : Read). bits ++ write packet (body wireChanges) (valuesOf r)) (sym q) }
+      go (refused r n) q d = absurd (let z : _≡_ {A = ℕ} 0 1 = cc in omega arith)
 
-module _ (s : List ℕ) (ok : Bytes s) where
-  -- the header written so far: h₀ are its bits at the start
-  pub record Heading (h₀ : List Bool) (f : Format) (at bit left : ℕ) (cells : List Bool) : Type 0 where
-    pub writing : Writing (sheet-source s ok) packet (sets h₀ 0 (frame segmentNumber (bitsOfSheet s))) (24 + length (bitsOfSheet s)) f at bit cells
-    pub rest : drop (bit - 24) (bitsOfSheet s) ≡ write packet f (writing .reading .values)
-    pub from : 24 ≤ bit
-    pub stands : f ≡ headTree left
-    pub place : bit ≡ headBit left
-    pub few : left ≤ 5
+  module _ {h0 h1 h2 : List ℕ} {number wait n : ℕ} (fifteen : length h0 ≡ 15) (ln : n ≡ length (bitsOfSheet s) - 96)
+      (one : Filling h0 0 0 8 6 h1 number) (two : Filling h1 8 number 16 n h2 wait) where
+    begun : Filled (bitsOf 8 6 ++ bitsOf 16 n) h2 24 wait
+    begun = two .fills (bitsOf 8 6) (one .fills [] (filled-none h0))
 
-  -- before the first field
-  pub heading-start : Accepts s → (h₀ : List Bool) (f : Format) (at : ℕ) → f ≡ fields wireChanges → at ≡ length (groupsIn 6)
-      → sets h₀ 24 (bitsOfSheet s) ≡ sets h₀ 0 (frame segmentNumber (bitsOfSheet s)) → Heading h₀ f at 24 5 h₀
-  unfolding headBit sheetFields
-  heading-start a h₀ f at ef ea m =
-      let o = own s ok a in
-      let b = sheet-bits s ok a in
-      rw (ef, ea) (record {
-        writing = record {
-          reading = record { lawful = fields-lawful wireChanges (lit≤ tt); here = o .inside; values = o .values; reads = o .reads };
-          makes = ap (sets h₀ 24) (sym b) ∙ m;
-          ends = omega (arith, ap length b);
-        };
-        rest = b;
-        from = omega arith;
-        stands = refl;
-        place = refl;
-        few = omega arith;
-      })
+    pub header-may : Ready headerPart s h2 (record { from = length (groupsIn 6); at = 24; wait = wait })
+    header-may = header-ready h2 (bitsOf 8 6 ++ bitsOf 16 n) wait begun
 
-  module _ {h₀ : List Bool} {f : Format} {at bit left : ℕ} {cells : List Bool} (w : Heading h₀ f at bit left cells) (some-left : 0 < left) {k : Kind} (e : next f ≡ some k) where
-    pub field-end : bit + k .width ≡ headBit (left - 1)
-    field-end = rw (w .place) (head-width left k some-left (w .few) (rw (w .stands) at e))
-
-    pub heading-on : {i : Item} {to : ℕ} → Is i to ≡ numberTaken k s at
-        → Heading h₀ (after f (i .packet)) to (bit + k .width) (left - 1) (sets cells bit (bitsOf (k .width) (i .packet)))
-    heading-on {i} {to} t =
-        let p : List Bool = bitsOf (k .width) (i .packet) in
-        let n : length p ≡ k .width = length-bits (k .width) (i .packet) in
-        let src = sheet-source s ok in
-        let g = writing-on src packet (w .writing) e t in
-        let past : bit + length p - 24 ≡ bit - 24 + length p = omega (arith, w .from) in
-        let r : drop (bit + length p - 24) (bitsOfSheet s) ≡ write packet (after f (i .packet)) (g .reading .values) =
-        ap (λ (m : ℕ). drop m (bitsOfSheet s)) past ∙ sym (drop-drop (length p) (bit - 24) (bitsOfSheet s))
-        ∙ ap (drop (length p)) (w .rest ∙ writing-rest src packet (w .writing) e t) ∙ drop-at p (write packet (after f (i .packet)) (g .reading .values)) (length p) refl in
-        subst (λ (m : ℕ). Heading h₀ (after f (i .packet)) to (bit + m) (left - 1) (sets cells bit p)) n
-        (record {
-          writing = g;
-          rest = r;
-          from = omega (arith, w .from);
-          stands = ap (λ (x : Format). after x (i .packet)) (w .stands) ∙ head-after left (i .packet) some-left (w .few);
-          place = omega (arith, field-end);
-          few = omega (arith, w .few);
-        })
-
-  -- the whole header
-  module _ {h₀ : List Bool} {f : Format} {at bit : ℕ} {cells : List Bool} (w : Heading h₀ f at bit 0 cells) where
-    at-body : f ≡ body wireChanges
-    unfolding sheetFields fields
-    at-body = w .stands
-
-    body-reads : bodyRead s at ≡ accepted (w .writing .reading .values)
-    body-reads = subst (λ (x : Format). read sheet x (drop at s) ≡ accepted (w .writing .reading .values)) at-body (w .writing .reading .reads)
-
-    pub body-place : BodyAt s at
-    body-place = record { inside = w .writing .reading .here; accepts = body-reads ∙ ap accepted (sym (ap valuesOf body-reads)) }
-
-    pub body-rest : drop 96 (bitsOfSheet s) ≡ bodyBitsOf s at
-    unfolding headBit
-    body-rest =
-        let e : bit - 24 ≡ 96 = omega (arith, w .place) in
-        ap (λ (m : ℕ). drop m (bitsOfSheet s)) (sym e) ∙ w .rest
-        ∙ ap (λ (x : Format). write packet x (w .writing .reading .values)) at-body ∙ ap (λ (r : Read). write packet (body wireChanges) (valuesOf r)) (sym body-reads)
-
-    -- the cells are the first of the frame's bits
-    pub header-cells : length h₀ ≡ 120 → length cells ≡ 120 → 96 ≤ length (bitsOfSheet s) → cells ≡ take 120 (frame segmentNumber (bitsOfSheet s))
-    unfolding headBit
-    header-cells n m h =
-        sym (sets-past cells bit (write packet f (w .writing .reading .values)) (omega (arith, w .place))) ∙ w .writing .makes
-        ∙ sets-clip h₀ (frame segmentNumber (bitsOfSheet s)) (omega (arith, frame-length segmentNumber (bitsOfSheet s)))
-        ∙ ap (λ (k : ℕ). take k (frame segmentNumber (bitsOfSheet s))) n
+    pub header-done : {h3 : List ℕ} {q : Spot} → Wrote headerPart s h2 (record { from = length (groupsIn 6); at = 24; wait = wait }) h3 q → q .at ≡ 120 → Headed s h3 (q .from)
+    header-done {h3} {q} w e =
+        let b = w .bits in
+        let g = apart b (q .from) (w .over [] .stands) (sym (all-told []) ∙ w .over [] .goes (bodyPart end)) in
+        let f = w .puts .fills (bitsOf 8 6 ++ bitsOf 16 n) begun in
+        let h : length h3 ≡ 15 = w .puts .long ∙ two .long ∙ one .long ∙ fifteen in
+        let p = bitsOf 8 6 ++ bitsOf 16 n in
+        let lp : length (p ++ b) ≡ 120 = sym (f .count) ∙ e in
+        let lb : length b ≡ 96 = omega (arith, lp, length-append p b) in
+        let m : frame segmentNumber (bitsOfSheet s) ≡ p ++ bitsOfSheet s = rw (← ln) (sym (append-assoc (bitsOf 8 6) (bitsOf 16 n) (bitsOfSheet s))) in
+        let k : take 15 h3 ≡ bytesOfBits (p ++ b) = rw e at (f .bytes (omega (arith, h, e))) in
+        record {
+          bytes = sym (take-all 15 h3 (omega (arith, h))) ∙ k ∙ ap bytesOfBits (sym (ap (take 120) m ∙ cut p b (bodyBitsOf s (q .from)) (bitsOfSheet s) 120 (g .all) lp));
+          place = g .place;
+          rest = ap (drop 96) (g .all) ∙ drop-at b (bodyBitsOf s (q .from)) 96 lb;
+        }
 
 -- ---- the body
 
-pub body-lawful : Lawful (body wireChanges)
-body-lawful = lawful (body-measured bit-costs wireChanges (lit≤ tt))
+module _ (s : List ℕ) (ok : Bytes s) (at : ℕ) (h : BodyAt s at) (few : length (bodyBitsOf s at) < 2 ^ 31) where
+  body-told : (x : List Bool) → writer s .run (bodyPart end) at x ≡ Told.told (x ++ bodyBitsOf s at)
+  body-told x =
+      ap (λ (f : Format). writer s .run f at x) (sym body-part)
+      ∙ run-told s (body wireChanges) at x
+      ∙ ap (answerOf Told.not (λ v. Told.told (x ++ write packet (body wireChanges) v))) (h .accepts)
 
--- the last bits, the padding, and what the room had
-pub body-done : (b₀ : List ℕ) (bits : List Bool) (pad : ℕ) → Bytes b₀ → length bits ≤ 8 * length b₀ → pad ≡ (8 - length bits % 8) % 8
-    → bytesOfBits (sets (sets (bitsOfBytes b₀) 0 bits) (length bits) (bitsOf pad 0)) ≡ bytesOfBits bits ++ drop ((length bits + 7) / 8) b₀
-body-done b₀ bits pad ok h e =
-    let n : ℕ = (length bits + 7) / 8 in
-    let z : List Bool = zeros pad in
-    let lz : length (bits ++ z) ≡ 8 * n = length-append bits z ∙ rw (length-zeros pad) (omega arith) in
-    let fits : 0 + length (bits ++ z) ≤ length (bitsOfBytes b₀) = rw (length-bytes, lz) (omega arith) in
-    let zero : 0 + length (bits ++ z) ≡ 8 * n = omega arith in
-    let from : length bits ≡ 0 + length bits = omega arith in
-    ap (λ (m : ℕ). bytesOfBits (sets (sets (bitsOfBytes b₀) 0 bits) m (bitsOf pad 0))) from
-    ∙ ap (λ (l : List Bool). bytesOfBits (sets (sets (bitsOfBytes b₀) 0 bits) (0 + length bits) l)) (zero-bits pad)
-    ∙ ap bytesOfBits (sym (sets-append (bitsOfBytes b₀) 0 bits z) ∙ sets-eq (bits ++ z) (bitsOfBytes b₀) 0 fits ∙ ap (λ (m : ℕ). (bits ++ z) ++ drop m (bitsOfBytes b₀)) zero)
-    ∙ bytes-append (bits ++ z) (drop (8 * n) (bitsOfBytes b₀)) n lz
-    ∙ ap₂ (λ (p q : List ℕ). p ++ q) (bytes-zeros bits pad (omega arith)) (ap bytesOfBits (sym (bits-drop n b₀)) ∙ bytes-bits (drop n b₀) (bytes-drop n b₀ ok))
+  pub body-may : (room : List ℕ) → Ready bodyPart s room (record { from = at; at = 0; wait = 0 })
+  body-may room = record {
+    bytes = ok;
+    inside = h .inside;
+    bits = [];
+    filled = filled-none room;
+    ahead = record { follows = end; good = rw (body-told []) (omega (arith, few)) };
+  }
+
+  -- all that is put
+  body-bits : (bits : List Bool) (t : List ℕ) → Told.told (bodyBitsOf s at) ≡ pass sheet (recording packet) end bits t → bits ≡ bodyBitsOf s at
+  body-bits bits [] e = cc
+  body-bits bits (b ∷ t) e = absurd (let z : _≡_ {A = ℕ} 0 1 = cc in omega arith)
+
+  pub body-done : {room after : List ℕ} {q : Spot} → length room ≡ (length (bodyBitsOf s at) + 7) / 8 → Wrote bodyPart s room (record { from = at; at = 0; wait = 0 }) after q
+      → after ≡ bytesOfBits (bodyBitsOf s at)
+  body-done {room} {after} {q} l w =
+      let e : w .bits ≡ bodyBitsOf s at = body-bits (w .bits) (drop (q .from) s) (sym (body-told []) ∙ w .over [] .goes end) in
+      let f = w .puts .fills [] (filled-none room) in
+      let c : q .at ≡ length (bodyBitsOf s at) = f .count ∙ ap length e in
+      let n : length after ≡ (q .at + 7) / 8 = w .puts .long ∙ l ∙ rw c in
+      sym (take-all ((q .at + 7) / 8) after (omega (arith, n))) ∙ f .bytes (omega (arith, n)) ∙ ap bytesOfBits e
 
 -- ---- the answers
 

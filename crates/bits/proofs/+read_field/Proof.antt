@@ -9,7 +9,7 @@ use Rattle.bits.proofs.read_field.Reads as read-field
 use Rattle.bits.proofs.read_field.Kinds as read-field-kinds
 use Rattle.bits.proofs.+read_field.Lts-read_field as read-field-lts
 use Rattle.bits.proofs.bit.Reads as bit-reads
-use Rattle.bits.proofs.read_long.Reads as read-long-reads
+use Rattle.bits.proofs.read_window.Reads as read-window-reads
 use Rattle.bits.proofs.+read_field.{statement}
 use Rattle.bits.proofs.+read_field.Tie.{close}
 use Rattle.bits.proofs.Cells.{whole-part}
@@ -32,7 +32,7 @@ pub +read-field-spec : {M : Type 1} → statement M
 +read-field-spec =
     close μ-read-field λ t.
     read-field-lts.spec
-    (read-field-below t, read-field.Post, bit-reads.Asked, bit-reads.Learnt, read-long-reads.Asked, read-long-reads.Learnt)
+    (read-field-below t, read-field.Post, bit-reads.Asked, bit-reads.Learnt, read-window-reads.Asked, read-window-reads.Learnt)
     (read-field-at t)
     read-field.Post
     (λ c. let a = c .before .before .args in rw (c .if1 .taken) (sym (field-none (now (a .s)) (a .at))))
@@ -56,4 +56,4 @@ pub +read-field-spec : {M : Type 1} → statement M
     let a = c .before .before .before .before .before .before .args in
     rw (c .before .read-field .ensures, whole-part (now (a .s)), c .bit .ensures) (field-last (now (a .s)) (a .at) (a .width) (omega arith) (omega arith)))
     (λ c κs. omega arith)
-    (λ c. c .read-long .ensures)
+    (λ c. c .read-window .ensures)

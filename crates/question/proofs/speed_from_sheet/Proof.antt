@@ -1,13 +1,13 @@
 -- `question::speed_from_sheet` meets its contract.
-use Rattle.question.proofs.Hearing.{sheet-answered}
-use mathlib.Core.Path.{sym, _∙_}
+use mathlib.Core.Path.{refl, sym, _∙_}
 use denote.Ref.{now}
+use Rattle.question.proofs.Answering.{no-speed, some-speed, sheet-refused, sheet-accepted, sheet-answered}
 use borrow.Author.Needs.{needs}
 use Rattle.question.proofs.speed_from_sheet.Statement.{statement}
 use Rattle.question.proofs.speed_from_sheet.Tie as tie
 
-sheet-fields-requires : tie.Need-sheet-fields-requires
-sheet-fields-requires c κs = search needs
+judge-sheet-requires : tie.Need-judge-sheet-requires
+judge-sheet-requires c κs = search needs
 
 enum-known-r : tie.Need-enum-known-r
 enum-known-r c = search needs
@@ -15,26 +15,58 @@ enum-known-r c = search needs
 refused-requires : tie.Need-refused-requires
 refused-requires c κs = search needs
 
-enum-known-lsp : tie.Need-enum-known-lsp
-enum-known-lsp c = search needs
+enum-told : tie.Need-enum-told
+enum-told c = search needs
 
-answer-requires : tie.Need-answer-requires
-answer-requires c κs = search needs
+head-requires : tie.Need-head-requires
+head-requires c κs =
+    let a = c .before .before .before .before .args in
+    let s = now (a .sheet) in
+    sheet-accepted s (a .train) (a .x) _ (sym (c .enum-told .given .1) ∙ c .before .before .judge-sheet .ensures)
+
+refusal-of-requires : tie.Need-refusal-of-requires
+refusal-of-requires c κs = search needs
+
+refused-requires-2 : tie.Need-refused-requires-2
+refused-requires-2 c κs = search needs
 
 returns : tie.Need-returns
-returns c = let a = c .before .before .before .before .before .before .args in c .refused .ensures ∙ sheet-answered (now (a .sheet)) (a .train) (a .x) (sym (c .before .before .r .given .1) ∙ c .before .before .before .before .sheet-fields .ensures)
+returns c =
+    let a = c .before .before .before .before .before .before .before .before .args in
+    let s = now (a .sheet) in
+    let e = (sym (c .before .before .before .before .enum-told .given .1) ∙ c .before .before .before .before .before .before .judge-sheet .ensures) in
+    let r = c .before .before .refusal-of .ensures in
+    c .refused2 .ensures ∙ no-speed (a .train) (a .x) _ r _ (c .before .if1 .taken) ∙ sheet-answered s (a .train) (a .x) _ e (c .before .before .before .head .ensures .length-is) refl
+
+permitted-requires : tie.Need-permitted-requires
+permitted-requires c κs = search needs
 
 returns-2 : tie.Need-returns-2
-returns-2 c = let a = c .before .before .before .before .before .before .args in c .answer .ensures ∙ sheet-answered (now (a .sheet)) (a .train) (a .x) (sym (c .before .before .lsp .given .1) ∙ c .before .before .before .before .sheet-fields .ensures)
+returns-2 c =
+    let a = c .before .before .before .before .before .before .args in
+    let s = now (a .sheet) in
+    c .refused .ensures ∙ sheet-refused s (a .train) (a .x) _ (sym (c .before .before .r .given .1) ∙ c .before .before .before .before .judge-sheet .ensures)
+
+returns-3 : tie.Need-returns-3
+returns-3 c =
+    let a = c .before .before .before .before .before .before .before .before .args in
+    let s = now (a .sheet) in
+    let e = (sym (c .before .before .before .before .enum-told .given .1) ∙ c .before .before .before .before .before .before .judge-sheet .ensures) in
+    let r = c .before .before .refusal-of .ensures in
+    some-speed (a .train) (a .x) _ r _ (c .before .if1 .left) ∙ sheet-answered s (a .train) (a .x) _ e (c .before .before .before .head .ensures .length-is) (c .permitted .ensures)
 
 pub speed-from-sheet-spec : {M : Type 1} → statement M
 speed-from-sheet-spec =
     tie.close
     (tie.spec
-    sheet-fields-requires
+    judge-sheet-requires
     enum-known-r
     refused-requires
-    enum-known-lsp
-    answer-requires
+    enum-told
+    head-requires
+    refusal-of-requires
+    refused-requires-2
     returns
-    returns-2)
+    permitted-requires
+    returns-2
+    returns-3)

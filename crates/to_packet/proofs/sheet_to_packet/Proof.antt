@@ -31,11 +31,11 @@ sub-bits c =
     let e = sym (c .before .n .given .1) ∙ c .before .before .before .judge-sheet .ensures in
     omega (arith, packet-low s (now (a .room)) ok _ e)
 
+add-bytes : tie.Need-add-bytes
+add-bytes c = search needs
+
 add-length : tie.Need-add-length
 add-length c = search needs
-
-add-length-2 : tie.Need-add-length-2
-add-length-2 c = search needs
 
 refused-requires-2 : tie.Need-refused-requires-2
 refused-requires-2 c κs = search needs
@@ -49,7 +49,12 @@ returns c =
     rw (c .refused2 .ensures) (packet-too-long s (now (a .room)) ok _ e (c .before .if1 .taken))
 
 slice-relend-prefix-write-header : tie.Need-slice-relend-prefix-write-header
-slice-relend-prefix-write-header c = search needs
+slice-relend-prefix-write-header c =
+    let a = c .before .before .before .before .before .before .before .args in
+    let s = now (a .sheet) in
+    let ok = bytes-of s (λ i. c .before .before .before .before .before .before .shared-slice-known .given i .fits) in
+    let e = sym (c .before .before .n .given .1) ∙ c .before .before .before .before .judge-sheet .ensures in
+    omega (arith, packet-low s (now (a .room)) ok _ e)
 
 slice-aggregate-write-header : tie.Need-slice-aggregate-write-header
 slice-aggregate-write-header c =
@@ -73,10 +78,20 @@ write-header-requires c κs =
     (length-take-le 15 (now (a .room)) (omega (arith, c .before .if1 .left)), omega (arith, packet-bits s (now (a .room)) ok _ e), packet-accepts s (now (a .room)) ok _ e)
 
 sub-write-body : tie.Need-sub-write-body
-sub-write-body c = search needs
+sub-write-body c =
+    let a = c .before .before .before .before .before .before .before .before .before .before .before .args in
+    let s = now (a .sheet) in
+    let ok = bytes-of s (λ i. c .before .before .before .before .before .before .before .before .before .before .shared-slice-known .given i .fits) in
+    let e = sym (c .before .before .before .before .before .before .n .given .1) ∙ c .before .before .before .before .before .before .before .before .judge-sheet .ensures in
+    omega (arith, packet-low s (now (a .room)) ok _ e)
 
 part-write-body-start : tie.Need-part-write-body-start
-part-write-body-start c = search needs
+part-write-body-start c =
+    let a = c .before .before .before .before .before .before .before .before .before .before .before .args in
+    let s = now (a .sheet) in
+    let ok = bytes-of s (λ i. c .before .before .before .before .before .before .before .before .before .before .shared-slice-known .given i .fits) in
+    let e = sym (c .before .before .before .before .before .before .n .given .1) ∙ c .before .before .before .before .before .before .before .before .judge-sheet .ensures in
+    omega (arith, packet-low s (now (a .room)) ok _ e)
 
 part-write-body-end : tie.Need-part-write-body-end
 part-write-body-end c = search needs
@@ -90,7 +105,7 @@ write-body-requires c κs =
     let h = c .before .before .before .write-header in
     let k : length (h .last .1 .0) ≡ 15 = h .kept .1 .0 ∙ length-take-le 15 (now (a .room)) (omega (arith, c .before .before .before .before .before .if1 .left)) in
     let l = body-long s (now (a .room)) ok _ e (h .last .1 .0) (h .result) (h .ensures) in
-    (h .ensures .place, rw (room-rest 15 (h .last .1 .0) (drop 15 (now (a .room))) k) (omega (arith, l, length-drop 15 (now (a .room)), c .before .before .before .before .before .if1 .left)), omega (arith, l, packet-high s (now (a .room)) ok _ e))
+    (h .ensures .place, omega (arith, l), rw (room-rest 15 (h .last .1 .0) (drop 15 (now (a .room))) k) (omega (arith, l, length-drop 15 (now (a .room)), c .before .before .before .before .before .if1 .left)), omega (arith, l, packet-high s (now (a .room)) ok _ e))
 
 cast-done : tie.Need-cast-done
 cast-done c =
@@ -136,8 +151,8 @@ sheet-to-packet-spec =
     refused-requires
     enum-known-n
     sub-bits
+    add-bytes
     add-length
-    add-length-2
     refused-requires-2
     returns
     slice-relend-prefix-write-header

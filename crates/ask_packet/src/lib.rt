@@ -1,0 +1,170 @@
+// The permitted speed at a place of an accepted packet, worked out element by element. What was accepted is not judged again.
+ghost use mathlib.Core.Bool.{true, cond};
+ghost use mathlib.Core.Path.{_≡_};
+ghost use Prim.Native.Nat.{_+_, _*_, _<_};
+ghost use Rattle.kinds.specs.Kinds as kinds;
+ghost use Rattle.kinds.specs.Tables.{cantFigures};
+ghost use Rattle.segment.specs.Segment as segment;
+ghost use Rattle.segment.specs.Parts as parts;
+ghost use Rattle.speed.specs.Speed.{segmentLength, speedIn};
+ghost use Rattle.elements.specs.Elements.{none};
+ghost use Rattle.elements.specs.Reading.{Ahead, EntryRead, EntriesRead, ElementRead, ChangesRead, ProfileRead};
+ghost use Rattle.ask_packet.specs.Asking.{Accepted, numbersOf, Left};
+use elements::Lows;
+use elements::Open;
+use fields::tables;
+use kinds::body;
+use speed::Train;
+
+// Where L_SP stands, and where the speed profile starts.
+const LENGTH: usize = 178;
+
+const PROFILE: usize = 253;
+
+// The bits of an entry, and of what an element begins with.
+const ENTRY: u32 = 13;
+
+const ELEMENT: u32 = 13;
+
+// An element, and the bit after it.
+pub struct Found {
+    pub open: Open,
+    pub next: usize,
+}
+
+fn chosen(so: bool, a: u32, b: u32) -> u32
+    ensures { λ r. ⌜ r ≡ cond so a b ⌝ }
+{
+    if so {
+        return a;
+    }
+    b
+}
+
+// The number in the sheet of a class. A figure is looked up in any case: no branch depends on Q_DIFF, which goes up and down from entry to entry.
+fn class_number(figures: &[u32], q_diff: u32, v: u32) -> u32
+    requires { ⌜ (now figures ≡ cantFigures) × (kinds.class «q_diff» .allowed v ≡ true) ⌝ }
+    ensures { λ r. ⌜ r ≡ kinds.class «q_diff» .raise v ⌝ }
+{
+    let by_cant = q_diff == speed::OF_CANT;
+    let figure = figures[chosen(by_cant, v, 0) as usize];
+    chosen(by_cant, figure, v)
+}
+
+// The lowest speeds with the entry at the bit at.
+fn entry(s: &[u8], at: usize, figures: &[u32], train: Train, lows: Lows) -> Lows
+    requires { ⌜ (now figures ≡ cantFigures) × Ahead (Left (now s)) (parts.entry) at ⌝ }
+    ensures { λ r. ⌜ EntryRead (Left (now (s .entry))) train lows r at (at + 13) ⌝ }
+{
+    let t = bits::read_window(s, at, ENTRY);
+    let q_diff = t / 2048;
+    let class = class_number(figures, q_diff, t / 128 % 16);
+    lows.with(train, q_diff, class, t % 128 * body::VStatic::STEP)
+}
+
+// The speed of an element, from its V_STATIC in km/h and its entries.
+fn entries(s: &[u8], at: usize, count: u32, figures: &[u32], train: Train, v_static: u32) -> u32
+    requires { ⌜ (now figures ≡ cantFigures) × («v_static» < none) × Ahead (Left (now s)) (segment.entries count) at ⌝ }
+    ensures { λ r. ⌜ EntriesRead (Left (now (s .entry))) train «v_static» count at (at + 13 * count) r ⌝ }
+{
+    let mut lows = elements::no_lows();
+    let mut to = at;
+    let mut left = count;
+    while 0 < left {
+        lows = entry(s, to, figures, train, lows);
+        to += ENTRY as usize;
+        left -= 1;
+    }
+    lows.speed(v_static)
+}
+
+// The element at the bit at, which starts at the location start.
+fn element(s: &[u8], at: usize, figures: &[u32], train: Train, start: u32) -> Found
+    requires { ⌜ (now figures ≡ cantFigures) × Ahead (Left (now s)) (segment.profile) at ⌝ }
+    ensures { λ r. ⌜ ElementRead (Left (now (s .entry))) train at (r .next) (r .open) × (r .open .start ≡ start) ⌝ }
+{
+    let t = bits::read_window(s, at, ELEMENT);
+    let count = t % 32;
+    let speed = entries(
+        s,
+        at + 13,
+        count,
+        figures,
+        train,
+        t / 64 * body::VStatic::STEP,
+    );
+    Found {
+        open: Open {
+            start,
+            speed,
+            q_front: t / 32 % 2,
+        },
+        next: at + 13 + 13 * count as usize,
+    }
+}
+
+// The permitted speed at x, from the changes after the first element. The last element ends at lsp.
+fn changes(
+    s: &[u8],
+    at: usize,
+    count: u32,
+    figures: &[u32],
+    train: Train,
+    lsp: u32,
+    x: u32,
+    first: Open,
+) -> u32
+    requires { ⌜ (now figures ≡ cantFigures) × (first .speed < none) × Ahead (Left (now s)) (segment.changes segment.profile lsp (first .start) count) at ⌝ }
+    ensures { λ r. ⌜ ChangesRead (Left (now (s .entry))) train lsp x first count at r ⌝ }
+{
+    let mut held = elements::NONE;
+    let mut open = first;
+    let mut to = at;
+    let mut left = count;
+    while 0 < left {
+        let start = bits::read_window(s, to, body::DLocation::WIDTH);
+        let e = element(s, to + 24, figures, train, start);
+        held = open.ended(held, train, start, x);
+        open = e.open;
+        to = e.next;
+        left -= 1;
+    }
+    elements::permitted(open.ended(held, train, lsp, x))
+}
+
+// The permitted speed at x, from the profile at the bit at: its first element, the count of its changes, and the changes.
+fn profile(s: &[u8], at: usize, train: Train, lsp: u32, x: u32) -> u32
+    requires { ⌜ Ahead (Left (now s)) (segment.part segment.profile 31 lsp) at ⌝ }
+    ensures { λ r. ⌜ ProfileRead (Left (now (s .entry))) train lsp x at r ⌝ }
+{
+    let figures = tables::CANT_FIGURES;
+    let first = element(s, at, &figures, train, 0);
+    let count = bits::read_window(s, first.next, body::NIter::WIDTH);
+    changes(
+        s,
+        first.next + 5,
+        count,
+        &figures,
+        train,
+        lsp,
+        x,
+        first.open,
+    )
+}
+
+// The length of an accepted packet's segment.
+pub fn length_of(packet: &[u8]) -> u32
+    requires { ⌜ Accepted (now packet) ⌝ }
+    ensures { λ r. ⌜ r ≡ segmentLength (numbersOf (now (packet .entry))) ⌝ }
+{
+    bits::read_window(packet, LENGTH, body::LSp::WIDTH)
+}
+
+// The permitted speed for a train at a place of an accepted packet.
+pub fn permitted(packet: &[u8], train: Train, x: u32) -> u32
+    requires { ⌜ Accepted (now packet) ⌝ }
+    ensures { λ r. ⌜ r ≡ speedIn train x (numbersOf (now (packet .entry))) ⌝ }
+{
+    let lsp = length_of(packet);
+    profile(packet, PROFILE, train, lsp, x)
+}

@@ -1,0 +1,43 @@
+-- A pass over a tree: the fields are taken in order, each adds to what was made before it, and the end or a refusal gives the answer.
+-- Assumes nothing.
+use mathlib.Core.List.{List, [], _∷_}
+use Prim.Native.Nat.{ℕ}
+use Rattle.kinds.specs.declared.Item.{Item}
+use Rattle.kinds.specs.declared.Field.{Field}
+use Rattle.kinds.specs.declared.Field.the-variants as Judged
+use Rattle.kinds.specs.Kind.{Kind}
+use Rattle.format.specs.Format.{Format, end, field, Step, step, stop, Medium}
+use Rattle.format.specs.Places.{Taken}
+
+-- what a pass makes of a value, what it answers where all is taken, and what of a refusal
+pub record Task (X B : Type 0) : Type 0 where
+  pub on : Kind → Item → X → X
+  pub answer : X → B
+  pub refusal : ℕ → B
+
+-- the answer from what the next field gives
+abbrev pub stepped : {A B : Type 0} → (ℕ → B) → Step A → (Item → List A → B) → B
+stepped refusal (step i s) go = go i s
+stepped refusal (stop r) go = refusal r
+
+-- the same of a field taken at a place, and of a field's value judged
+abbrev pub taken : {B : Type 0} → (ℕ → B) → Taken → (Item → ℕ → B) → B
+taken refusal (Taken.Is i to) go = go i to
+taken refusal (Taken.Refused r) go = refusal r
+
+abbrev pub judged : {B : Type 0} → (ℕ → B) → Field → (Item → B) → B
+judged refusal (Judged.Is i) go = go i
+judged refusal (Judged.Refused r) go = refusal r
+
+module _ {A X B : Type 0} where
+  -- the answer of a tree, from what was made so far and what is left
+  abbrev pub pass : Medium A → Task X B → Format → X → List A → B
+  pass m t end x [] = t .answer x
+  pass m t end x (a ∷ s) = t .refusal (m .left)
+  pass m t (field k next) x s = stepped (t .refusal) (m .take k s) (λ i u. pass m t (next (i .packet)) (t .on k i x) u)
+
+-- what is made of a tree's values
+abbrev pub made : {X B : Type 0} → Task X B → Format → List Item → X → X
+made t end l x = x
+made t (field k next) [] x = x
+made t (field k next) (i ∷ l) x = made t (next (i .packet)) l (t .on k i x)

@@ -1,0 +1,179 @@
+// The elements of a packet's lists judged, with the bytes of their sheet counted. Nothing is written.
+ghost use Rattle.segment.specs.Segment as segment;
+ghost use Rattle.segment.specs.Parts as parts;
+ghost use Rattle.segment.specs.Parts.{startOf};
+ghost use Rattle.judge_field.specs.Judging.{Standing, Over, Gave};
+ghost use Rattle.judge_element.specs.Profile.{profileHead};
+use judge_field::Next;
+use judge_field::Step;
+use kinds::OUT_OF_RANGE;
+use kinds::body;
+use segment::Part;
+
+// ---- the specific entries
+
+// An entry field by field.
+fn cut_entry(s: &[u8], stop: usize, at: usize, n: usize) -> Step
+    requires { ⌜ Standing (now s) stop at n ⌝ }
+    ensures { λ r. ⌜ Over parts.entry (now (s .entry)) stop at n r ⌝ }
+{
+    match judge_field::field(s, stop, at, n, body::QDiff::rule()) {
+        Next::Refused(r) => Step::Refused(r),
+        Next::Is(q, at2, n2) => match judge_field::plain(s, stop, at2, n2, body::class_at(q)) {
+            Step::Refused(r) => Step::Refused(r),
+            Step::On(at3, n3) => judge_field::plain(s, stop, at3, n3, body::VStatic::rule()),
+        },
+    }
+}
+
+// The bits of an entry: Q_DIFF 2, class 4, V_DIFF 7.
+const ENTRY: usize = 13;
+
+// An entry: where its bits are all there, they are read at once.
+fn entry(s: &[u8], stop: usize, at: usize, n: usize) -> Step
+    requires { ⌜ Standing (now s) stop at n ⌝ }
+    ensures { λ r. ⌜ Over parts.entry (now (s .entry)) stop at n r ⌝ }
+{
+    if stop - at < ENTRY {
+        return cut_entry(s, stop, at, n);
+    }
+    let t = bits::read_window(s, at, ENTRY as u32);
+    let q = t / 2048;
+    let first = counts::one(body::QDiff::LARGEST, q);
+    if first == 0 {
+        return Step::Refused(OUT_OF_RANGE);
+    }
+    let class = counts::class(q, t / 128 % 16);
+    if class == 0 {
+        return Step::Refused(OUT_OF_RANGE);
+    }
+    let speed = counts::speed(t % 128);
+    if speed == 0 {
+        return Step::Refused(OUT_OF_RANGE);
+    }
+    Step::On(
+        at + ENTRY,
+        n + first as usize + class as usize + speed as usize,
+    )
+}
+
+// The specific entries of an element.
+fn entries(s: &[u8], stop: usize, at: usize, n: usize, count: u32) -> Step
+    requires { ⌜ Standing (now s) stop at n ⌝ }
+    ensures { λ r. ⌜ Over (segment.entries count) (now (s .entry)) stop at n r ⌝ }
+{
+    let mut to = at;
+    let mut m = n;
+    let mut left = count;
+    while 0 < left {
+        match entry(s, stop, to, m) {
+            Step::Refused(r) => {
+                return Step::Refused(r);
+            }
+            Step::On(a, b) => {
+                to = a;
+                m = b;
+                left -= 1;
+            }
+        }
+    }
+    Step::On(to, m)
+}
+
+// ---- the speed profile
+
+// V_STATIC, Q_FRONT and N_ITER field by field, with the last one's value.
+fn cut_profile(s: &[u8], stop: usize, at: usize, n: usize) -> Next
+    requires { ⌜ Standing (now s) stop at n ⌝ }
+    ensures { λ r. ⌜ Gave profileHead (now (s .entry)) stop at n r ⌝ }
+{
+    match judge_field::plain(s, stop, at, n, body::VStatic::rule()) {
+        Step::Refused(r) => Next::Refused(r),
+        Step::On(at2, n2) => match judge_field::plain(s, stop, at2, n2, body::QFront::rule()) {
+            Step::Refused(r) => Next::Refused(r),
+            Step::On(at3, n3) => judge_field::count(s, stop, at3, n3, body::NIter::LARGEST),
+        },
+    }
+}
+
+// The bits of V_STATIC 7, Q_FRONT 1 and N_ITER 5.
+const HEAD: usize = 13;
+
+// The same: where their bits are all there, they are read at once. V_STATIC alone can be refused.
+fn profile_head(s: &[u8], stop: usize, at: usize, n: usize) -> Next
+    requires { ⌜ Standing (now s) stop at n ⌝ }
+    ensures { λ r. ⌜ Gave profileHead (now (s .entry)) stop at n r ⌝ }
+{
+    if stop - at < HEAD {
+        return cut_profile(s, stop, at, n);
+    }
+    let t = bits::read_window(s, at, HEAD as u32);
+    let speed = counts::speed(t / 64);
+    if speed == 0 {
+        return Next::Refused(OUT_OF_RANGE);
+    }
+    Next::Is(t % 32, at + HEAD, n + speed as usize + 2)
+}
+
+// V_STATIC, Q_FRONT, and the count of the entries with the entries.
+fn profile(s: &[u8], stop: usize, at: usize, n: usize) -> Step
+    requires { ⌜ Standing (now s) stop at n ⌝ }
+    ensures { λ r. ⌜ Over segment.profile (now (s .entry)) stop at n r ⌝ }
+{
+    match profile_head(s, stop, at, n) {
+        Next::Refused(r) => Step::Refused(r),
+        Next::Is(count, at2, n2) => entries(s, stop, at2, n2, count),
+    }
+}
+
+// ---- the rated voltage
+
+// M_VOLTAGE and NID_CTRACTION field by field.
+fn cut_wire(s: &[u8], stop: usize, at: usize, n: usize) -> Step
+    requires { ⌜ Standing (now s) stop at n ⌝ }
+    ensures { λ r. ⌜ Over segment.voltage (now (s .entry)) stop at n r ⌝ }
+{
+    match judge_field::field(s, stop, at, n, body::MVoltage::rule()) {
+        Next::Refused(r) => Step::Refused(r),
+        Next::Is(u, at2, n2) => {
+            judge_field::plain(s, stop, at2, n2, body::NidCTraction::rule(u))
+        }
+    }
+}
+
+// The bits of M_VOLTAGE 4 and NID_CTRACTION 10.
+const WIRE: usize = 14;
+
+// The same: where their bits are all there, they are read at once.
+fn wire(s: &[u8], stop: usize, at: usize, n: usize) -> Step
+    requires { ⌜ Standing (now s) stop at n ⌝ }
+    ensures { λ r. ⌜ Over segment.voltage (now (s .entry)) stop at n r ⌝ }
+{
+    if stop - at < WIRE {
+        return cut_wire(s, stop, at, n);
+    }
+    let t = bits::read_window(s, at, WIRE as u32);
+    let volts = counts::volts(t / 1024);
+    if volts == 0 {
+        return Step::Refused(OUT_OF_RANGE);
+    }
+    let traction = counts::traction(t / 1024, t % 1024);
+    if traction == 0 {
+        return Step::Refused(OUT_OF_RANGE);
+    }
+    Step::On(at + WIRE, n + volts as usize + traction as usize)
+}
+
+// ---- any of the three
+
+// What an element of a part begins with.
+pub fn element(part: Part, s: &[u8], stop: usize, at: usize, n: usize) -> Step
+    requires { ⌜ Standing (now s) stop at n ⌝ }
+    ensures { λ r. ⌜ Over (startOf part) (now (s .entry)) stop at n r ⌝ }
+{
+    match part {
+        Part::Speeds => profile(s, stop, at, n),
+        Part::Volts => wire(s, stop, at, n),
+        Part::Amperes => judge_field::current(s, stop, at, n),
+    }
+}

@@ -1,0 +1,27 @@
+-- The fields of a packet before its lists. What the code below a promise is held to; no promise names it.
+-- Assumes nothing.
+use mathlib.Core.List.{List}
+use Prim.Native.Nat.{ℕ, zero, suc, _+_, _≤_}
+use Rattle.kinds.specs.Kinds.{lSp}
+use Rattle.format.specs.Format.{Format, field}
+use Rattle.segment.specs.Parts.{runs}
+use Rattle.judge_field.specs.declared.Step.{Step}
+use Rattle.judge_field.specs.declared.Step.the-variants.{On, Refused}
+use Rattle.judge_field.specs.Judging.{Standing, Over}
+
+-- NID_OPERATIONAL to M_SP_Altitude, and what depends on L_SP
+abbrev pub headPart : (ℕ → Format) → Format
+headPart next = runs 0 9 (field lSp λ lsp. runs 10 3 (next lsp))
+
+-- the step over fields of r bytes that end at the bit to: "4" where there are none
+abbrev pub counted : ℕ → ℕ → ℕ → Step
+counted to n zero = Refused 4
+counted to n (suc r) = On to (n + suc r)
+
+-- r is the bytes of a part from the bit at to the bit to, and 0 where a field of it is refused, wherever the packet's fields end after it
+abbrev pub Counted : (Format → Format) → List ℕ → ℕ → ℕ → ℕ → Type 0
+Counted part s at to r = (stop n : ℕ) → Standing s stop at n → to ≤ stop → Over part s stop at n (counted to n r)
+
+-- the same of a part that is never refused
+abbrev pub Passed : (Format → Format) → List ℕ → ℕ → ℕ → ℕ → Type 0
+Passed part s at to r = (stop n : ℕ) → Standing s stop at n → to ≤ stop → Over part s stop at n (On to (n + r))

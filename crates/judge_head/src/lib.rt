@@ -1,0 +1,203 @@
+// The fields of a packet before its lists judged, with the bytes of their sheet counted. Nothing is written.
+ghost use mathlib.Core.Path.{_≡_};
+ghost use Prim.Native.Nat.{_-_, _≤_, _<_};
+ghost use lib.ListN.{length};
+ghost use Rattle.kinds.specs.Rules.{meaning};
+ghost use Rattle.segment.specs.Parts.{kindAt, runs};
+ghost use Rattle.judge_field.specs.Judging.{Standing, Over, Gave};
+ghost use Rattle.judge_head.specs.Head.{headPart, Counted, Passed};
+use judge_field::Next;
+use judge_field::Step;
+use kinds::OUT_OF_RANGE;
+use kinds::Rule;
+use kinds::body;
+use kinds::header;
+
+// ---- field by field
+
+// The rules of the thirteen fields, by their number.
+fn rule_of(i: u32) -> Rule
+    requires { ⌜ i < 13 ⌝ }
+    ensures { λ r. ⌜ meaning r ≡ kindAt i ⌝ }
+{
+    match i {
+        0 => header::NidOperational::rule(),
+        1 => header::NidEngine::rule(),
+        2 => header::TTimestampDate::rule(),
+        3 => header::TTimestampSeconds::rule(),
+        4 => header::NPacketCounter::rule(),
+        5 => body::NidC::rule(),
+        6 => body::NidSp::rule(),
+        7 => body::MSpVersion::rule(),
+        8 => body::MSpVersion::rule(),
+        9 => body::LSp::rule(),
+        10 => body::DEoAOffset::rule(),
+        11 => body::QUtcOffset::rule(),
+        _ => body::MSpAltitude::rule(),
+    }
+}
+
+// The fields from first up to end, on whose values nothing depends.
+fn run(s: &[u8], stop: usize, at: usize, n: usize, first: u32, end: u32) -> Step
+    requires { ⌜ Standing (now s) stop at n × (first ≤ end) × (end ≤ 13) ⌝ }
+    ensures { λ r. ⌜ Over (runs first (end - first)) (now (s .entry)) stop at n r ⌝ }
+{
+    let mut to = at;
+    let mut m = n;
+    let mut i = first;
+    while i < end {
+        match judge_field::plain(s, stop, to, m, rule_of(i)) {
+            Step::Refused(r) => {
+                return Step::Refused(r);
+            }
+            Step::On(a, b) => {
+                to = a;
+                m = b;
+                i += 1;
+            }
+        }
+    }
+    Step::On(to, m)
+}
+
+// The thirteen fields, with the value of L_SP.
+fn cut_head(s: &[u8], stop: usize) -> Next
+    requires { ⌜ Standing (now s) stop 24 1 ⌝ }
+    ensures { λ r. ⌜ Gave headPart (now (s .entry)) stop 24 1 r ⌝ }
+{
+    match run(s, stop, frame::FIRST_FIELD, 1, 0, 9) {
+        Step::Refused(r) => Next::Refused(r),
+        Step::On(at2, n2) => match judge_field::field(s, stop, at2, n2, body::LSp::rule()) {
+            Next::Refused(r) => Next::Refused(r),
+            Next::Is(lsp, at3, n3) => match run(s, stop, at3, n3, 10, 13) {
+                Step::Refused(r) => Next::Refused(r),
+                Step::On(at4, n4) => Next::Is(lsp, at4, n4),
+            },
+        },
+    }
+}
+
+// ---- where the bits are all there: each field at its place, counted from the packet's start
+
+const OPERATIONAL: usize = frame::FIRST_FIELD;
+
+const ENGINE: usize = OPERATIONAL + header::NidOperational::WIDTH as usize;
+
+const DATE: usize = ENGINE + header::NidEngine::WIDTH as usize;
+
+const SECONDS: usize = DATE + header::TTimestampDate::WIDTH as usize;
+
+const COUNTER: usize = SECONDS + header::TTimestampSeconds::WIDTH as usize;
+
+const COUNTRY: usize = COUNTER + header::NPacketCounter::WIDTH as usize;
+
+const IDENTITY: usize = COUNTRY + body::NidC::WIDTH as usize;
+
+const MAJOR: usize = IDENTITY + body::NidSp::WIDTH as usize;
+
+const MINOR: usize = MAJOR + body::MSpVersion::WIDTH as usize;
+
+const LENGTH: usize = MINOR + body::MSpVersion::WIDTH as usize;
+
+const OFFSET: usize = LENGTH + body::LSp::WIDTH as usize;
+
+const CLOCK: usize = OFFSET + body::DEoAOffset::WIDTH as usize;
+
+const ALTITUDE: usize = CLOCK + body::QUtcOffset::WIDTH as usize;
+
+const END: usize = ALTITUDE + body::MSpAltitude::WIDTH as usize;
+
+// The bytes of a packet in which eight bytes begin with each field's first: a whole packet has no fewer.
+const LONG: usize = ALTITUDE / 8 + 9;
+
+// The header: NID_OPERATIONAL and the seconds can be refused.
+fn header_bytes(s: &[u8]) -> usize
+    requires { ⌜ 38 ≤ length (now s) ⌝ }
+    ensures { λ r. ⌜ Counted (runs 0 5) (now (s .entry)) 24 120 r ⌝ }
+{
+    let operational = counts::operational(bits::read_window(
+        s,
+        OPERATIONAL,
+        header::NidOperational::WIDTH,
+    ));
+    if operational == 0 {
+        return 0;
+    }
+    let seconds = counts::within(
+        0,
+        header::TTimestampSeconds::LARGEST,
+        bits::read_window(s, SECONDS, header::TTimestampSeconds::WIDTH),
+    );
+    if seconds == 0 {
+        return 0;
+    }
+    let engine = numbers::groups(bits::read_window(s, ENGINE, header::NidEngine::WIDTH));
+    let date = numbers::groups(bits::read_window(s, DATE, header::TTimestampDate::WIDTH));
+    let counter = counts::short(bits::read_window(s, COUNTER, header::NPacketCounter::WIDTH));
+    operational as usize + engine as usize + date as usize + seconds as usize + counter as usize
+}
+
+// NID_C, NID_SP and the two versions: none can be refused.
+fn identity_bytes(s: &[u8]) -> usize
+    requires { ⌜ 38 ≤ length (now s) ⌝ }
+    ensures { λ r. ⌜ Passed (runs 5 4) (now (s .entry)) 120 178 r ⌝ }
+{
+    let country = counts::short(bits::read_window(s, COUNTRY, body::NidC::WIDTH));
+    let identity = numbers::groups(bits::read_window(s, IDENTITY, body::NidSp::WIDTH));
+    let major = counts::short(bits::read_window(s, MAJOR, body::MSpVersion::WIDTH));
+    let minor = counts::short(bits::read_window(s, MINOR, body::MSpVersion::WIDTH));
+    country as usize + identity as usize + major as usize + minor as usize
+}
+
+// The fields between L_SP and the lists: Q_UTC_Offset can be refused.
+fn offset_bytes(s: &[u8]) -> usize
+    requires { ⌜ 38 ≤ length (now s) ⌝ }
+    ensures { λ r. ⌜ Counted (runs 10 3) (now (s .entry)) 202 253 r ⌝ }
+{
+    let clock = counts::one(
+        body::QUtcOffset::LARGEST,
+        bits::read_window(s, CLOCK, body::QUtcOffset::WIDTH),
+    );
+    if clock == 0 {
+        return 0;
+    }
+    let offset = numbers::groups(bits::read_window(s, OFFSET, body::DEoAOffset::WIDTH));
+    let altitude = numbers::groups(bits::read_window(s, ALTITUDE, body::MSpAltitude::WIDTH));
+    offset as usize + clock as usize + altitude as usize
+}
+
+// The same as `cut_head`.
+fn whole_head(s: &[u8], stop: usize) -> Next
+    requires { ⌜ Standing (now s) stop 24 1 × (38 ≤ length (now s)) × (253 ≤ stop) ⌝ }
+    ensures { λ r. ⌜ Gave headPart (now (s .entry)) stop 24 1 r ⌝ }
+{
+    let header = header_bytes(s);
+    if header == 0 {
+        return Next::Refused(OUT_OF_RANGE);
+    }
+    let lsp = bits::read_window(s, LENGTH, body::LSp::WIDTH);
+    if lsp == 0 {
+        return Next::Refused(OUT_OF_RANGE);
+    }
+    let offsets = offset_bytes(s);
+    if offsets == 0 {
+        return Next::Refused(OUT_OF_RANGE);
+    }
+    let identity = identity_bytes(s);
+    let length = numbers::groups(lsp);
+    Next::Is(lsp, END, 1 + header + identity + length as usize + offsets)
+}
+
+// The thirteen fields, with the value of L_SP.
+pub fn head(s: &[u8], stop: usize) -> Next
+    requires { ⌜ Standing (now s) stop 24 1 ⌝ }
+    ensures { λ r. ⌜ Gave headPart (now (s .entry)) stop 24 1 r ⌝ }
+{
+    if s.len() < LONG {
+        return cut_head(s, stop);
+    }
+    if stop < END {
+        return cut_head(s, stop);
+    }
+    whole_head(s, stop)
+}

@@ -1,0 +1,120 @@
+// A packet judged part by part, with the bytes of its sheet counted. Nothing is written.
+ghost use mathlib.Core.Path.{_≡_};
+ghost use Prim.Native.Nat.{_≤_, _<_};
+ghost use lib.ListN.{length};
+ghost use Rattle.format.specs.Places.{Placed};
+ghost use Rattle.segment.specs.Segment as segment;
+ghost use Rattle.segment.specs.Parts.{startOf, threeLists};
+ghost use Rattle.judge.specs.Verdict.{fieldsVerdict, packetVerdict};
+ghost use Rattle.judge_field.specs.Judging.{Standing, Over};
+ghost use Rattle.judge_packet.specs.Whole.{wholePart};
+use frame::Frame;
+use judge::Verdict;
+use judge_field::Next;
+use judge_field::Step;
+use kinds::body;
+use segment::Part;
+
+// The changes of a part: each a location that rises, and an element.
+fn changes(part: Part, s: &[u8], stop: usize, at: usize, n: usize, lsp: u32, count: u32) -> Step
+    requires { ⌜ Standing (now s) stop at n ⌝ }
+    ensures { λ r. ⌜ Over (segment.changes (startOf part) lsp 0 count) (now (s .entry)) stop at n r ⌝ }
+{
+    let mut to = at;
+    let mut m = n;
+    let mut last: u32 = 0;
+    let mut left = count;
+    while 0 < left {
+        match judge_field::location(s, stop, to, m, last, lsp) {
+            Next::Refused(r) => {
+                return Step::Refused(r);
+            }
+            Next::Is(x, at2, n2) => match judge_element::element(part, s, stop, at2, n2) {
+                Step::Refused(r) => {
+                    return Step::Refused(r);
+                }
+                Step::On(at3, n3) => {
+                    to = at3;
+                    m = n3;
+                    last = x;
+                    left -= 1;
+                }
+            },
+        }
+    }
+    Step::On(to, m)
+}
+
+// A part: its first element, the count of its changes, and the changes.
+fn list(part: Part, s: &[u8], stop: usize, at: usize, n: usize, lsp: u32, limit: u32) -> Step
+    requires { ⌜ Standing (now s) stop at n × (limit < 128) ⌝ }
+    ensures { λ r. ⌜ Over (segment.part (startOf part) limit lsp) (now (s .entry)) stop at n r ⌝ }
+{
+    match judge_element::element(part, s, stop, at, n) {
+        Step::Refused(r) => Step::Refused(r),
+        Step::On(at2, n2) => match judge_field::count(s, stop, at2, n2, limit) {
+            Next::Refused(r) => Step::Refused(r),
+            Next::Is(count, at3, n3) => changes(part, s, stop, at3, n3, lsp, count),
+        },
+    }
+}
+
+// The three parts that have changes.
+fn lists(s: &[u8], stop: usize, at: usize, n: usize, lsp: u32) -> Step
+    requires { ⌜ Standing (now s) stop at n ⌝ }
+    ensures { λ r. ⌜ Over (threeLists lsp) (now (s .entry)) stop at n r ⌝ }
+{
+    match list(Part::Speeds, s, stop, at, n, lsp, body::NIter::LARGEST) {
+        Step::Refused(r) => Step::Refused(r),
+        Step::On(at2, n2) => match list(Part::Volts, s, stop, at2, n2, lsp, segment::WIRE_CHANGES) {
+            Step::Refused(r) => Step::Refused(r),
+            Step::On(at3, n3) => list(Part::Amperes, s, stop, at3, n3, lsp, segment::WIRE_CHANGES),
+        },
+    }
+}
+
+// Every field of a packet.
+fn segment(s: &[u8], stop: usize) -> Step
+    requires { ⌜ Standing (now s) stop 24 1 ⌝ }
+    ensures { λ r. ⌜ Over wholePart (now (s .entry)) stop 24 1 r ⌝ }
+{
+    match judge_head::head(s, stop) {
+        Next::Refused(r) => Step::Refused(r),
+        Next::Is(lsp, at, n) => lists(s, stop, at, n, lsp),
+    }
+}
+
+// The verdict on the fields of a packet, which end at the bit stop, with the bytes of its sheet.
+fn packet_fields(s: &[u8], stop: usize) -> Verdict
+    requires { ⌜ Placed (now s) 24 stop × (8 ≤ length (now s)) ⌝ }
+    ensures { λ r. ⌜ r ≡ fieldsVerdict (now (s .entry)) stop ⌝ }
+{
+    match segment(s, stop) {
+        Step::Refused(r) => Verdict::Refused(r),
+        Step::On(at, n) => {
+            if at == stop {
+                return Verdict::Accepted(n);
+            }
+            Verdict::Refused(judge::UNFIT)
+        }
+    }
+}
+
+// The verdict on a packet, with the bytes of its sheet.
+pub fn judge_packet(s: &[u8]) -> Verdict
+    ensures { λ r. ⌜ r ≡ packetVerdict (now (s .entry)) ⌝ }
+{
+    match frame::framed(s) {
+        Frame::Refused(r) => Verdict::Refused(r),
+        Frame::End(stop) => match packet_fields(s, stop) {
+            Verdict::Refused(r) => Verdict::Refused(r),
+            Verdict::Accepted(n) => {
+                if frame::zero_from(s, stop) {
+                    Verdict::Accepted(n)
+                } else {
+                    Verdict::Refused(frame::PADDING)
+                }
+            }
+        },
+    }
+}

@@ -1,4 +1,0 @@
-pub mod Taking
-pub mod Sources
-pub mod Loops
-pub mod Writing

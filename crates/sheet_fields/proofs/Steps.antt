@@ -1,0 +1,126 @@
+-- A field judged at a place of a sheet, from the number that is read there.
+-- Assumes nothing.
+use mathlib.Core.Path.{_≡_, refl, sym, ap}
+use mathlib.Core.Bool.{true, false}
+use mathlib.Core.List.{List, [], _∷_}
+use mathlib.Core.Option.{Option, none, some}
+use Prim.Native.Nat.{ℕ, zero, suc, _+_, _/_, _%_, _^_, _≤_, _<_}
+use native.Mathlib.Omega.{arith}
+use borrow.Author.Tests.{le-leb, lt-leb, lt-ltb, le-ltb}
+use lib.Dec.{leb}
+use lib.ListN.{length, drop, length-drop, length-append}
+use Rattle.bits.specs.Bits.{Bytes, bitsOf}
+use Rattle.bits.proofs.Spelling.{length-bits}
+use Rattle.bits.proofs.Tests.{by-cases}
+use Rattle.numbers.specs.Numbers.{numberIn, counted}
+use Rattle.numbers.proofs.Reading.{counted-value, counted-none, number-only}
+use Rattle.kinds.specs.declared.Item.{Item}
+use Rattle.kinds.specs.Kind.{Kind, range}
+use Rattle.kinds.specs.Kinds.{digits, nidOperational, class, dLocation}
+use Rattle.fields.proofs.Lawful.{LawfulKind}
+use Rattle.lowering.specs.Lowered.{valueOr, lowered}
+use Rattle.lowering.proofs.Lowering.{lowered-none}
+use Rattle.format.specs.Format.{then}
+use Rattle.format.specs.Places.{Taken, numberTaken}
+use Rattle.format.proofs.Places.{number-found, number-none}
+use Rattle.format.proofs.Passing.{sheet-seen}
+use Rattle.format.proofs.Ways.{value-on, value-off, over-none, took-is, took-off}
+use Rattle.sheet_fields.specs.declared.Step.the-variants.{On, Refused}
+use Rattle.sheet_fields.specs.declared.Next.the-variants as Next
+use Rattle.sheet_fields.specs.Judging.{judging, Standing, Over, Took}
+
+lowered-some : (k : Kind) (a v : ℕ) → v ≡ lowered k a → (v ≡ 2 ^ k .width → ⊥) → k .lower a ≡ some v
+lowered-some k a v l o = go (k .lower a) l
+  where
+    go : (r : Option ℕ) → v ≡ valueOr (2 ^ k .width) r → r ≡ some v
+    go none e = absurd (o e)
+    go (some u) e = ap (λ (m : ℕ). some m) (sym e)
+
+-- what is left of a list of bytes is bytes
+bytes-drop : (s : List ℕ) (at : ℕ) → Bytes s → Bytes (drop at s)
+bytes-drop s zero h = h
+bytes-drop [] (suc at) h = h
+bytes-drop (b ∷ s) (suc at) h = bytes-drop s at (h .1)
+
+module _ (s : List ℕ) {at : ℕ} (h : Standing s at) {x : ℕ} (e : x ≡ counted (numberIn (drop at s))) where
+  -- the groups of a number that is read lie in the sheet
+  groups-inside : (x ≡ 0 → ⊥) → at + x / 4294967296 ≤ length s
+  groups-inside z =
+      let c = counted-value (drop at s) x e z in
+      let l = ap length (number-only (drop at s) (x % 4294967296) (bytes-drop s at (h .bytes)) (c .value) .bytes) in
+      omega (arith, c .groups, h .inside, length-drop at s, simp length-append at l)
+
+  module _ (k : Kind) (n : ℕ) where
+    -- no number
+    pub took-bad : x ≡ 0 → Took k s at n (Next.Refused 9)
+    took-bad z = took-off (sheet-seen s) judging (λ at n. Standing s at) k tt (number-none k s at (counted-none (drop at s) x e z))
+
+    module _ (z : x ≡ 0 → ⊥) {a : ℕ} (y : a ≡ x % 4294967296) where
+      -- a number that is none of the kind's
+      pub took-out : k .lower a ≡ none → Took k s at n (Next.Refused (k .refusal))
+      took-out o =
+          let o′ : k .lower (x % 4294967296) ≡ none = rw y at o in
+          took-off (sheet-seen s) judging (λ at n. Standing s at) k tt (rw o′ at (number-found k s at (counted-value (drop at s) x e z .value)))
+
+      -- one of the kind's
+      pub took-in : {v to m : ℕ} → k .lower a ≡ some v → to ≡ at + x / 4294967296 → m ≡ (n + k .width) % 2 ^ 32 → Took k s at n (Next.Is v to m)
+      took-in {v} o p q =
+          let c = counted-value (drop at s) x e z in
+          let o′ : k .lower (x % 4294967296) ≡ some v = rw y at o in
+          let i : Item = record { sheet = x % 4294967296; packet = v } in
+          let f : Taken.Is i (at + x / 4294967296) ≡ numberTaken k s at = rw (o′, c .groups) at (number-found k s at (c .value)) in
+          let t : Took k s at n (Next.Is v (at + x / 4294967296) ((n + length (bitsOf (k .width) v)) % 2 ^ 32)) =
+          took-is (sheet-seen s) judging (λ at n. Standing s at) k tt f (record { bytes = h .bytes; inside = groups-inside z }) in
+          rw (p, q) (rw (length-bits (k .width) v) at t)
+
+      -- the same from the one number that lowering makes
+      module _ {v : ℕ} (l : v ≡ lowered k a) where
+        pub low-out : LawfulKind k → v ≡ 2 ^ k .width → Took k s at n (Next.Refused (k .refusal))
+        low-out w o = took-out (lowered-none k a v w l (omega arith))
+
+        pub low-in : {to m : ℕ} → (v ≡ 2 ^ k .width → ⊥) → to ≡ at + x / 4294967296 → m ≡ (n + k .width) % 2 ^ 32 → Took k s at n (Next.Is v to m)
+        low-in o p q = took-in (lowered-some k a v l o) p q
+
+-- a field on whose value nothing depends
+module _ (s : List ℕ) {k : Kind} {at n : ℕ} where
+  pub plain-off : {r : ℕ} → Took k s at n (Next.Refused r) → Over (then k) s at n (Refused r)
+  plain-off t = value-off (λ v f. f) t
+
+  pub plain-on : {v to m : ℕ} → Took k s at n (Next.Is v to m) → Over (then k) s at n (On to m)
+  plain-on t = value-on (λ v f. f) t (over-none (t .stands))
+
+-- ---- ranges, and locations
+
+module _ (width least largest refusal v : ℕ) where
+  pub range-low : v < least → range width least largest refusal .lower v ≡ none
+  range-low h = rw (lt-leb least v h)
+
+  pub range-high : largest < v → range width least largest refusal .lower v ≡ none
+  range-high h = by-cases (leb least v) (λ d. rw (d, lt-leb v largest h)) (λ d. rw d)
+
+  pub range-in : least ≤ v → v ≤ largest → range width least largest refusal .lower v ≡ some v
+  range-in h l = rw (le-leb least v h, le-leb v largest l)
+
+module _ (last lsp v : ℕ) where
+  pub location-low : v ≤ last → dLocation last lsp .lower v ≡ none
+  location-low h = rw (le-ltb last v h)
+
+  pub location-high : last < v → lsp ≤ v → dLocation last lsp .lower v ≡ none
+  location-high h l = rw (lt-ltb last v h, le-ltb v lsp l)
+
+  pub location-in : last < v → v < lsp → dLocation last lsp .lower v ≡ some v
+  location-in h l = rw (lt-ltb last v h, lt-ltb v lsp l)
+
+-- ---- classes
+
+pub class-refusal : (q : ℕ) → class q .refusal ≡ 4
+class-refusal zero = refl
+class-refusal (suc q) = refl
+
+-- ---- the digits of NID_OPERATIONAL
+
+pub operational-in : (a : ℕ) → digits 8 a ≡ true → nidOperational .lower a ≡ some a
+operational-in a e = rw e
+
+pub operational-out : (a : ℕ) → digits 8 a ≡ false → nidOperational .lower a ≡ none
+operational-out a e = rw e

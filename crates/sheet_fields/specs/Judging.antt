@@ -1,0 +1,48 @@
+-- A part of the tree judged at a place of a sheet, with the bits of its packet counted. What the code below a promise is held to; no promise names it.
+-- Assumes nothing.
+use mathlib.Core.List.{List}
+use Prim.Native.Nat.{ℕ, _^_, _≤_}
+use lib.ListN.{length, drop}
+use Rattle.bits.specs.Bits.{Bytes}
+use Rattle.kinds.specs.Kind.{Kind}
+use Rattle.format.specs.Format.{Format}
+use Rattle.format.specs.Media.{packet, sheet}
+use Rattle.format.specs.Pass.{Task}
+use Rattle.format.specs.Tasks.{countingWithin}
+use Rattle.format.specs.Ways as ways
+use Rattle.format.specs.Ways.{Way, passing, Went, Got}
+use Rattle.judge.specs.declared.Verdict.{Verdict}
+use Rattle.judge.specs.declared.Verdict.the-variants as Verdict
+use Rattle.sheet_fields.specs.declared.Step.{Step}
+use Rattle.sheet_fields.specs.declared.Step.the-variants.{On, Refused}
+use Rattle.sheet_fields.specs.declared.Next.{Next}
+use Rattle.sheet_fields.specs.declared.Next.the-variants as Next
+
+-- the packet's bits are counted round 2 to the 32: a sheet's length bounds no count, and an accepted sheet's count is far below
+abbrev pub judging : Task ℕ Verdict
+judging = countingWithin (2 ^ 32) packet Verdict.Accepted Verdict.Refused
+
+-- a place in a sheet
+pub record Standing (s : List ℕ) (at : ℕ) : Type 0 where
+  pub bytes : Bytes s
+  pub inside : at ≤ length s
+
+-- judging as a pass seen at places, and the answers of its functions
+abbrev pub judge : List ℕ → Way ℕ Verdict
+judge s = passing sheet judging (λ at. drop at s) (λ at n. Standing s at)
+
+abbrev pub went : Step → Went ℕ
+went (On at n) = Went.on at n
+went (Refused r) = Went.off r
+
+abbrev pub got : Next → Got ℕ
+got (Next.Is v at n) = Got.is v at n
+got (Next.Refused r) = Got.off r
+
+-- A step over a part of the tree: whatever follows the part, the verdict is the verdict from the step on.
+abbrev pub Over : (Format → Format) → List ℕ → ℕ → ℕ → Step → Type 0
+Over part s at n r = ways.Over (judge s) part at n (went r)
+
+-- the same of one field, on whose value what follows may depend
+abbrev pub Took : Kind → List ℕ → ℕ → ℕ → Next → Type 0
+Took k s at n r = ways.Took (judge s) k at n (got r)

@@ -1,0 +1,181 @@
+// A field of a sheet judged at its byte, with the bits of its packet counted.
+ghost use mathlib.Core.Path.{_≡_};
+ghost use Prim.Native.Nat.{_+_, _/_, _%_, _^_, _<_};
+ghost use Rattle.kinds.specs.Kind.{range};
+ghost use Rattle.kinds.specs.Kinds as kind;
+ghost use Rattle.kinds.specs.Tables.{cantFigures};
+ghost use Rattle.format.specs.Format.{then};
+ghost use Rattle.sheet_fields.specs.Judging.{Standing, Took, Over};
+use kinds::LOCATION;
+use kinds::OUT_OF_RANGE;
+use kinds::body;
+use kinds::header;
+
+// The place after a part with the bits counted so far, round 2 to the 32, or a refusal.
+pub enum Step {
+    On(usize, u32),
+    Refused(u32),
+}
+
+// The same after a field, with its value.
+pub enum Next {
+    Is(u32, usize, u32),
+    Refused(u32),
+}
+
+// The number that counted_at read.
+fn value(a: u64) -> u32
+    ensures { λ r. ⌜ r ≡ a % 4294967296 ⌝ }
+{
+    (a % 4294967296) as u32
+}
+
+// The place after it.
+fn after(at: usize, a: u64) -> usize
+    requires { ⌜ at + a / 4294967296 < 2 ^ 64 ⌝ }
+    ensures { λ r. ⌜ r ≡ at + a / 4294967296 ⌝ }
+{
+    at + (a / 4294967296) as usize
+}
+
+// A field from least to largest at the byte at, n bits counted before it.
+pub fn ranged(
+    s: &[u8],
+    at: usize,
+    n: u32,
+    width: u32,
+    least: u32,
+    largest: u32,
+    refusal: u32,
+) -> Next
+    requires { ⌜ Standing (now s) at ⌝ }
+    ensures { λ r. ⌜ Took (range width least largest refusal) (now (s .entry)) at n r ⌝ }
+{
+    let found = numbers::counted_at(s, at);
+    if found == 0 {
+        return Next::Refused(judge::NO_NUMBER);
+    }
+    let v = value(found);
+    if v < least {
+        return Next::Refused(refusal);
+    }
+    if largest < v {
+        return Next::Refused(refusal);
+    }
+    Next::Is(v, after(at, found), std::num::wrapping_add_u32(n, width))
+}
+
+// A change's location, after the last one and before the segment's end.
+pub fn location(s: &[u8], at: usize, n: u32, last: u32, lsp: u32) -> Next
+    requires { ⌜ Standing (now s) at ⌝ }
+    ensures { λ r. ⌜ Took (kind.dLocation last lsp) (now (s .entry)) at n r ⌝ }
+{
+    let a = numbers::counted_at(s, at);
+    if a == 0 {
+        return Next::Refused(judge::NO_NUMBER);
+    }
+    let v = value(a);
+    if v <= last {
+        return Next::Refused(LOCATION);
+    }
+    if lsp <= v {
+        return Next::Refused(LOCATION);
+    }
+    Next::Is(
+        v,
+        after(at, a),
+        std::num::wrapping_add_u32(n, body::DLocation::WIDTH),
+    )
+}
+
+// NID_OPERATIONAL, digit by digit.
+pub fn operational(s: &[u8], at: usize, n: u32) -> Step
+    requires { ⌜ Standing (now s) at ⌝ }
+    ensures { λ r. ⌜ Over (then kind.nidOperational) (now (s .entry)) at n r ⌝ }
+{
+    let a = numbers::counted_at(s, at);
+    if a == 0 {
+        return Step::Refused(judge::NO_NUMBER);
+    }
+    if counts::digits_good(value(a)) {
+        return Step::On(
+            after(at, a),
+            std::num::wrapping_add_u32(n, header::NidOperational::WIDTH),
+        );
+    }
+    Step::Refused(OUT_OF_RANGE)
+}
+
+// V_STATIC or V_DIFF.
+pub fn speed(s: &[u8], at: usize, n: u32) -> Step
+    requires { ⌜ Standing (now s) at ⌝ }
+    ensures { λ r. ⌜ Over (then kind.speed) (now (s .entry)) at n r ⌝ }
+{
+    let a = numbers::counted_at(s, at);
+    if a == 0 {
+        return Step::Refused(judge::NO_NUMBER);
+    }
+    if lowering::speed_steps(value(a)) == lowering::NO_SPEED {
+        return Step::Refused(OUT_OF_RANGE);
+    }
+    Step::On(
+        after(at, a),
+        std::num::wrapping_add_u32(n, body::VStatic::WIDTH),
+    )
+}
+
+// The class of an entry, by its Q_DIFF.
+pub fn class(s: &[u8], figures: &[u32; 11], at: usize, n: u32, q: u32) -> Step
+    requires { ⌜ Standing (now s) at × (now figures ≡ cantFigures) ⌝ }
+    ensures { λ r. ⌜ Over (then (kind.class q)) (now (s .entry)) at n r ⌝ }
+{
+    let a = numbers::counted_at(s, at);
+    if a == 0 {
+        return Step::Refused(judge::NO_NUMBER);
+    }
+    if lowering::class_place(figures, q, value(a)) == lowering::NO_CLASS {
+        return Step::Refused(OUT_OF_RANGE);
+    }
+    Step::On(
+        after(at, a),
+        std::num::wrapping_add_u32(n, body::NcDiff::WIDTH),
+    )
+}
+
+// M_VOLTAGE, on which NID_CTRACTION depends.
+pub fn voltage(s: &[u8], at: usize, n: u32) -> Next
+    requires { ⌜ Standing (now s) at ⌝ }
+    ensures { λ r. ⌜ Took kind.mVoltage (now (s .entry)) at n r ⌝ }
+{
+    let a = numbers::counted_at(s, at);
+    if a == 0 {
+        return Next::Refused(judge::NO_NUMBER);
+    }
+    let v = lowering::volts_place(value(a));
+    if v == lowering::NO_VOLTAGE {
+        return Next::Refused(OUT_OF_RANGE);
+    }
+    Next::Is(
+        v,
+        after(at, a),
+        std::num::wrapping_add_u32(n, body::MVoltage::WIDTH),
+    )
+}
+
+// M_CURRENT.
+pub fn current(s: &[u8], at: usize, n: u32) -> Step
+    requires { ⌜ Standing (now s) at ⌝ }
+    ensures { λ r. ⌜ Over (then kind.mCurrent) (now (s .entry)) at n r ⌝ }
+{
+    let a = numbers::counted_at(s, at);
+    if a == 0 {
+        return Step::Refused(judge::NO_NUMBER);
+    }
+    if lowering::current_steps(value(a)) == lowering::NO_CURRENT {
+        return Step::Refused(OUT_OF_RANGE);
+    }
+    Step::On(
+        after(at, a),
+        std::num::wrapping_add_u32(n, body::MCurrent::WIDTH),
+    )
+}
