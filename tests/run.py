@@ -95,6 +95,19 @@ def promises():
                 yield f"{page.relative_to(ROOT)}: {name} is not in {file}"
 
 
+def listed():
+    """Every must-fail edit is listed on the contracts' page, and every edit listed there stands in a crate."""
+    page = (ROOT / "docs" / "CONTRACTS.md").read_text()
+    labels = {path.stem for path in (ROOT / "crates").glob("*/must-fail/*.edit")}
+    for label in sorted(labels):
+        if f"`{label}`" not in page:
+            yield f"docs/CONTRACTS.md does not list {label}"
+    for row in re.findall(r"^\|.*\|.*\|(.*)\|$", page, re.M):
+        for label in re.findall(r"`(\w+)`", row):
+            if label not in labels and label not in CRATES:
+                yield f"docs/CONTRACTS.md lists {label}, which no crate tries"
+
+
 def used(name, text):
     """Whether a name that a file imports, an operator's by its sign, stands in its text."""
     name = name.split(" as ")[-1].strip()
@@ -117,7 +130,7 @@ def imports():
 
 def main():
     passed = failed = 0
-    for test in (contracts, headed, imports, no_axioms, quick, edits, promises):
+    for test in (contracts, headed, imports, no_axioms, quick, edits, listed, promises):
         faults = list(test())
         print(f"{'FAILED' if faults else 'ok'}: {test.__doc__.splitlines()[0]}")
         for fault in faults:

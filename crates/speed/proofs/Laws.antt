@@ -4,7 +4,8 @@ use mathlib.Core.Path.{_≡_, refl, sym, ap, _∙_}
 use mathlib.Core.Bool.{Bool, true, false, _&&_}
 use mathlib.Core.List.{List, [], _∷_, map}
 use mathlib.Core.Option.{Option, none, some}
-use Prim.Native.Nat.{ℕ, zero, suc, _+_, _≤_, _<_, min}
+use Prim.Native.Nat.{ℕ, zero, suc, _+_, _*_, _/_, _%_, _^_, _≤_, _<_, min}
+use mir.Val.{boolByte}
 use native.Mathlib.Omega.{arith}
 use borrow.Author.Tests.{le-leb, lt-leb, lt-ltb, ltb-false, ltb-true}
 use lib.Dec.{eqb, ltb, leb}
@@ -78,10 +79,29 @@ lowered-permitted t lsp x l = ap (instead 0) (lowered-held t lsp x l) ∙ lowere
 
 -- ---- what the code asks of a train
 
-pub belongs-last : (t : Train) (c : ℕ) → (c ≡ 0 → ⊥) → (c ≡ 1 → ⊥) → t .passenger ≡ belongs t c
-belongs-last t zero a b = absurd (a refl)
-belongs-last t (suc zero) a b = absurd (b refl)
-belongs-last t (suc (suc c)) a b = refl
+-- the train's categories, a bit each
+abbrev pub categories : Train → ℕ
+categories t = boolByte (t .«freight_p») + 2 * boolByte (t .«freight_g») + 4 * boolByte (t .passenger)
+
+pub byte-most : (b : Bool) → boolByte b ≤ 1
+byte-most true = omega arith
+byte-most false = omega arith
+
+pub categories-bits : (p g q : Bool) → let n : ℕ = boolByte p + 2 * boolByte g + 4 * boolByte q in
+    (eqb (n / 1 % 2) 1 ≡ p) × (eqb (n / 2 % 2) 1 ≡ g) × (eqb (n / 4 % 2) 1 ≡ q)
+categories-bits true true true = (refl, refl, refl)
+categories-bits true true false = (refl, refl, refl)
+categories-bits true false true = (refl, refl, refl)
+categories-bits true false false = (refl, refl, refl)
+categories-bits false true true = (refl, refl, refl)
+categories-bits false true false = (refl, refl, refl)
+categories-bits false false true = (refl, refl, refl)
+categories-bits false false false = (refl, refl, refl)
+
+pub belongs-bit : (t : Train) (c m : ℕ) → m ≡ min c 2 → eqb (categories t / 2 ^ m % 2) 1 ≡ belongs t c
+belongs-bit t zero m e = let z : m ≡ 0 = omega arith in rw z (categories-bits (t .«freight_p») (t .«freight_g») (t .passenger) .0)
+belongs-bit t (suc zero) m e = let z : m ≡ 1 = omega arith in rw z (categories-bits (t .«freight_p») (t .«freight_g») (t .passenger) .1)
+belongs-bit t (suc (suc c)) m e = let z : m ≡ 2 = omega arith in rw z (categories-bits (t .«freight_p») (t .«freight_g») (t .passenger) .2)
 
 pub named-category : (t : Train) (q class : ℕ) → (q ≡ 0 → ⊥) → belongs t class ≡ named t q class
 named-category t zero class a = absurd (a refl)

@@ -37,7 +37,7 @@ count-most (also {i = i} g c) =
     omega (arith, g .raised)
 
 -- a field's value in front
-opened : {C : Type 0} {k : Kind} {next : ℕ → Format} {l : List Item} → Conforming InPacket (field k next) l
+pub opened : {C : Type 0} {k : Kind} {next : ℕ → Format} {l : List Item} → Conforming InPacket (field k next) l
     → ((i : Item) (t : List Item) → l ≡ i ∷ t → InPacket k i → Conforming InPacket (next (i .packet)) t → C) → C
 opened (also {i = i} {l = l} g c) f = f i l refl g c
 
@@ -64,7 +64,7 @@ few =
     past 6 λ v8 l8. past 5 λ v9 l9. past 4 λ v10 l10. past 3 λ v11 l11. past 2 λ v12 l12. past 1 λ v13 l13. past 0 λ v14 l14. profile-most _
 
 module _ (s : List ℕ) (l : List Item) (ok : Bytes s) (e : fromPacket wireChanges s ≡ accepted l) where
-  good : Conforming InPacket (sheetFields wireChanges) l
+  pub good : Conforming InPacket (sheetFields wireChanges) l
   unfolding fromPacket sheetFields
   good =
       let r = framed-only segmentNumber (fields wireChanges) s l ok e in

@@ -1,4 +1,4 @@
--- The desk case of the listing, and the lines of refusals.
+-- The samples of the listing, and the lines of refusals.
 -- Assumes nothing.
 use mathlib.Core.Path.{_≡_, refl}
 use mathlib.Core.List.{[]}
@@ -10,12 +10,17 @@ use Rattle.segment.specs.Judgement.{fromPacket}
 use Rattle.segment.specs.Desk.{firstPacket}
 use Rattle.words.specs.Words.{ascii, decimal}
 use Rattle.text.specs.Listing.{listingOf}
-use Rattle.text.specs.Desk.{firstListing}
+use Rattle.text.specs.Desk.{firstListing, namedPacket, namedListing}
 
 -- the document's packet gives the document's two lines
 pub desk-listing : listingOf firstPacket ≡ firstListing
 unfolding fieldAt digits entries changes lists body fields sheetFields fromPacket decimal listingOf
 desk-listing = refl
+
+-- each number is the number of its own field: the segment's all differ, and so do each element's from the next's
+pub desk-names : listingOf namedPacket ≡ namedListing
+unfolding fieldAt digits entries changes lists body fields sheetFields fromPacket decimal listingOf
+desk-names = refl
 
 -- "as "REFUSED n" is": the packet without its last byte, and the empty packet
 pub desk-refused : (listingOf (take 38 firstPacket) ≡ ascii "REFUSED 3\n") × (listingOf [] ≡ ascii "REFUSED 1\n")

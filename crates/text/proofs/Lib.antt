@@ -2,3 +2,4 @@ pub mod Accepted
 pub mod Whole
 pub mod Desk
 pub mod Longer
+pub mod Names

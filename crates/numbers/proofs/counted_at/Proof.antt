@@ -43,20 +43,16 @@ mul-result c = omega (arith, short-value (c .before .before .before .before .wid
 add-result : tie.Need-add-result
 add-result c = omega (arith, short-value (c .before .before .before .before .wide .result) (c .before .before .wide2 .result * (c .before .before .before .before .wide .result / 128)) (ltb-true _ 128 (c .if4 .taken)))
 
-cast-result : tie.Need-cast-result
-cast-result c = omega (arith, short-value (c .before .before .before .before .wide .result) (c .before .before .wide2 .result * (c .before .before .before .before .wide .result / 128)) (ltb-true _ 128 (c .if4 .taken)))
-
 add-result-2 : tie.Need-add-result-2
 add-result-2 c = search needs
 
-cast-result-2 : tie.Need-cast-result-2
-cast-result-2 c = search needs
-
 mul-result-2 : tie.Need-mul-result-2
-mul-result-2 c = search needs
+mul-result-2 c =
+    let a = c .before .before .before .before .before .before .before .before .before .args in
+    omega (arith, c .before .before .before .before .wide .ensures, c .before .before .before .before .before .shared-slice-known2 .given (a .at))
 
 add-result-3 : tie.Need-add-result-3
-add-result-3 c = omega (arith, short-value (c .before .before .before .before .wide .result) (c .before .before .wide2 .result * (c .before .before .before .before .wide .result / 128)) (ltb-true _ 128 (c .if4 .taken)))
+add-result-3 c = let a = c .before .before .before .before .before .before .before .before .before .args in omega (arith, c .before .before .before .before .wide .ensures, c .before .before .before .before .before .shared-slice-known2 .given (a .at), short-value (c .before .before .before .before .wide .result) (c .before .before .wide2 .result * (c .before .before .before .before .wide .result / 128)) (ltb-true _ 128 (c .if4 .taken)))
 
 returns-2 : tie.Need-returns-2
 returns-2 c =
@@ -65,20 +61,20 @@ returns-2 c =
     counted-short (now (a .s)) (a .at) (c .before .before .before .before .before .before .if2 .taken) (w .result) (w .result / 128) (c .before .before .wide2 .result * (c .before .before .before .before .wide .result / 128)) (w .ensures) (omega (arith, w .ensures, c .before .before .before .before .before .shared-slice-known2 .given (a .at)))
     refl (ap (λ (x : ℕ). x * (w .result / 128)) (c .before .before .wide2 .ensures)) (c .before .if3 .taken) (ltb-true _ 128 (c .if4 .taken))
 
-sub-counted-long : tie.Need-sub-counted-long
-sub-counted-long c = search needs
+sub-read-number : tie.Need-sub-read-number
+sub-read-number c = search needs
 
-part-counted-long-start : tie.Need-part-counted-long-start
-part-counted-long-start c = search needs
+part-read-number-start : tie.Need-part-read-number-start
+part-read-number-start c = search needs
 
-part-counted-long-end : tie.Need-part-counted-long-end
-part-counted-long-end c = search needs
+part-read-number-end : tie.Need-part-read-number-end
+part-read-number-end c = search needs
 
-counted-long-requires : tie.Need-counted-long-requires
-counted-long-requires c κs = search needs
+read-number-requires : tie.Need-read-number-requires
+read-number-requires c κs = search needs
 
 returns-3 : tie.Need-returns-3
-returns-3 c = let a = c .before .before .before .before .before .args in c .counted-long .ensures ∙ rw (whole-part (now (a .s)))
+returns-3 c = let a = c .before .before .before .before .before .args in c .read-number .ensures ∙ rw (whole-part (now (a .s)))
 
 pub counted-at-spec : {M : Type 1} → statement M
 counted-at-spec =
@@ -94,14 +90,12 @@ counted-at-spec =
     mul-high
     mul-result
     add-result
-    cast-result
     add-result-2
-    cast-result-2
     mul-result-2
     add-result-3
     returns-2
-    sub-counted-long
-    part-counted-long-start
-    part-counted-long-end
-    counted-long-requires
+    sub-read-number
+    part-read-number-start
+    part-read-number-end
+    read-number-requires
     returns-3)

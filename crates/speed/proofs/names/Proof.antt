@@ -1,18 +1,18 @@
 -- `speed::names` meets its contract.
-use Rattle.speed.proofs.Laws.{named-category}
 use mathlib.Core.Path.{_∙_}
 use borrow.Author.Needs.{needs}
+use Rattle.speed.proofs.Laws.{named-category}
 use Rattle.speed.proofs.names.Statement.{statement}
 use Rattle.speed.proofs.names.Tie as tie
-
-returns : tie.Need-returns
-returns c = let q = c .before .if1 .taken in rw q
 
 belongs-to-requires : tie.Need-belongs-to-requires
 belongs-to-requires c κs = search needs
 
+returns : tie.Need-returns
+returns c = let q = c .if1 .taken in rw q
+
 returns-2 : tie.Need-returns-2
-returns-2 c = let a = c .before .before .args in c .belongs-to .ensures ∙ named-category (a .train) (a .q-diff) (a .class) (c .before .if1 .left)
+returns-2 c = let a = c .before .before .before .args in c .before .belongs-to .ensures ∙ named-category (a .train) (a .q-diff) (a .class) (c .if1 .left)
 
 pub names-spec : {M : Type 1} → statement M
-names-spec = tie.close (tie.spec returns belongs-to-requires returns-2)
+names-spec = tie.close (tie.spec belongs-to-requires returns returns-2)
