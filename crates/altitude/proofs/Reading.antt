@@ -19,18 +19,19 @@ use Rattle.format.specs.Format.{accepted, refused, valuesOf}
 use Rattle.format.proofs.Media.{packet-only}
 use Rattle.segment.specs.Segment.{body, fields, sheetFields, wireChanges}
 use Rattle.segment.specs.Judgement.{fromPacket}
-use Rattle.format.specs.Places.{rest}
+use Rattle.format.specs.Places.{bitsBetween}
 use Rattle.format.proofs.Places.{rest-length}
 use Rattle.format.specs.Media.{sheet}
-use Rattle.judge.specs.declared.Verdict.the-variants.{Accepted, Refused}
+use Rattle.judge.specs.declared.PacketVerdict.the-variants.{SheetBytes, Refused}
 use Rattle.frame.specs.declared.Frame.{Frame}
 use Rattle.frame.specs.declared.Frame.the-variants as Frame
 use Rattle.judge.specs.Verdict.{sizeFrom, packetVerdict}
 use Rattle.frame.specs.Framed.{frameOf}
 use Rattle.frame.proofs.Framing.{whole}
+use Rattle.judge.proofs.Sizes.{packet-sorts}
 use Rattle.judge.proofs.Accepted.{verdict-accepted, verdict-refused, parts, accepted-frame}
 use Rattle.altitude.specs.declared.Altitude.{Altitude}
-use Rattle.altitude.specs.Altitude.{centimetres, altitudeField, answered, altitudeOf}
+use Rattle.altitude.specs.Altitude.{centimetres, altitudeField, altitudeOfRead, altitudeOf}
 use Rattle.altitude.proofs.Signs.{centimetres-fit}
 use Rattle.altitude.proofs.Standing.{Written, Stands, here, past}
 
@@ -48,7 +49,7 @@ module _ (s : List ℕ) where
     pub inside : 253 ≤ 8 * length s
     pub present : 13 < length (valuesOf (fromPacket wireChanges s))
 
-  field-bits : (stop : ℕ) → 253 ≤ stop → number (take 20 (drop 209 (rest s 24 stop))) ≡ fieldAt s 233 20
+  field-bits : (stop : ℕ) → 253 ≤ stop → number (take 20 (drop 209 (bitsBetween s 24 stop))) ≡ fieldAt s 233 20
   unfolding fieldAt
   field-bits stop h =
       rw (drop-take 209 (stop - 24) (drop 24 (bitsOfBytes s)), take-take 20 (stop - 24 - 209) (drop 209 (drop 24 (bitsOfBytes s))) (omega arith), drop-drop)
@@ -60,13 +61,13 @@ module _ (s : List ℕ) where
         let l = valuesOf (fromPacket wireChanges s) in
         let w = whole s stop e in
         let o = parts s stop l e a in
-        let c = packet-only (fields wireChanges) (rest s 24 stop) (o .values) (o .reads) in
-        let d = twelfth (rest s 24 stop) (o .values) (record { good = c .0; bits = c .1 }) in
-        let long : length (rest s 24 stop) ≡ stop - 24 = rest-length s stop 24 (w .placed) in
+        let c = packet-only (fields wireChanges) (bitsBetween s 24 stop) (o .values) (o .reads) in
+        let d = twelfth (bitsBetween s 24 stop) (o .values) (record { good = c .0; bits = c .1 }) in
+        let long : length (bitsBetween s 24 stop) ≡ stop - 24 = rest-length s stop 24 (w .placed) in
         let far : 253 ≤ stop = omega (arith, d .inside) in
         let v : altitudeField l ≡ fieldAt s 233 20 = ap altitudeField (o .all) ∙ d .value ∙ field-bits stop far in
         record {
-          value = ap answered a ∙ λ j. record { refusal = 0; altitude = centimetres (v j) };
+          value = ap altitudeOfRead a ∙ λ j. record { refusal = 0; altitude = centimetres (v j) };
           inside = omega (arith, w .inside);
           present = omega (arith, d .present, ap length (o .all));
         }
@@ -80,16 +81,16 @@ module _ (s : List ℕ) where
 
   -- ---- by the verdict
 
-  pub altitude-accepted : (n : ℕ) → Accepted n ≡ packetVerdict s → Field
+  pub altitude-accepted : (n : ℕ) → SheetBytes n ≡ packetVerdict s → Field
   unfolding packetVerdict
-  altitude-accepted n e = verdict-accepted (sizeFrom sheet (sheetFields wireChanges) 0) (fromPacket wireChanges s) n e λ p q. accepted-field p
+  altitude-accepted n e = verdict-accepted packet-sorts (sizeFrom sheet (sheetFields wireChanges) 0) (fromPacket wireChanges s) n e λ p q. accepted-field p
 
-  pub altitude-refused : (r : ℕ) → Refused r ≡ packetVerdict s → answered (refused r 0) ≡ altitudeOf s
+  pub altitude-refused : (r : ℕ) → Refused r ≡ packetVerdict s → altitudeOfRead (refused r 0) ≡ altitudeOf s
   unfolding packetVerdict altitudeOf
-  altitude-refused r e = verdict-refused (sizeFrom sheet (sheetFields wireChanges) 0) (fromPacket wireChanges s) r e λ left p. rw p
+  altitude-refused r e = verdict-refused packet-sorts (sizeFrom sheet (sheetFields wireChanges) 0) (fromPacket wireChanges s) r e λ left p. rw p
 
   -- the signed number made of the field, as it is returned
-  pub altitude-done : (n : ℕ) → Accepted n ≡ packetVerdict s → (v : ℕ) (z : ℤ) → v ≡ fieldAt s 233 20 → z ≡ centimetres v
+  pub altitude-done : (n : ℕ) → SheetBytes n ≡ packetVerdict s → (v : ℕ) (z : ℤ) → v ≡ fieldAt s 233 20 → z ≡ centimetres v
       → _≡_ {A = Altitude} (record { refusal = 0; altitude = toZ w32 (ofZ w32 z) }) (altitudeOf s)
   altitude-done n e v z p q =
       let f : v < 2 ^ 20 = rw p (field-small s 233 20 20 (lit≤ tt)) in

@@ -19,10 +19,10 @@ abbrev pub altitudeField : List Item → ℕ
 altitudeField l = getD (packetValues l) 13 0
 
 -- "It returns its number with length, speed or altitude 0"
-abbrev pub answered : Read → Altitude
-answered (refused r left) = record { refusal = r; altitude = pos 0 }
-answered (accepted l) = record { refusal = 0; altitude = centimetres (altitudeField l) }
+abbrev pub altitudeOfRead : Read → Altitude
+altitudeOfRead (refused r left) = record { refusal = r; altitude = pos 0 }
+altitudeOfRead (accepted l) = record { refusal = 0; altitude = centimetres (altitudeField l) }
 
 -- "the altitude of a packet in signed centimetres"
 unfoldable pub altitudeOf : List ℕ → Altitude
-altitudeOf s = answered (fromPacket wireChanges s)
+altitudeOf s = altitudeOfRead (fromPacket wireChanges s)

@@ -2,7 +2,7 @@
 ghost use mathlib.Core.Path.{_≡_};
 ghost use Prim.Native.Nat.{_<_, _^_};
 ghost use Rattle.altitude.specs.Altitude.{centimetres, altitudeOf};
-use judge::Verdict;
+use judge::PacketVerdict;
 use kinds::body;
 
 // A refusal's number, or 0 and the altitude.
@@ -37,11 +37,11 @@ pub fn altitude_of_packet(packet: &[u8]) -> Altitude
     ensures { λ r. ⌜ r ≡ altitudeOf (now (packet .entry)) ⌝ }
 {
     match judge_packet::judge_packet(packet) {
-        Verdict::Refused(r) => Altitude {
+        PacketVerdict::Refused(r) => Altitude {
             refusal: r,
             altitude: 0,
         },
-        Verdict::Accepted(_) => {
+        PacketVerdict::SheetBytes(_) => {
             let v = bits::read_field(packet, FIELD, body::MSpAltitude::WIDTH);
             let altitude = signed(v);
             Altitude {

@@ -15,21 +15,22 @@ use Rattle.bits.proofs.Fields.{field-small}
 use Rattle.bits.proofs.Windows.{field-split}
 use Rattle.kinds.specs.declared.Item.{Item}
 use Rattle.kinds.specs.Kind.{Kind}
-use Rattle.kinds.specs.Judged.{fromPacket}
+use Rattle.kinds.specs.Judged.{valueInPacket}
 use Rattle.kinds.specs.Kinds.{qDiff, class, speed, qFront, nIter}
 use Rattle.kinds.specs.Tables.{cantFigures}
 use Rattle.format.specs.Format.{Format, field, then, sheetNumbers}
 use Rattle.format.specs.Media.{packet}
-use Rattle.format.specs.Places.{Taken, rest, takenAt, bitsTaken}
+use Rattle.format.specs.Places.{Taken, bitsBetween, takenAt, bitsTaken}
 use Rattle.format.proofs.Places.{bits-short, bits-whole}
 use Rattle.format.proofs.Passing.{packet-seen}
 use Rattle.format.proofs.Accepted.{Accepts, field-accepted}
 use Rattle.segment.specs.Segment.{entries, profile}
 use Rattle.segment.specs.Parts.{entry}
 use Rattle.segment.proofs.Parts.{class-width}
-use Rattle.elements.specs.Reading.{Ahead, Past, FieldRead}
-use Rattle.elements.proofs.Reading.{ahead-field}
-use Rattle.ask_packet.specs.Asking.{endOf, Left}
+use Rattle.speed.specs.Speed.{afterEntries}
+use Rattle.elements.specs.Reading.{Readable, Past, Passes, FieldRead}
+use Rattle.elements.proofs.Reading.{entriesEnd, readable-field, entry-passes, entries-pass}
+use Rattle.ask_packet.specs.Asking.{endOf, Reads}
 
 module _ (s : List ℕ) where
   -- a field of w bits that is there and has an allowed value
@@ -51,18 +52,18 @@ module _ (s : List ℕ) where
     taken-allowed : k .allowed (fieldAt s at (k .width)) ≡ true
     taken-allowed =
         by-cases (k .allowed (fieldAt s at (k .width))) (λ d. d) λ d.
-        let q : Taken.Refused (k .refusal) ≡ takenAt (fromPacket k (fieldAt s at (k .width))) (at + k .width) = rw d in
+        let q : Taken.Refused (k .refusal) ≡ takenAt (valueInPacket k (fieldAt s at (k .width))) (at + k .width) = rw d in
         refused-apart (q ∙ bits-whole k s at (endOf s) taken-whole)
 
     taken-item : Taken.Is i to ≡ Taken.Is (item k at) (at + k .width)
     taken-item =
-        let q : Taken.Is (item k at) (at + k .width) ≡ takenAt (fromPacket k (fieldAt s at (k .width))) (at + k .width) = rw taken-allowed in
+        let q : Taken.Is (item k at) (at + k .width) ≡ takenAt (valueInPacket k (fieldAt s at (k .width))) (at + k .width) = rw taken-allowed in
         sym (q ∙ bits-whole k s at (endOf s) taken-whole ∙ e)
 
-  module _ (k : Kind) {next : ℕ → Format} {at : ℕ} {l : List Item} (h : Left s (field k next) at l) where
-    accepts : Accepts packet (λ n. rest s n (endOf s)) (λ j n. bitsTaken j s n (endOf s)) k next at l
+  module _ (k : Kind) {next : ℕ → Format} {at : ℕ} {l : List Item} (h : Reads s (field k next) at l) where
+    accepts : Accepts packet (λ n. bitsBetween s n (endOf s)) (λ j n. bitsTaken j s n (endOf s)) k next at l
     accepts =
-        field-accepted packet (λ n. rest s n (endOf s)) (λ j n. bitsTaken j s n (endOf s)) (packet-seen s (endOf s)) k next at l
+        field-accepted packet (λ n. bitsBetween s n (endOf s)) (λ j n. bitsTaken j s n (endOf s)) (packet-seen s (endOf s)) k next at l
         (record { before = h .before; inside = h .inside; few = h .few }) (h .reads)
 
     pub field-fits : Fits k at
@@ -74,12 +75,12 @@ module _ (s : List ℕ) where
     field-to : accepts .to ≡ at + k .width
     field-to = let e = taken-item k at (accepts .takes) in cc
 
-    field-past : Past (Left s) (next (fieldAt s at (k .width))) (at + k .width) (drop 1 (sheetNumbers l))
+    field-past : Past (Reads s) (next (fieldAt s at (k .width))) (at + k .width) (drop 1 (sheetNumbers l))
     field-past =
         let a = accepts in
         record {
           values = a .values;
-          left =
+          reads =
               record {
                 before = omega (arith, field-fits .whole, h .before);
                 inside = h .inside;
@@ -94,7 +95,7 @@ module _ (s : List ℕ) where
     field-number = ap (λ (m : List Item). getD (sheetNumbers m) 0 0) (accepts .is) ∙ ap (λ (i : Item). i .sheet) field-item
 
   -- a field of w bits at a place
-  pub field-read : (k : Kind) (at w to : ℕ) {v : ℕ} → k .width ≡ w → at + w ≡ to → v ≡ fieldAt s at w → FieldRead (Left s) k at to v (k .raise v)
+  pub field-read : (k : Kind) (at w to : ℕ) {v : ℕ} → k .width ≡ w → at + w ≡ to → v ≡ fieldAt s at w → FieldRead (Reads s) k at to v (k .raise v)
   field-read k at w to d g e = rw (e, ← g, ← d) (record { past = λ next l h. field-past k h; is = λ next l h. field-number k h })
 
   -- ---- three fields side by side
@@ -119,39 +120,39 @@ module _ (s : List ℕ) where
 
   pub record EntryAt (at t : ℕ) : Type 0 where
     pub allowed : class (t / 2048) .allowed (t / 128 % 16) ≡ true
-    pub first : FieldRead (Left s) qDiff at (at + 2) (t / 2048) (t / 2048)
-    pub second : FieldRead (Left s) (class (t / 2048)) (at + 2) (at + 6) (t / 128 % 16) (class (t / 2048) .raise (t / 128 % 16))
-    pub third : FieldRead (Left s) speed (at + 6) (at + 13) (t % 128) (t % 128 * 5)
+    pub first : FieldRead (Reads s) qDiff at (at + 2) (t / 2048) (t / 2048)
+    pub second : FieldRead (Reads s) (class (t / 2048)) (at + 2) (at + 6) (t / 128 % 16) (class (t / 2048) .raise (t / 128 % 16))
+    pub third : FieldRead (Reads s) speed (at + 6) (at + 13) (t % 128) (t % 128 * 5)
 
-  module _ {at : ℕ} (h : Ahead (Left s) entry at) where
-    entry-first : FieldRead (Left s) qDiff at (at + 2) (fieldAt s at 2) (fieldAt s at 2)
+  module _ {at : ℕ} (h : Readable (Reads s) entry at) where
+    entry-first : FieldRead (Reads s) qDiff at (at + 2) (fieldAt s at 2) (fieldAt s at 2)
     entry-first = field-read qDiff at 2 (at + 2) refl refl refl
 
-    entry-second : Ahead (Left s) (λ f. then (class (fieldAt s at 2)) (then speed f)) (at + 2)
-    entry-second = ahead-field (Left s) entry-first (λ q f. then (class q) (then speed f)) h
+    entry-second : Readable (Reads s) (λ f. then (class (fieldAt s at 2)) (then speed f)) (at + 2)
+    entry-second = readable-field (Reads s) entry-first (λ q f. then (class q) (then speed f)) h
 
-    entry-third : Ahead (Left s) (λ f. then speed f) (at + 2 + 4)
+    entry-third : Readable (Reads s) (λ f. then speed f) (at + 2 + 4)
     entry-third =
         let q = fieldAt s at 2 in
-        ahead-field (Left s) (field-read (class q) (at + 2) 4 (at + 2 + 4) (class-width q) refl refl) (λ c f. then speed f) entry-second
+        readable-field (Reads s) (field-read (class q) (at + 2) 4 (at + 2 + 4) (class-width q) refl refl) (λ c f. then speed f) entry-second
 
     pub entry-whole : 13 ≤ endOf s - at
     entry-whole =
         let q = fieldAt s at 2 in
-        let a = field-fits qDiff (h .left) .whole in
-        let b = field-fits (class q) (entry-second .left) .whole in
-        let c = field-fits speed (entry-third .left) .whole in
+        let a = field-fits qDiff (h .reads) .whole in
+        let b = field-fits (class q) (entry-second .reads) .whole in
+        let c = field-fits speed (entry-third .reads) .whole in
         omega (arith, class-width q)
 
     pub entry-inside : at + (2 + 4 + 7) ≤ 8 * length s
-    entry-inside = omega (arith, entry-whole, h .left .inside)
+    entry-inside = omega (arith, entry-whole, h .reads .inside)
 
     pub entry-at : {t : ℕ} → t ≡ fieldAt s at 13 → EntryAt at t
     entry-at {t} e =
         let i = entry-inside in
         let f = three-first at 2 4 7 i e in
         let g = three-second at 2 4 7 i e in
-        let b = field-fits (class (fieldAt s at 2)) (entry-second .left) .allowed in
+        let b = field-fits (class (fieldAt s at 2)) (entry-second .reads) .allowed in
         let w = class-width (fieldAt s at 2) in
         record {
           allowed = rw (f, g) (rw w at b);
@@ -160,47 +161,58 @@ module _ (s : List ℕ) where
           third = field-read speed (at + 6) 7 (at + 13) refl (omega arith) (three-third at 2 4 7 i e);
         }
 
+  -- entries passed over: each has 13 bits
+  entry-pass : (at : ℕ) → Passes (Reads s) entry (drop 3) at (at + 13)
+  entry-pass at =
+      let q = fieldAt s at 2 in
+      entry-passes (Reads s) (field-read qDiff at 2 (at + 2) refl refl refl) (field-read (class q) (at + 2) 4 (at + 6) (class-width q) (omega arith) refl)
+      (field-read speed (at + 6) 7 (at + 13) refl (omega arith) refl)
+
+  entries-bits : (n at : ℕ) → entriesEnd (λ m. m + 13) n at ≡ at + 13 * n
+  entries-bits zero at = omega arith
+  entries-bits (suc n) at = entries-bits n (at + 13) ∙ omega arith
+
+  pub entries-passed : (n at to : ℕ) → to ≡ at + 13 * n → Passes (Reads s) (entries n) (afterEntries n) at to
+  entries-passed n at to e = rw (e ∙ sym (entries-bits n at)) (entries-pass (Reads s) (λ m. m + 13) entry-pass n at)
+
   -- ---- what an element begins with
 
   pub record ElementAt (at t : ℕ) : Type 0 where
-    pub first : FieldRead (Left s) speed at (at + 7) (t / 64) (t / 64 * 5)
-    pub second : FieldRead (Left s) qFront (at + 7) (at + 8) (t / 32 % 2) (t / 32 % 2)
-    pub third : FieldRead (Left s) (nIter 31) (at + 8) (at + 13) (t % 32) (t % 32)
-    pub entries-ahead : Ahead (Left s) (entries (t % 32)) (at + 13)
+    pub first : FieldRead (Reads s) speed at (at + 7) (t / 64) (t / 64 * 5)
+    pub second : FieldRead (Reads s) qFront (at + 7) (at + 8) (t / 32 % 2) (t / 32 % 2)
+    pub third : FieldRead (Reads s) (nIter 31) (at + 8) (at + 13) (t % 32) (t % 32)
 
-  module _ {at : ℕ} (h : Ahead (Left s) profile at) where
-    front-ahead : Ahead (Left s) (λ f. then qFront (field (nIter 31) λ n. entries n f)) (at + 7)
-    front-ahead = ahead-field (Left s) (field-read speed at 7 (at + 7) refl refl refl) (λ v f. then qFront (field (nIter 31) λ n. entries n f)) h
+  module _ {at : ℕ} (h : Readable (Reads s) profile at) where
+    front-readable : Readable (Reads s) (λ f. then qFront (field (nIter 31) λ n. entries n f)) (at + 7)
+    front-readable = readable-field (Reads s) (field-read speed at 7 (at + 7) refl refl refl) (λ v f. then qFront (field (nIter 31) λ n. entries n f)) h
 
-    count-ahead : Ahead (Left s) (λ f. field (nIter 31) λ n. entries n f) (at + 8)
-    count-ahead = ahead-field (Left s) (field-read qFront (at + 7) 1 (at + 8) refl (omega arith) refl) (λ v f. field (nIter 31) λ n. entries n f) front-ahead
+    count-readable : Readable (Reads s) (λ f. field (nIter 31) λ n. entries n f) (at + 8)
+    count-readable = readable-field (Reads s) (field-read qFront (at + 7) 1 (at + 8) refl (omega arith) refl) (λ v f. field (nIter 31) λ n. entries n f) front-readable
 
     pub element-inside : at + (7 + 1 + 5) ≤ 8 * length s
     element-inside =
-        let a = field-fits speed (h .left) .whole in
-        let b = field-fits qFront (front-ahead .left) .whole in
-        let c = field-fits (nIter 31) (count-ahead .left) .whole in
-        omega (arith, h .left .inside)
+        let a = field-fits speed (h .reads) .whole in
+        let b = field-fits qFront (front-readable .reads) .whole in
+        let c = field-fits (nIter 31) (count-readable .reads) .whole in
+        omega (arith, h .reads .inside)
 
     pub element-at : {t : ℕ} → t ≡ fieldAt s at 13 → ElementAt at t
     element-at {t} e =
         let i = element-inside in
-        let third = field-read (nIter 31) (at + 8) 5 (at + 13) refl (omega arith) (three-third at 7 1 5 i e) in
         record {
           first = field-read speed at 7 (at + 7) refl refl (three-first at 7 1 5 i e);
           second = field-read qFront (at + 7) 1 (at + 8) refl (omega arith) (three-second at 7 1 5 i e);
-          third = third;
-          entries-ahead = ahead-field (Left s) third entries count-ahead;
+          third = field-read (nIter 31) (at + 8) 5 (at + 13) refl (omega arith) (three-third at 7 1 5 i e);
         }
 
   -- ---- one field, and what reading it asks for
 
-  module _ (k : Kind) {part : ℕ → Format → Format} {at : ℕ} (h : Ahead (Left s) (λ f. field k (λ u. part u f)) at) where
+  module _ (k : Kind) {part : ℕ → Format → Format} {at : ℕ} (h : Readable (Reads s) (λ f. field k (λ u. part u f)) at) where
     pub field-inside : at + k .width ≤ endOf s
-    field-inside = omega (arith, field-fits k (h .left) .whole, h .left .before)
+    field-inside = omega (arith, field-fits k (h .reads) .whole, h .reads .before)
 
     pub field-asked : (w : ℕ) → k .width ≡ w → 0 < w → w ≤ 32 → (0 < w) × (w ≤ 32) × (at + w ≤ 8 * length s) × (8 ≤ length s)
-    field-asked w e a b = (a, b, omega (arith, field-inside, h .left .inside), h .left .long)
+    field-asked w e a b = (a, b, omega (arith, field-inside, h .reads .inside), h .reads .long)
 
 -- ---- a class's number
 

@@ -21,16 +21,16 @@ use Rattle.segment.specs.Judgement.{fromPacket}
 use Rattle.segment.proofs.Framing.{padded-accepted}
 use Rattle.speed.specs.declared.Train.{Train}
 use Rattle.speed.specs.Speed.{segmentLength, profileOf, speedIn}
-use Rattle.elements.specs.Reading.{Ahead, Past, ProfileRead}
+use Rattle.elements.specs.Reading.{Readable, Past, ProfileRead}
 use Rattle.elements.proofs.Reading.{past-here, then-past, then-is}
-use Rattle.ask_packet.specs.Asking.{Accepted, numbersOf, Left}
+use Rattle.ask_packet.specs.Asking.{AcceptedPacket, numbersOfPacket, Reads}
 use Rattle.ask_packet.proofs.Fields.{field-read, field-fits}
 
 module _ (s : List ℕ) where
   -- every field after L_PACKET_ATO
   record Whole (l : List Item) : Type 0 where
     pub values : List Item
-    pub left : Left s (fields wireChanges) 24 values
+    pub reads : Reads s (fields wireChanges) 24 values
     pub all : sheetNumbers l ≡ 6 ∷ sheetNumbers values
 
   whole : (l : List Item) → fromPacket wireChanges s ≡ accepted l → Whole l
@@ -47,7 +47,7 @@ module _ (s : List ℕ) where
       let d : 120 + m - 24 ≡ 96 + m = omega arith in
       record {
         values = v;
-        left = record { before = omega arith; inside = omega arith; few = omega arith; long = omega arith; reads = rw d p };
+        reads = record { before = omega arith; inside = omega arith; few = omega arith; long = omega arith; reads = rw d p };
         all = ap sheetNumbers q;
       })
       (λ c. absurd (never (rw (a, b, c) at e))))
@@ -57,42 +57,42 @@ module _ (s : List ℕ) where
   pub record Headed : Type 0 where
     pub inside : 202 ≤ 8 * length s
     pub long : 8 ≤ length s
-    pub length-is : segmentLength (numbersOf s) ≡ fieldAt s 178 24
-    pub past : Past (Left s) (part profile 31 (fieldAt s 178 24) (part voltage wireChanges (fieldAt s 178 24) (part current wireChanges (fieldAt s 178 24) end))) 253 (profileOf (numbersOf s))
+    pub length-is : segmentLength (numbersOfPacket s) ≡ fieldAt s 178 24
+    pub past : Past (Reads s) (part profile 31 (fieldAt s 178 24) (part voltage wireChanges (fieldAt s 178 24) (part current wireChanges (fieldAt s 178 24) end))) 253 (profileOf (numbersOfPacket s))
 
-  pub headed : Accepted s → Headed
+  pub headed : AcceptedPacket s → Headed
   unfolding fields body lists
   headed e =
       let w = whole (valuesOf (fromPacket wireChanges s)) e in
       let n : List ℕ = sheetNumbers (w .values) in
-      let p1 = then-past (Left s) (field-read s nidOperational 24 32 56 refl refl refl) 0 n (past-here (Left s) (w .values) (w .left)) in
-      let p2 = then-past (Left s) (field-read s nidEngine 56 24 80 refl refl refl) 1 n p1 in
-      let p3 = then-past (Left s) (field-read s tTimestampDate 80 15 95 refl refl refl) 2 n p2 in
-      let p4 = then-past (Left s) (field-read s tTimestampSeconds 95 17 112 refl refl refl) 3 n p3 in
-      let p5 = then-past (Left s) (field-read s nPacketCounter 112 8 120 refl refl refl) 4 n p4 in
-      let p6 = then-past (Left s) (field-read s nidC 120 10 130 refl refl refl) 5 n p5 in
-      let p7 = then-past (Left s) (field-read s nidSp 130 32 162 refl refl refl) 6 n p6 in
-      let p8 = then-past (Left s) (field-read s mSpVersion 162 8 170 refl refl refl) 7 n p7 in
-      let p9 = then-past (Left s) (field-read s mSpVersion 170 8 178 refl refl refl) 8 n p8 in
+      let p1 = then-past (Reads s) (field-read s nidOperational 24 32 56 refl refl refl) 0 n (past-here (Reads s) (w .values) (w .reads)) in
+      let p2 = then-past (Reads s) (field-read s nidEngine 56 24 80 refl refl refl) 1 n p1 in
+      let p3 = then-past (Reads s) (field-read s tTimestampDate 80 15 95 refl refl refl) 2 n p2 in
+      let p4 = then-past (Reads s) (field-read s tTimestampSeconds 95 17 112 refl refl refl) 3 n p3 in
+      let p5 = then-past (Reads s) (field-read s nPacketCounter 112 8 120 refl refl refl) 4 n p4 in
+      let p6 = then-past (Reads s) (field-read s nidC 120 10 130 refl refl refl) 5 n p5 in
+      let p7 = then-past (Reads s) (field-read s nidSp 130 32 162 refl refl refl) 6 n p6 in
+      let p8 = then-past (Reads s) (field-read s mSpVersion 162 8 170 refl refl refl) 7 n p7 in
+      let p9 = then-past (Reads s) (field-read s mSpVersion 170 8 178 refl refl refl) 8 n p8 in
       let length-read = field-read s lSp 178 24 202 refl refl refl in
-      let p10 = then-past (Left s) length-read 9 n p9 in
-      let p11 = then-past (Left s) (field-read s dEoAOffset 202 24 226 refl refl refl) 10 n p10 in
-      let p12 = then-past (Left s) (field-read s qUtcOffset 226 7 233 refl refl refl) 11 n p11 in
-      let p13 = then-past (Left s) (field-read s mSpAltitude 233 20 253 refl refl refl) 12 n p12 in
-      let here = field-fits s lSp (p9 .left) .whole in
+      let p10 = then-past (Reads s) length-read 9 n p9 in
+      let p11 = then-past (Reads s) (field-read s dEoAOffset 202 24 226 refl refl refl) 10 n p10 in
+      let p12 = then-past (Reads s) (field-read s qUtcOffset 226 7 233 refl refl refl) 11 n p11 in
+      let p13 = then-past (Reads s) (field-read s mSpAltitude 233 20 253 refl refl refl) 12 n p12 in
+      let here = field-fits s lSp (p9 .reads) .whole in
       record {
-        inside = omega (arith, here, p9 .left .inside, p9 .left .before);
-        long = p9 .left .long;
-        length-is = ap segmentLength (w .all) ∙ then-is (Left s) length-read 9 n p9;
-        past = record { values = p13 .values; left = p13 .left; numbers = p13 .numbers ∙ ap profileOf (sym (w .all)) };
+        inside = omega (arith, here, p9 .reads .inside, p9 .reads .before);
+        long = p9 .reads .long;
+        length-is = ap segmentLength (w .all) ∙ then-is (Reads s) length-read 9 n p9;
+        past = record { values = p13 .values; reads = p13 .reads; numbers = p13 .numbers ∙ ap profileOf (sym (w .all)) };
       }
 
-  module _ (e : Accepted s) {lsp : ℕ} (d : lsp ≡ segmentLength (numbersOf s)) where
-    pub profile-ahead : Ahead (Left s) (part profile 31 lsp) 253
-    profile-ahead = let h = headed e in rw (d ∙ h .length-is) (record { follows = _; values = h .past .values; left = h .past .left })
+  module _ (e : AcceptedPacket s) {lsp : ℕ} (d : lsp ≡ segmentLength (numbersOfPacket s)) where
+    pub profile-readable : Readable (Reads s) (part profile 31 lsp) 253
+    profile-readable = let h = headed e in rw (d ∙ h .length-is) (record { follows = _; values = h .past .values; reads = h .past .reads })
 
-    pub speed-asked : {t : Train} {x v : ℕ} → ProfileRead (Left s) t lsp x 253 v → v ≡ speedIn t x (numbersOf s)
+    pub speed-asked : {t : Train} {x v : ℕ} → ProfileRead (Reads s) t lsp x 253 v → v ≡ speedIn t x (numbersOfPacket s)
     speed-asked {t} {x} {v} r =
         let h = headed e in
-        let q : ProfileRead (Left s) t (fieldAt s 178 24) x 253 v = rw (← h .length-is, ← d) r in
-        q .said _ (h .past .values) (h .past .left) ∙ rw (h .past .numbers, h .length-is)
+        let q : ProfileRead (Reads s) t (fieldAt s 178 24) x 253 v = rw (← h .length-is, ← d) r in
+        q .said _ (h .past .values) (h .past .reads) ∙ rw (h .past .numbers, h .length-is)

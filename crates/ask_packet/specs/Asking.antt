@@ -7,27 +7,27 @@ use lib.ListN.{length}
 use Rattle.kinds.specs.declared.Item.{Item}
 use Rattle.format.specs.Format.{Format, accepted, read, valuesOf, sheetNumbers}
 use Rattle.format.specs.Media.{packet}
-use Rattle.format.specs.Places.{rest}
+use Rattle.format.specs.Places.{bitsBetween}
 use Rattle.segment.specs.Segment.{wireChanges}
 use Rattle.segment.specs.Frame.{bodyBits}
 use Rattle.segment.specs.Judgement.{fromPacket}
 
 -- the packet is accepted
-abbrev pub Accepted : List ℕ → Type 0
-Accepted s = fromPacket wireChanges s ≡ accepted (valuesOf (fromPacket wireChanges s))
+abbrev pub AcceptedPacket : List ℕ → Type 0
+AcceptedPacket s = fromPacket wireChanges s ≡ accepted (valuesOf (fromPacket wireChanges s))
 
 -- the numbers of its sheet
-abbrev pub numbersOf : List ℕ → List ℕ
-numbersOf s = sheetNumbers (valuesOf (fromPacket wireChanges s))
+abbrev pub numbersOfPacket : List ℕ → List ℕ
+numbersOfPacket s = sheetNumbers (valuesOf (fromPacket wireChanges s))
 
 -- the bit where a packet's fields end
 abbrev pub endOf : List ℕ → ℕ
 endOf s = 120 + bodyBits s
 
 -- the tree f stands at the bit at, and is accepted with the values l
-pub record Left (s : List ℕ) (f : Format) (at : ℕ) (l : List Item) : Type 0 where
+pub record Reads (s : List ℕ) (f : Format) (at : ℕ) (l : List Item) : Type 0 where
   pub before : at ≤ endOf s
   pub inside : endOf s ≤ 8 * length s
   pub few : endOf s < 2 ^ 32
   pub long : 8 ≤ length s
-  pub reads : read packet f (rest s at (endOf s)) ≡ accepted l
+  pub reads : read packet f (bitsBetween s at (endOf s)) ≡ accepted l

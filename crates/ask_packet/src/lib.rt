@@ -8,8 +8,8 @@ ghost use Rattle.segment.specs.Segment as segment;
 ghost use Rattle.segment.specs.Parts as parts;
 ghost use Rattle.speed.specs.Speed.{segmentLength, speedIn};
 ghost use Rattle.elements.specs.Elements.{none};
-ghost use Rattle.elements.specs.Reading.{Ahead, EntryRead, EntriesRead, ElementRead, ChangesRead, ProfileRead};
-ghost use Rattle.ask_packet.specs.Asking.{Accepted, numbersOf, Left};
+ghost use Rattle.elements.specs.Reading.{Readable, EntryRead, EntriesRead, Opens, ElementRead, Ended, Finished, ChangesRead, ProfileRead};
+ghost use Rattle.ask_packet.specs.Asking.{AcceptedPacket, numbersOfPacket, Reads};
 use elements::Lows;
 use elements::Open;
 use fields::tables;
@@ -22,9 +22,9 @@ const LENGTH: usize = 178;
 const PROFILE: usize = 253;
 
 // The bits of an entry, and of what an element begins with.
-const ENTRY: u32 = 13;
+const ENTRY: usize = 13;
 
-const ELEMENT: u32 = 13;
+const ELEMENT: usize = 13;
 
 // An element, and the bit after it.
 pub struct Found {
@@ -53,69 +53,80 @@ fn class_number(figures: &[u32], q_diff: u32, v: u32) -> u32
 
 // The lowest speeds with the entry at the bit at.
 fn entry(s: &[u8], at: usize, figures: &[u32], train: Train, lows: Lows) -> Lows
-    requires { ⌜ (now figures ≡ cantFigures) × Ahead (Left (now s)) (parts.entry) at ⌝ }
-    ensures { λ r. ⌜ EntryRead (Left (now (s .entry))) train lows r at (at + 13) ⌝ }
+    requires { ⌜ (now figures ≡ cantFigures) × Readable (Reads (now s)) (parts.entry) at ⌝ }
+    ensures { λ r. ⌜ EntryRead (Reads (now (s .entry))) train lows r at (at + 13) ⌝ }
 {
-    let t = bits::read_window(s, at, ENTRY);
+    let t = bits::read_window(s, at, ENTRY as u32);
     let q_diff = t / 2048;
     let class = class_number(figures, q_diff, t / 128 % 16);
     lows.with(train, q_diff, class, t % 128 * body::VStatic::STEP)
 }
 
 // The speed of an element, from its V_STATIC in km/h and its entries.
-fn entries(s: &[u8], at: usize, count: u32, figures: &[u32], train: Train, v_static: u32) -> u32
-    requires { ⌜ (now figures ≡ cantFigures) × («v_static» < none) × Ahead (Left (now s)) (segment.entries count) at ⌝ }
-    ensures { λ r. ⌜ EntriesRead (Left (now (s .entry))) train «v_static» count at (at + 13 * count) r ⌝ }
+fn entries(s: &[u8], at: usize, count: u32, train: Train, v_static: u32) -> u32
+    requires { ⌜ («v_static» < none) × Readable (Reads (now s)) (segment.entries count) at ⌝ }
+    ensures { λ r. ⌜ EntriesRead (Reads (now (s .entry))) train «v_static» count at r ⌝ }
 {
+    let figures = tables::CANT_FIGURES;
     let mut lows = elements::no_lows();
     let mut to = at;
     let mut left = count;
     while 0 < left {
-        lows = entry(s, to, figures, train, lows);
-        to += ENTRY as usize;
+        lows = entry(s, to, &figures, train, lows);
+        to += ENTRY;
         left -= 1;
     }
     lows.speed(v_static)
 }
 
-// The element at the bit at, which starts at the location start.
-fn element(s: &[u8], at: usize, figures: &[u32], train: Train, start: u32) -> Found
-    requires { ⌜ (now figures ≡ cantFigures) × Ahead (Left (now s)) (segment.profile) at ⌝ }
-    ensures { λ r. ⌜ ElementRead (Left (now (s .entry))) train at (r .next) (r .open) × (r .open .start ≡ start) ⌝ }
+// The element at the bit at, which starts at the location start. Its entries are passed over.
+fn element(s: &[u8], at: usize, start: u32) -> Found
+    requires { ⌜ Readable (Reads (now s)) (segment.profile) at ⌝ }
+    ensures { λ r. ⌜ ElementRead (Reads (now (s .entry))) at (r .next) (r .open) × (r .open .start ≡ start) ⌝ }
 {
-    let t = bits::read_window(s, at, ELEMENT);
+    let t = bits::read_window(s, at, ELEMENT as u32);
     let count = t % 32;
-    let speed = entries(
-        s,
-        at + 13,
-        count,
-        figures,
-        train,
-        t / 64 * body::VStatic::STEP,
-    );
+    let entries = at + ELEMENT;
     Found {
         open: Open {
             start,
-            speed,
+            v_static: t / 64 * body::VStatic::STEP,
             q_front: t / 32 % 2,
+            count,
+            entries,
         },
-        next: at + 13 + 13 * count as usize,
+        next: entries + ENTRY * count as usize,
     }
 }
 
+// The lowest speed held at x, once the open element ends at end. Its entries are read only where it holds.
+fn ended(s: &[u8], open: Open, train: Train, held: u32, end: u32, x: u32) -> u32
+    requires { ⌜ Opens (Reads (now s)) «open» ⌝ }
+    ensures { λ r. ⌜ Ended (Reads (now (s .entry))) train held end x «open» r ⌝ }
+{
+    if open.holds(train, end, x) {
+        let speed = entries(s, open.entries, open.count, train, open.v_static);
+        return elements::lower(held, speed);
+    }
+    held
+}
+
+// The permitted speed at x, once the last element ends at lsp.
+fn finished(s: &[u8], open: Open, train: Train, held: u32, lsp: u32, x: u32) -> u32
+    requires { ⌜ Opens (Reads (now s)) «open» ⌝ }
+    ensures { λ r. ⌜ Finished (Reads (now (s .entry))) train held lsp x «open» r ⌝ }
+{
+    if open.holds(train, lsp, x) {
+        let speed = entries(s, open.entries, open.count, train, open.v_static);
+        return elements::permitted(elements::lower(held, speed));
+    }
+    elements::permitted(held)
+}
+
 // The permitted speed at x, from the changes after the first element. The last element ends at lsp.
-fn changes(
-    s: &[u8],
-    at: usize,
-    count: u32,
-    figures: &[u32],
-    train: Train,
-    lsp: u32,
-    x: u32,
-    first: Open,
-) -> u32
-    requires { ⌜ (now figures ≡ cantFigures) × (first .speed < none) × Ahead (Left (now s)) (segment.changes segment.profile lsp (first .start) count) at ⌝ }
-    ensures { λ r. ⌜ ChangesRead (Left (now (s .entry))) train lsp x first count at r ⌝ }
+fn changes(s: &[u8], at: usize, count: u32, train: Train, lsp: u32, x: u32, first: Open) -> u32
+    requires { ⌜ Opens (Reads (now s)) first × Readable (Reads (now s)) (segment.changes segment.profile lsp (first .start) count) at ⌝ }
+    ensures { λ r. ⌜ ChangesRead (Reads (now (s .entry))) train lsp x first count at r ⌝ }
 {
     let mut held = elements::NONE;
     let mut open = first;
@@ -123,47 +134,37 @@ fn changes(
     let mut left = count;
     while 0 < left {
         let start = bits::read_window(s, to, body::DLocation::WIDTH);
-        let e = element(s, to + 24, figures, train, start);
-        held = open.ended(held, train, start, x);
+        let e = element(s, to + 24, start);
+        held = ended(s, open, train, held, start, x);
         open = e.open;
         to = e.next;
         left -= 1;
     }
-    elements::permitted(open.ended(held, train, lsp, x))
+    finished(s, open, train, held, lsp, x)
 }
 
 // The permitted speed at x, from the profile at the bit at: its first element, the count of its changes, and the changes.
 fn profile(s: &[u8], at: usize, train: Train, lsp: u32, x: u32) -> u32
-    requires { ⌜ Ahead (Left (now s)) (segment.part segment.profile 31 lsp) at ⌝ }
-    ensures { λ r. ⌜ ProfileRead (Left (now (s .entry))) train lsp x at r ⌝ }
+    requires { ⌜ Readable (Reads (now s)) (segment.part segment.profile 31 lsp) at ⌝ }
+    ensures { λ r. ⌜ ProfileRead (Reads (now (s .entry))) train lsp x at r ⌝ }
 {
-    let figures = tables::CANT_FIGURES;
-    let first = element(s, at, &figures, train, 0);
+    let first = element(s, at, 0);
     let count = bits::read_window(s, first.next, body::NIter::WIDTH);
-    changes(
-        s,
-        first.next + 5,
-        count,
-        &figures,
-        train,
-        lsp,
-        x,
-        first.open,
-    )
+    changes(s, first.next + 5, count, train, lsp, x, first.open)
 }
 
 // The length of an accepted packet's segment.
 pub fn length_of(packet: &[u8]) -> u32
-    requires { ⌜ Accepted (now packet) ⌝ }
-    ensures { λ r. ⌜ r ≡ segmentLength (numbersOf (now (packet .entry))) ⌝ }
+    requires { ⌜ AcceptedPacket (now packet) ⌝ }
+    ensures { λ r. ⌜ r ≡ segmentLength (numbersOfPacket (now (packet .entry))) ⌝ }
 {
     bits::read_window(packet, LENGTH, body::LSp::WIDTH)
 }
 
 // The permitted speed for a train at a place of an accepted packet.
 pub fn permitted(packet: &[u8], train: Train, x: u32) -> u32
-    requires { ⌜ Accepted (now packet) ⌝ }
-    ensures { λ r. ⌜ r ≡ speedIn train x (numbersOf (now (packet .entry))) ⌝ }
+    requires { ⌜ AcceptedPacket (now packet) ⌝ }
+    ensures { λ r. ⌜ r ≡ speedIn train x (numbersOfPacket (now (packet .entry))) ⌝ }
 {
     let lsp = length_of(packet);
     profile(packet, PROFILE, train, lsp, x)

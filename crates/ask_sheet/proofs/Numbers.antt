@@ -1,22 +1,24 @@
 -- A number of an accepted sheet, as the code reads it: with its groups counted.
 -- Assumes nothing.
 use mathlib.Core.Path.{_≡_, refl, sym, ap, _∙_}
-use mathlib.Core.Bool.{Bool, true, false}
-use mathlib.Core.List.{List}
+use mathlib.Core.List.{List, _++_}
 use mathlib.Core.Option.{Option, none, some}
 use Prim.Native.Nat.{ℕ, _+_, _*_, _-_, _/_, _%_, _^_, _≤_, _<_}
 use native.Mathlib.Omega.{arith}
-use borrow.Author.Tests.{leb-true}
-use lib.Dec.{leb}
+use borrow.Author.Tests.{ltb-true, ltb-false}
+use lib.Dec.{ltb}
 use lib.ListN.{length, drop, getD, length-append, length-drop}
 use Rattle.numbers.specs.declared.Number.{Number}
 use Rattle.numbers.specs.declared.Number.the-variants.{Value, Bad}
 use Rattle.numbers.specs.Numbers.{numberIn, groupsIn}
+use Rattle.bits.proofs.Tests.{by-cases}
 use Rattle.numbers.proofs.Reading.{number-only}
+use Rattle.numbers.proofs.Counting.{last-group, more-groups}
 use Rattle.kinds.specs.declared.Item.{Item}
-use Rattle.kinds.specs.Kind.{Kind, when}
+use Rattle.kinds.specs.Kind.{Kind}
 use Rattle.kinds.specs.Kinds.{speed}
-use Rattle.kinds.specs.Judged.{loweredTo}
+use Rattle.kinds.specs.Judged.{fieldWith}
+use Rattle.fields.proofs.Lawful.{speed-lawful}
 use Rattle.format.specs.Format.{Format, field, sheetNumbers}
 use Rattle.format.specs.Media.{sheet}
 use Rattle.format.specs.Places as places
@@ -25,8 +27,9 @@ use Rattle.format.proofs.Media.{bytes-drop}
 use Rattle.format.proofs.Passing.{sheet-seen}
 use Rattle.format.proofs.Accepted.{Accepts, field-accepted}
 use Rattle.elements.specs.Elements as elements
-use Rattle.elements.specs.Reading.{Ahead, Past, FieldRead}
-use Rattle.ask_sheet.specs.Asking.{countedAt, Left}
+use Rattle.elements.specs.Reading.{Readable, Past, FieldRead}
+use Rattle.elements.proofs.Reading.{first-left}
+use Rattle.ask_sheet.specs.Asking.{countedAt, Reads}
 
 -- what is taken of a number
 record NumberTaken (k : Kind) (s : List ℕ) (at : ℕ) (i : Item) (to : ℕ) : Type 0 where
@@ -41,14 +44,14 @@ module _ (k : Kind) (s : List ℕ) (at : ℕ) {i : Item} {to : ℕ} where
   taken-number : numberTaken k s at ≡ Taken.Is i to → NumberTaken k s at i to
   taken-number e = go (numberIn (drop at s)) refl e
     where
-      by-value : (a : ℕ) → numberIn (drop at s) ≡ Value a → (o : Option ℕ) → k .lower a ≡ o → takenAt (loweredTo k a o) (at + length (groupsIn a)) ≡ Taken.Is i to → NumberTaken k s at i to
+      by-value : (a : ℕ) → numberIn (drop at s) ≡ Value a → (o : Option ℕ) → k .lower a ≡ o → takenAt (fieldWith k a o) (at + length (groupsIn a)) ≡ Taken.Is i to → NumberTaken k s at i to
       by-value a d none p q = apart q
       by-value a d (some v) p q =
           let x : i ≡ record { sheet = a; packet = v } = cc in
           let y : to ≡ at + length (groupsIn a) = cc in
           rw x record { number = d; lowers = p; place = y }
 
-      go : (x : Number) → numberIn (drop at s) ≡ x → places.numbered k at x ≡ Taken.Is i to → NumberTaken k s at i to
+      go : (x : Number) → numberIn (drop at s) ≡ x → places.takenOf k at x ≡ Taken.Is i to → NumberTaken k s at i to
       go (Value a) d f = by-value a d (k .lower a) refl f
       go Bad d f = apart f
 
@@ -60,12 +63,24 @@ module _ (a n c : ℕ) (small : a < 2 ^ 32) (e : c ≡ a + 4294967296 * n) where
   groups-of : c / 4294967296 ≡ n
   groups-of = omega arith
 
+-- of at most two, the first byte tells how many
+short-groups : (a : ℕ) (t : List ℕ) → a < 16384 → length (groupsIn a) ≡ 1 + getD (groupsIn a ++ t) 0 0 / 128
+unfolding groupsIn
+short-groups a t h =
+    by-cases (ltb a 128)
+    (λ d. let l = ltb-true a 128 d in rw (last-group 4 a l) (omega arith))
+    (λ d. let l = ltb-false a 128 d in rw (more-groups 4 a l, last-group 3 (a / 128) (omega arith)) (omega arith))
+
+single-group : (a : ℕ) (t : List ℕ) → a < 128 → getD (groupsIn a ++ t) 0 0 ≡ a
+unfolding groupsIn
+single-group a t h = rw (last-group 4 a h)
+
 -- the value of one that may be none
 abbrev pub valueOr : Option ℕ → ℕ
 valueOr none = 0
 valueOr (some v) = v
 
-module _ (s : List ℕ) (k : Kind) {next : ℕ → Format} {at : ℕ} {l : List Item} {c : ℕ} (e : c ≡ countedAt s at) (h : Left s (field k next) at l) where
+module _ (s : List ℕ) (k : Kind) {next : ℕ → Format} {at : ℕ} {l : List Item} {c : ℕ} (e : c ≡ countedAt s at) (h : Reads s (field k next) at l) where
   accepts : Accepts sheet (λ n. drop n s) (λ j n. numberTaken j s n) k next at l
   accepts = field-accepted sheet (λ n. drop n s) (λ j n. numberTaken j s n) (sheet-seen s) k next at l tt (h .reads)
 
@@ -76,6 +91,9 @@ module _ (s : List ℕ) (k : Kind) {next : ℕ → Format} {at : ℕ} {l : List 
     pub inside : at + c / 4294967296 ≤ length s
     pub lowers : k .lower (c % 4294967296) ≡ some (accepts .item .packet)
     pub groups : c / 4294967296 ≡ length (groupsIn (c % 4294967296))
+    pub number : numberIn (drop at s) ≡ Value (c % 4294967296)
+    pub first : c % 4294967296 < 16384 → c / 4294967296 ≡ 1 + getD s at 0 / 128
+    pub single : c % 4294967296 < 128 → getD s at 0 ≡ c % 4294967296
 
   spelled : Spelled
   spelled =
@@ -92,6 +110,12 @@ module _ (s : List ℕ) (k : Kind) {next : ℕ → Format} {at : ℕ} {l : List 
         inside = omega (arith, long, length-drop at s, h .before, g);
         lowers = rw v (n .lowers);
         groups = rw v g;
+        number = rw v (n .number);
+        first = λ m.
+            g ∙ short-groups a (drop (length (groupsIn a)) (drop at s)) (rw v at m) ∙ ap (λ (b : List ℕ). 1 + getD b 0 0 / 128) (sym (w .bytes))
+            ∙ ap (λ (b : ℕ). 1 + b / 128) (first-left at s);
+        single = λ m.
+            sym (first-left at s) ∙ ap (λ (b : List ℕ). getD b 0 0) (w .bytes) ∙ single-group a (drop (length (groupsIn a)) (drop at s)) (rw v at m) ∙ sym v;
       }
 
   -- what is known of a field that is left
@@ -100,17 +124,20 @@ module _ (s : List ℕ) (k : Kind) {next : ℕ → Format} {at : ℕ} {l : List 
     pub lowers : k .lower (c % 4294967296) ≡ some packet
     pub inside : at + c / 4294967296 ≤ length s
     pub groups : c / 4294967296 ≡ length (groupsIn (c % 4294967296))
+    pub number : numberIn (drop at s) ≡ Value (c % 4294967296)
+    pub first : c % 4294967296 < 16384 → c / 4294967296 ≡ 1 + getD s at 0 / 128
+    pub single : c % 4294967296 < 128 → getD s at 0 ≡ c % 4294967296
 
   pub known : Known
-  known = let w = spelled in record { packet = accepts .item .packet; lowers = w .lowers; inside = w .inside; groups = w .groups }
+  known = let w = spelled in record { packet = accepts .item .packet; lowers = w .lowers; inside = w .inside; groups = w .groups; number = w .number; first = w .first; single = w .single }
 
-  field-past : (v : ℕ) → ((u : ℕ) → k .lower (c % 4294967296) ≡ some u → u ≡ v) → Past (Left s) (next v) (at + c / 4294967296) (drop 1 (sheetNumbers l))
+  field-past : (v : ℕ) → ((u : ℕ) → k .lower (c % 4294967296) ≡ some u → u ≡ v) → Past (Reads s) (next v) (at + c / 4294967296) (drop 1 (sheetNumbers l))
   field-past v only =
       let a = accepts in
       let w = spelled in
       record {
         values = a .values;
-        left = record { before = w .inside; ok = h .ok; reads = rw (only (a .item .packet) (w .lowers), w .to) at (a .reads) };
+        reads = record { before = w .inside; ok = h .ok; reads = rw (only (a .item .packet) (w .lowers), w .to) at (a .reads) };
         numbers = sym (ap (λ (m : List Item). drop 1 (sheetNumbers m)) (a .is));
       }
 
@@ -119,22 +146,18 @@ module _ (s : List ℕ) (k : Kind) {next : ℕ → Format} {at : ℕ} {l : List 
 
 module _ (s : List ℕ) (k : Kind) (at : ℕ) {c to a : ℕ} (e : c ≡ countedAt s at) (f : to ≡ at + c / 4294967296) (g : a ≡ c % 4294967296) where
   -- a field at a place, whose packet's value is v
-  pub field-read : (v : ℕ) → ((u : ℕ) → k .lower a ≡ some u → u ≡ v) → FieldRead (Left s) k at to v a
+  pub field-read : (v : ℕ) → ((u : ℕ) → k .lower a ≡ some u → u ≡ v) → FieldRead (Reads s) k at to v a
   field-read v only =
       rw (f, g)
       record { past = λ next l h. field-past s k e h v (λ u d. only u (rw g d)); is = λ next l h. field-number s k e h }
 
   -- one on whose value nothing depends
-  pub field-any : FieldRead (Left s) k at to (valueOr (k .lower a)) a
+  pub field-any : FieldRead (Reads s) k at to (valueOr (k .lower a)) a
   field-any = field-read (valueOr (k .lower a)) (λ u d. sym (ap valueOr d))
 
-  pub number-inside : {part : ℕ → Format → Format} → Ahead (Left s) (λ i. field k (λ u. part u i)) at → to ≤ length s
-  number-inside h = rw f (known s k e (h .left) .inside)
+  pub number-inside : {part : ℕ → Format → Format} → Readable (Reads s) (λ i. field k (λ u. part u i)) at → to ≤ length s
+  number-inside h = rw f (known s k e (h .reads) .inside)
 
 -- a speed is below none
 pub speed-below : {a v : ℕ} → speed .lower a ≡ some v → a < elements.none
-speed-below {a} {v} e = go (leb a 604) refl e
-  where
-    go : (b : Bool) → leb a 604 ≡ b → when b (a / 5) ≡ some v → a < elements.none
-    go true d p = omega (arith, leb-true a 604 d)
-    go false d p = absurd (let z : _≡_ {A = ℕ} 0 1 = cc in omega arith)
+speed-below {a} {v} e = omega (arith, speed-lawful .top a v e)

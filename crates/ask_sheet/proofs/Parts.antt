@@ -4,17 +4,19 @@ use mathlib.Core.Path.{_≡_, refl, sym, ap, _∙_}
 use mathlib.Core.Bool.{Bool, true, false, _&&_}
 use mathlib.Core.List.{List}
 use mathlib.Core.Option.{some}
-use Prim.Native.Nat.{ℕ, _+_, _-_, _/_, _%_, _≤_, _<_}
+use Prim.Native.Nat.{ℕ, zero, suc, _+_, _-_, _/_, _%_, _≤_, _<_}
 use native.Mathlib.Omega.{arith}
 use borrow.Author.Tests.{leb-true}
-use lib.Dec.{leb}
-use lib.ListN.{length, drop}
+use lib.Dec.{leb, lit<}
+use lib.ListN.{length, drop, getD}
 use Rattle.bits.specs.Bits.{Bytes}
 use Rattle.bits.proofs.Tests.{and-left, and-right}
 use Rattle.numbers.specs.Numbers.{groupsIn}
+use Rattle.numbers.proofs.Counting.{count-some, last-count}
 use Rattle.kinds.specs.declared.Item.{Item}
 use Rattle.kinds.specs.Kind.{Kind, when}
 use Rattle.kinds.specs.Kinds.{nidPacketAto, qDiff, class, speed, qFront, nIter, lSp}
+use Rattle.fields.proofs.Lawful.{LawfulKind, narrow, upTo-lawful, speed-lawful, class-lawful}
 use Rattle.format.specs.Format.{Format, end, field, then, read, valuesOf, sheetNumbers}
 use Rattle.format.specs.Media.{sheet}
 use Rattle.segment.specs.Segment.{entries, profile, voltage, current, part, lists, body, fields, sheetFields, wireChanges}
@@ -25,10 +27,23 @@ use Rattle.speed.specs.declared.Train.{Train}
 use Rattle.speed.specs.Speed.{speedIn}
 use Rattle.speed.proofs.Lowering.{when-is}
 use Rattle.elements.specs.Elements.{none}
-use Rattle.elements.specs.Reading.{Ahead, Past, Passes, FieldRead, ProfileRead}
-use Rattle.elements.proofs.Reading.{ahead-field, past-here, then-past, then-is, passes-past}
-use Rattle.ask_sheet.specs.Asking.{Accepted, numbersOf, countedAt, Left, HeadRead}
+use Rattle.elements.specs.Reading.{Readable, Past, Passes, FieldRead, ProfileRead}
+use Rattle.elements.proofs.Reading.{readable-field, past-here, then-past, then-is, passes-past}
+use Rattle.ask_sheet.specs.Asking.{AcceptedSheet, numbersOfSheet, countedAt, shortEnd, entryEnd, Reads, HeadRead}
 use Rattle.ask_sheet.proofs.Numbers.{valueOr, field-read, field-any, known, speed-below}
+
+class-highest : (q : ℕ) → class q .highest < 16384
+class-highest zero = lit< tt
+class-highest (suc q) = lit< tt
+
+q-diff-lawful : LawfulKind qDiff
+q-diff-lawful = upTo-lawful 2 2 (narrow tt) (lit< tt)
+
+front-lawful : LawfulKind qFront
+front-lawful = upTo-lawful 1 1 (narrow tt) (lit< tt)
+
+count-lawful : LawfulKind (nIter 31)
+count-lawful = upTo-lawful 5 31 (narrow tt) (lit< tt)
 
 module _ (s : List ℕ) where
   -- a number whose groups are counted: the place after it, and its value
@@ -39,30 +54,89 @@ module _ (s : List ℕ) where
 
   module _ {at c to a : ℕ} (n : NumberAt at c to a) where
     -- a field whose number in the sheet is its value
-    pub same-read : (k : Kind) → ((u : ℕ) → k .lower u ≡ when (k .allowed u) u) → FieldRead (Left s) k at to a a
+    pub same-read : (k : Kind) → ((u : ℕ) → k .lower u ≡ when (k .allowed u) u) → FieldRead (Reads s) k at to a a
     same-read k q = field-read s k at (n .reads) (n .next) (n .value) a (λ u d. when-is (k .allowed a) a u (sym (q a) ∙ d))
 
-    pub class-read : (q : ℕ) → FieldRead (Left s) (class q) at to (valueOr (class q .lower a)) a
+    pub class-read : (q : ℕ) → FieldRead (Reads s) (class q) at to (valueOr (class q .lower a)) a
     class-read q = field-any s (class q) at (n .reads) (n .next) (n .value)
 
-    pub speed-read : FieldRead (Left s) speed at to (valueOr (speed .lower a)) a
+    pub speed-read : FieldRead (Reads s) speed at to (valueOr (speed .lower a)) a
     speed-read = field-any s speed at (n .reads) (n .next) (n .value)
 
-    pub speed-small : (part : ℕ → Format → Format) → Ahead (Left s) (λ i. field speed (λ u. part u i)) at → a < none
-    speed-small part h = rw (n .value) (speed-below (known s speed (n .reads) (h .left) .lowers))
+    pub speed-small : (part : ℕ → Format → Format) → Readable (Reads s) (λ i. field speed (λ u. part u i)) at → a < none
+    speed-small part h = rw (n .value) (speed-below (known s speed (n .reads) (h .reads) .lowers))
 
   -- the third number of an entry is a speed
-  pub entry-small : {at b d to q g w c₀ c₁ c₂ : ℕ} → NumberAt at c₀ b q → NumberAt b c₁ d g → NumberAt d c₂ to w → Ahead (Left s) entry at → w < none
+  pub entry-small : {at b d to q g w c₀ c₁ c₂ : ℕ} → NumberAt at c₀ b q → NumberAt b c₁ d g → NumberAt d c₂ to w → Readable (Reads s) entry at → w < none
   entry-small {q = q} x y z h =
       speed-small z (λ u f. f)
-      (ahead-field (Left s) (class-read y q) (λ c f. then speed f) (ahead-field (Left s) (same-read x qDiff (λ u. refl)) (λ q f. then (class q) (then speed f)) h))
+      (readable-field (Reads s) (class-read y q) (λ c f. then speed f) (readable-field (Reads s) (same-read x qDiff (λ u. refl)) (λ q f. then (class q) (then speed f)) h))
 
-  -- what stands before an element's entries
-  pub entries-ahead : {at b d to v q n c₀ c₁ c₂ : ℕ} → NumberAt at c₀ b v → NumberAt b c₁ d q → NumberAt d c₂ to n → Ahead (Left s) profile at → Ahead (Left s) (entries n) to
-  entries-ahead x y z h =
-      ahead-field (Left s) (same-read z (nIter 31) (λ u. refl)) entries
-      (ahead-field (Left s) (same-read y qFront (λ u. refl)) (λ q f. field (nIter 31) λ n. entries n f)
-      (ahead-field (Left s) (speed-read x) (λ v f. then qFront (field (nIter 31) λ n. entries n f)) h))
+  -- ---- numbers by their first bytes
+
+  module _ {k : Kind} (w : LawfulKind k) {next : ℕ → Format} {at : ℕ} {l : List Item} (h : Reads s (field k next) at l) where
+    -- a number of at most two groups, and where it ends
+    short-at : k .highest < 16384 → NumberAt at (countedAt s at) (shortEnd s at) (countedAt s at % 4294967296)
+    short-at m =
+        let n = known s k refl h in
+        record { reads = refl; next = omega (arith, n .first (omega (arith, w .top (countedAt s at % 4294967296) (n .packet) (n .lowers)))); value = refl }
+
+    -- and one of a single group, which is its byte
+    single-at : k .highest < 128 → NumberAt at (countedAt s at) (at + 1) (getD s at 0)
+    single-at m =
+        let n = known s k refl h in
+        let small : countedAt s at % 4294967296 < 128 = omega (arith, w .top (countedAt s at % 4294967296) (n .packet) (n .lowers)) in
+        record { reads = refl; next = omega (arith, n .groups ∙ last-count (countedAt s at % 4294967296) small); value = n .single small }
+
+    here-inside : at < length s
+    here-inside = let n = known s k refl h in omega (arith, n .inside, n .groups, count-some (countedAt s at % 4294967296))
+
+  -- ---- entries passed over
+
+  -- the three numbers of an entry
+  module _ {f : Format} {at : ℕ} (l : List Item) (h : Reads s (entry f) at l) where
+    q-diff-past : Past (Reads s) (then (class (getD s at 0)) (then speed f)) (at + 1) (drop 1 (sheetNumbers l))
+    q-diff-past = then-past (Reads s) (same-read (single-at q-diff-lawful h (lit< tt)) qDiff (λ u. refl)) 0 (sheetNumbers l) (past-here (Reads s) l h)
+
+    class-past : Past (Reads s) (then speed f) (shortEnd s (at + 1)) (drop 2 (sheetNumbers l))
+    class-past =
+        let q = getD s at 0 in
+        then-past (Reads s) (class-read (short-at (class-lawful q) (q-diff-past .reads) (class-highest q)) q) 1 (sheetNumbers l) q-diff-past
+
+    entry-past : Past (Reads s) f (entryEnd s at) (drop 3 (sheetNumbers l))
+    entry-past = then-past (Reads s) (speed-read (short-at speed-lawful (class-past .reads) (lit< tt))) 2 (sheetNumbers l) class-past
+
+  pub entry-pass : (at : ℕ) → Passes (Reads s) entry (drop 3) at (entryEnd s at)
+  entry-pass at = record { past = λ f l h. entry-past l h }
+
+  -- where the code looks, bytes are
+  module _ {at : ℕ} (r : Readable (Reads s) entry at) where
+    pub class-inside : at + 1 < length s
+    class-inside = here-inside (class-lawful (getD s at 0)) (q-diff-past (r .values) (r .reads) .reads)
+
+    pub speed-inside : shortEnd s (at + 1) < length s
+    speed-inside = here-inside speed-lawful (class-past (r .values) (r .reads) .reads)
+
+  -- ---- what an element begins with: after V_STATIC, two numbers of a single group
+
+  module _ {at c b v : ℕ} (n : NumberAt at c b v) (r : Readable (Reads s) profile at) where
+    front-readable : Readable (Reads s) (λ f. then qFront (field (nIter 31) λ m. entries m f)) b
+    front-readable = readable-field (Reads s) (speed-read n) (λ v f. then qFront (field (nIter 31) λ m. entries m f)) r
+
+    pub front-inside : b < length s
+    front-inside = here-inside front-lawful (front-readable .reads)
+
+    pub front-at : {q : ℕ} → q ≡ getD s b 0 → NumberAt b (countedAt s b) (b + 1) q
+    front-at e = let m = single-at front-lawful (front-readable .reads) (lit< tt) in record { reads = m .reads; next = m .next; value = e ∙ m .value }
+
+    count-readable : Readable (Reads s) (λ f. field (nIter 31) λ m. entries m f) (b + 1)
+    count-readable = readable-field (Reads s) (same-read (front-at refl) qFront (λ u. refl)) (λ q f. field (nIter 31) λ m. entries m f) front-readable
+
+    pub count-inside : b + 1 < length s
+    count-inside = here-inside count-lawful (count-readable .reads)
+
+    pub count-at : {k : ℕ} → k ≡ getD s (b + 1) 0 → NumberAt (b + 1) (countedAt s (b + 1)) (b + 2) k
+    count-at e = let m = single-at count-lawful (count-readable .reads) (lit< tt) in record { reads = m .reads; next = omega (arith, m .next); value = e ∙ m .value }
 
   -- ---- the head
 
@@ -70,21 +144,21 @@ module _ (s : List ℕ) where
   pub record Running (first end at i to : ℕ) : Type 0 where
     pub from : first ≤ i
     pub up : i ≤ end
-    pub going : (f : Format) (l : List Item) → Left s (runs first (end - first) f) at l → Past (Left s) (runs i (end - i) f) to (drop (i - first) (sheetNumbers l))
+    pub going : (f : Format) (l : List Item) → Reads s (runs first (end - first) f) at l → Past (Reads s) (runs i (end - i) f) to (drop (i - first) (sheetNumbers l))
 
   pub running-all : {first end at : ℕ} → first ≤ end → Running first end at first at
   running-all {first} {end} {at} h =
-      record { from = omega arith; up = h; going = λ f l i. let z : first - first ≡ 0 = omega arith in rw z (past-here (Left s) l i) }
+      record { from = omega arith; up = h; going = λ f l i. let z : first - first ≡ 0 = omega arith in rw z (past-here (Reads s) l i) }
 
   module _ {first end at i to : ℕ} (g : Running first end at i to) where
     module _ (h : i < end) where
       runs-next : (f : Format) → runs i (end - i) f ≡ then (kindAt i) (runs (i + 1) (end - (i + 1)) f)
       runs-next f = let z : end - i - 1 ≡ end - (i + 1) = omega arith in rw (← z) (runs-more i (end - i) (omega arith) f)
 
-      pub running-ahead : Ahead (Left s) (runs first (end - first)) at → Ahead (Left s) (λ f. then (kindAt i) (runs (i + 1) (end - (i + 1)) f)) to
-      running-ahead a =
-          let p = g .going (a .follows) (a .values) (a .left) in
-          record { follows = a .follows; values = p .values; left = rw (runs-next (a .follows)) at (p .left) }
+      pub running-readable : Readable (Reads s) (runs first (end - first)) at → Readable (Reads s) (λ f. then (kindAt i) (runs (i + 1) (end - (i + 1)) f)) to
+      running-readable a =
+          let p = g .going (a .follows) (a .values) (a .reads) in
+          record { follows = a .follows; values = p .values; reads = rw (runs-next (a .follows)) at (p .reads) }
 
       pub running-next : {c next : ℕ} → c ≡ countedAt s to → next ≡ to + c / 4294967296 → Running first end at (i + 1) next
       running-next {c} {next} e d =
@@ -94,10 +168,10 @@ module _ (s : List ℕ) where
             going = λ f l u.
                 let p = rw (runs-next f) at (g .going f l u) in
                 let z : i - first + 1 ≡ i + 1 - first = omega (arith, g .from) in
-                rw z at (then-past (Left s) (field-any s (kindAt i) to e d refl) (i - first) (sheetNumbers l) p);
+                rw z at (then-past (Reads s) (field-any s (kindAt i) to e d refl) (i - first) (sheetNumbers l) p);
           }
 
-    pub running-end : end ≤ i → Passes (Left s) (runs first (end - first)) (drop (end - first)) at to
+    pub running-end : end ≤ i → Passes (Reads s) (runs first (end - first)) (drop (end - first)) at to
     running-end h =
         let e : i ≡ end = omega (arith, g .up) in
         record { past = λ f l u. let p = rw e at (g .going f l u) in rw (runs-none end (end - end) (omega arith) f) at p }
@@ -121,43 +195,43 @@ module _ (s : List ℕ) where
   unfolding sheetFields fields body lists runs kindAt
   sheet-part = refl
 
-  module _ (e : Accepted s) (ok : Bytes s) where
-    all-left : Left s (then nidPacketAto headPart) 0 (valuesOf (fromSheet wireChanges s))
+  module _ (e : AcceptedSheet s) (ok : Bytes s) where
+    all-reads : Reads s (then nidPacketAto headPart) 0 (valuesOf (fromSheet wireChanges s))
     unfolding fromSheet
-    all-left = record { before = omega arith; ok = ok; reads = ap (λ (f : Format). read sheet f s) (sym sheet-part) ∙ e }
+    all-reads = record { before = omega arith; ok = ok; reads = ap (λ (f : Format). read sheet f s) (sym sheet-part) ∙ e }
 
     -- the fields after the packet number
-    pub head-past : Past (Left s) headPart 1 (drop 1 (numbersOf s))
+    pub head-past : Past (Reads s) headPart 1 (drop 1 (numbersOfSheet s))
     head-past =
-        let w = known s nidPacketAto refl all-left in
+        let w = known s nidPacketAto refl all-reads in
         let g : countedAt s 0 / 4294967296 ≡ 1 = w .groups ∙ ap (λ (a : ℕ). length (groupsIn a)) (number-first (w .lowers)) ∙ one-group in
         let d : 1 ≡ 0 + countedAt s 0 / 4294967296 = omega arith in
-        then-past (Left s) (field-any s nidPacketAto 0 refl d refl) 0 (numbersOf s) (past-here (Left s) (valuesOf (fromSheet wireChanges s)) all-left)
+        then-past (Reads s) (field-any s nidPacketAto 0 refl d refl) 0 (numbersOfSheet s) (past-here (Reads s) (valuesOf (fromSheet wireChanges s)) all-reads)
 
     -- L_SP, and the fields after it
-    pub head-ahead : Ahead (Left s) (runs 0 9) 1
-    head-ahead = record { follows = field lSp λ lsp. runs 10 3 (threeLists lsp end); values = head-past .values; left = head-past .left }
+    pub head-readable : Readable (Reads s) (runs 0 9) 1
+    head-readable = record { follows = field lSp λ lsp. runs 10 3 (threeLists lsp end); values = head-past .values; reads = head-past .reads }
 
-    module _ {at : ℕ} (r : Passes (Left s) (runs 0 9) (drop 9) 1 at) where
-      length-past : Past (Left s) (field lSp λ lsp. runs 10 3 (threeLists lsp end)) at (drop 10 (numbersOf s))
-      length-past = passes-past (Left s) 9 r 1 (numbersOf s) head-past
+    module _ {at : ℕ} (r : Passes (Reads s) (runs 0 9) (drop 9) 1 at) where
+      length-past : Past (Reads s) (field lSp λ lsp. runs 10 3 (threeLists lsp end)) at (drop 10 (numbersOfSheet s))
+      length-past = passes-past (Reads s) 9 r 1 (numbersOfSheet s) head-past
 
-      pub length-ahead : Ahead (Left s) (λ i. field lSp λ lsp. runs 10 3 (threeLists lsp i)) at
-      length-ahead = record { follows = end; values = length-past .values; left = length-past .left }
+      pub length-readable : Readable (Reads s) (λ i. field lSp λ lsp. runs 10 3 (threeLists lsp i)) at
+      length-readable = record { follows = end; values = length-past .values; reads = length-past .reads }
 
       module _ {c to a : ℕ} (n : NumberAt at c to a) where
-        after-past : Past (Left s) (runs 10 3 (threeLists a end)) to (drop 11 (numbersOf s))
-        after-past = then-past (Left s) (same-read n lSp (λ u. refl)) 10 (numbersOf s) length-past
+        after-past : Past (Reads s) (runs 10 3 (threeLists a end)) to (drop 11 (numbersOfSheet s))
+        after-past = then-past (Reads s) (same-read n lSp (λ u. refl)) 10 (numbersOfSheet s) length-past
 
-        pub after-ahead : Ahead (Left s) (runs 10 3) to
-        after-ahead = record { follows = threeLists a end; values = after-past .values; left = after-past .left }
+        pub after-readable : Readable (Reads s) (runs 10 3) to
+        after-readable = record { follows = threeLists a end; values = after-past .values; reads = after-past .reads }
 
-        pub head-read : {p : ℕ} → Passes (Left s) (runs 10 3) (drop 3) to p → HeadRead s a p
+        pub head-read : {p : ℕ} → Passes (Reads s) (runs 10 3) (drop 3) to p → HeadRead s a p
         head-read q =
-            record { length-is = sym (then-is (Left s) (same-read n lSp (λ u. refl)) 10 (numbersOf s) length-past); past = passes-past (Left s) 3 q 11 (numbersOf s) after-past }
+            record { length-is = sym (then-is (Reads s) (same-read n lSp (λ u. refl)) 10 (numbersOfSheet s) length-past); past = passes-past (Reads s) 3 q 11 (numbersOfSheet s) after-past }
 
   -- ---- the whole
 
   module _ {lsp at : ℕ} (h : HeadRead s lsp at) where
-    pub speed-asked : {t : Train} {x v : ℕ} → ProfileRead (Left s) t lsp x at v → v ≡ speedIn t x (numbersOf s)
-    speed-asked r = r .said (part voltage wireChanges lsp (part current wireChanges lsp end)) (h .past .values) (h .past .left) ∙ rw (h .past .numbers, h .length-is)
+    pub speed-asked : {t : Train} {x v : ℕ} → ProfileRead (Reads s) t lsp x at v → v ≡ speedIn t x (numbersOfSheet s)
+    speed-asked r = r .said (part voltage wireChanges lsp (part current wireChanges lsp end)) (h .past .values) (h .past .reads) ∙ rw (h .past .numbers, h .length-is)

@@ -1,14 +1,15 @@
 // The permitted speed at a place of an accepted sheet, worked out element by element. What was accepted is not judged again.
 ghost use mathlib.Core.Path.{_≡_};
 ghost use Prim.Native.Nat.{_+_, _-_, _/_, _%_, _^_, _≤_, _<_};
-ghost use lib.ListN.{drop};
+ghost use lib.ListN.{length, drop};
+ghost use Rattle.bits.specs.Bits.{Bytes};
 ghost use Rattle.segment.specs.Segment as segment;
 ghost use Rattle.segment.specs.Parts as parts;
 ghost use Rattle.segment.specs.Parts.{runs};
-ghost use Rattle.speed.specs.Speed.{speedIn};
+ghost use Rattle.speed.specs.Speed.{afterEntries, speedIn};
 ghost use Rattle.elements.specs.Elements.{none};
-ghost use Rattle.elements.specs.Reading.{Ahead, Passes, EntryRead, EntriesRead, ElementRead, ChangesRead, ProfileRead};
-ghost use Rattle.ask_sheet.specs.Asking.{Accepted, numbersOf, Left, HeadRead};
+ghost use Rattle.elements.specs.Reading.{Readable, Passes, EntryRead, EntriesRead, Opens, ElementRead, Ended, Finished, ChangesRead, ProfileRead};
+ghost use Rattle.ask_sheet.specs.Asking.{AcceptedSheet, numbersOfSheet, NumberHere, numberEnd, shortEnd, Reads, HeadRead};
 use elements::Lows;
 use elements::Open;
 use speed::Train;
@@ -26,12 +27,6 @@ const PROFILE: u32 = 13;
 // The lowest speeds with an entry, and the byte after it.
 pub struct Entered {
     pub lows: Lows,
-    pub next: usize,
-}
-
-// The speed of an element, and the byte after its entries.
-pub struct Spoken {
-    pub speed: u32,
     pub next: usize,
 }
 
@@ -63,8 +58,8 @@ fn after(at: usize, number: u64) -> usize
 
 // The lowest speeds with the entry at the byte at.
 fn entry(s: &[u8], at: usize, train: Train, lows: Lows) -> Entered
-    requires { ⌜ Ahead (Left (now s)) (parts.entry) at ⌝ }
-    ensures { λ r. ⌜ EntryRead (Left (now (s .entry))) train lows (r .lows) at (r .next) ⌝ }
+    requires { ⌜ Readable (Reads (now s)) (parts.entry) at ⌝ }
+    ensures { λ r. ⌜ EntryRead (Reads (now (s .entry))) train lows (r .lows) at (r .next) ⌝ }
 {
     let q_diff = numbers::counted_at(s, at);
     let second = after(at, q_diff);
@@ -79,9 +74,9 @@ fn entry(s: &[u8], at: usize, train: Train, lows: Lows) -> Entered
 }
 
 // The speed of an element, from its V_STATIC and its entries.
-fn entries(s: &[u8], at: usize, count: u32, train: Train, v_static: u32) -> Spoken
-    requires { ⌜ («v_static» < none) × Ahead (Left (now s)) (segment.entries count) at ⌝ }
-    ensures { λ r. ⌜ EntriesRead (Left (now (s .entry))) train «v_static» count at (r .next) (r .speed) ⌝ }
+fn entries(s: &[u8], at: usize, count: u32, train: Train, v_static: u32) -> u32
+    requires { ⌜ («v_static» < none) × Readable (Reads (now s)) (segment.entries count) at ⌝ }
+    ensures { λ r. ⌜ EntriesRead (Reads (now (s .entry))) train «v_static» count at r ⌝ }
 {
     let mut lows = elements::no_lows();
     let mut to = at;
@@ -92,37 +87,88 @@ fn entries(s: &[u8], at: usize, count: u32, train: Train, v_static: u32) -> Spok
         to = e.next;
         left -= 1;
     }
-    Spoken {
-        speed: lows.speed(v_static),
-        next: to,
-    }
+    lows.speed(v_static)
 }
 
-// The element at the byte at, which starts at the location start.
-fn element(s: &[u8], at: usize, train: Train, start: u32) -> Found
-    requires { ⌜ Ahead (Left (now s)) (segment.profile) at ⌝ }
-    ensures { λ r. ⌜ ElementRead (Left (now (s .entry))) train at (r .next) (r .open) × (r .open .start ≡ start) ⌝ }
+fn wide(x: u8) -> u32
+    ensures { λ r. ⌜ r ≡ x ⌝ }
+{
+    x as u32
+}
+
+// The byte after a number of at most two groups: its first byte tells how many.
+fn short_end(s: &[u8], at: usize) -> usize
+    requires { ⌜ at < length (now s) ⌝ }
+    ensures { λ r. ⌜ r ≡ shortEnd (now (s .entry)) at ⌝ }
+{
+    at + 1 + (wide(s[at]) / 128) as usize
+}
+
+// The byte after an element's entries, which are passed over: Q_DIFF has one group, the class and the speed one or two.
+fn entries_end(s: &[u8], at: usize, count: u32) -> usize
+    requires { ⌜ Readable (Reads (now s)) (segment.entries count) at ⌝ }
+    ensures { λ r. ⌜ Passes (Reads (now (s .entry))) (segment.entries count) (afterEntries count) at r ⌝ }
+{
+    let mut to = at;
+    let mut left = count;
+    while 0 < left {
+        to = short_end(s, short_end(s, to + 1));
+        left -= 1;
+    }
+    to
+}
+
+// The element at the byte at, which starts at the location start: Q_FRONT and N_ITER have one group. Its entries are passed over.
+fn element(s: &[u8], at: usize, start: u32) -> Found
+    requires { ⌜ Readable (Reads (now s)) (segment.profile) at ⌝ }
+    ensures { λ r. ⌜ ElementRead (Reads (now (s .entry))) at (r .next) (r .open) × (r .open .start ≡ start) ⌝ }
 {
     let v_static = numbers::counted_at(s, at);
     let second = after(at, v_static);
-    let q_front = numbers::counted_at(s, second);
-    let third = after(second, q_front);
-    let count = numbers::counted_at(s, third);
-    let e = entries(s, after(third, count), value(count), train, value(v_static));
+    let q_front = wide(s[second]);
+    let count = wide(s[second + 1]);
+    let entries = second + 2;
+    let next = entries_end(s, entries, count);
     Found {
         open: Open {
             start,
-            speed: e.speed,
-            q_front: value(q_front),
+            v_static: value(v_static),
+            q_front,
+            count,
+            entries,
         },
-        next: e.next,
+        next,
     }
+}
+
+// The lowest speed held at x, once the open element ends at end. Its entries are read only where it holds.
+fn ended(s: &[u8], open: Open, train: Train, held: u32, end: u32, x: u32) -> u32
+    requires { ⌜ Opens (Reads (now s)) «open» ⌝ }
+    ensures { λ r. ⌜ Ended (Reads (now (s .entry))) train held end x «open» r ⌝ }
+{
+    if open.holds(train, end, x) {
+        let speed = entries(s, open.entries, open.count, train, open.v_static);
+        return elements::lower(held, speed);
+    }
+    held
+}
+
+// The permitted speed at x, once the last element ends at lsp.
+fn finished(s: &[u8], open: Open, train: Train, held: u32, lsp: u32, x: u32) -> u32
+    requires { ⌜ Opens (Reads (now s)) «open» ⌝ }
+    ensures { λ r. ⌜ Finished (Reads (now (s .entry))) train held lsp x «open» r ⌝ }
+{
+    if open.holds(train, lsp, x) {
+        let speed = entries(s, open.entries, open.count, train, open.v_static);
+        return elements::permitted(elements::lower(held, speed));
+    }
+    elements::permitted(held)
 }
 
 // The permitted speed at x, from the changes after the first element. The last element ends at lsp.
 fn changes(s: &[u8], at: usize, count: u32, train: Train, lsp: u32, x: u32, first: Open) -> u32
-    requires { ⌜ (first .speed < none) × Ahead (Left (now s)) (segment.changes segment.profile lsp (first .start) count) at ⌝ }
-    ensures { λ r. ⌜ ChangesRead (Left (now (s .entry))) train lsp x first count at r ⌝ }
+    requires { ⌜ Opens (Reads (now s)) first × Readable (Reads (now s)) (segment.changes segment.profile lsp (first .start) count) at ⌝ }
+    ensures { λ r. ⌜ ChangesRead (Reads (now (s .entry))) train lsp x first count at r ⌝ }
 {
     let mut held = elements::NONE;
     let mut open = first;
@@ -131,21 +177,21 @@ fn changes(s: &[u8], at: usize, count: u32, train: Train, lsp: u32, x: u32, firs
     while 0 < left {
         let location = numbers::counted_at(s, to);
         let start = value(location);
-        let e = element(s, after(to, location), train, start);
-        held = open.ended(held, train, start, x);
+        let e = element(s, after(to, location), start);
+        held = ended(s, open, train, held, start, x);
         open = e.open;
         to = e.next;
         left -= 1;
     }
-    elements::permitted(open.ended(held, train, lsp, x))
+    finished(s, open, train, held, lsp, x)
 }
 
 // The permitted speed at x, from the profile at the byte at: its first element, the count of its changes, and the changes.
 fn profile(s: &[u8], at: usize, train: Train, lsp: u32, x: u32) -> u32
-    requires { ⌜ Ahead (Left (now s)) (segment.part segment.profile 31 lsp) at ⌝ }
-    ensures { λ r. ⌜ ProfileRead (Left (now (s .entry))) train lsp x at r ⌝ }
+    requires { ⌜ Readable (Reads (now s)) (segment.part segment.profile 31 lsp) at ⌝ }
+    ensures { λ r. ⌜ ProfileRead (Reads (now (s .entry))) train lsp x at r ⌝ }
 {
-    let first = element(s, at, train, 0);
+    let first = element(s, at, 0);
     let count = numbers::counted_at(s, first.next);
     changes(
         s,
@@ -158,15 +204,27 @@ fn profile(s: &[u8], at: usize, train: Train, lsp: u32, x: u32) -> u32
     )
 }
 
+// The byte after a number of any groups: the last is the first byte below 128.
+fn number_end(s: &[u8], at: usize) -> usize
+    requires { ⌜ Bytes (now s) × NumberHere (now s) at ⌝ }
+    ensures { λ r. ⌜ r ≡ numberEnd (now (s .entry)) at ⌝ }
+{
+    let mut to = at;
+    while 128 <= wide(s[to]) {
+        to += 1;
+    }
+    to + 1
+}
+
 // The byte after the numbers of the fields from first up to end.
 fn run(s: &[u8], at: usize, first: u32, end: u32) -> usize
-    requires { ⌜ (first ≤ end) × Ahead (Left (now s)) (runs first (end - first)) at ⌝ }
-    ensures { λ r. ⌜ Passes (Left (now (s .entry))) (runs first (end - first)) (drop (end - first)) at r ⌝ }
+    requires { ⌜ (first ≤ end) × Readable (Reads (now s)) (runs first (end - first)) at ⌝ }
+    ensures { λ r. ⌜ Passes (Reads (now (s .entry))) (runs first (end - first)) (drop (end - first)) at r ⌝ }
 {
     let mut to = at;
     let mut i = first;
     while i < end {
-        to = after(to, numbers::counted_at(s, to));
+        to = number_end(s, to);
         i += 1;
     }
     to
@@ -174,7 +232,7 @@ fn run(s: &[u8], at: usize, first: u32, end: u32) -> usize
 
 // The head of an accepted sheet.
 pub fn head(sheet: &[u8]) -> Start
-    requires { ⌜ Accepted (now sheet) ⌝ }
+    requires { ⌜ AcceptedSheet (now sheet) ⌝ }
     ensures { λ r. ⌜ HeadRead (now (sheet .entry)) (r .lsp) (r .profile) ⌝ }
 {
     let at = run(sheet, FIRST, 0, LENGTH);
@@ -188,7 +246,7 @@ pub fn head(sheet: &[u8]) -> Start
 // The permitted speed for a train at a place of an accepted sheet, whose head was read.
 pub fn permitted(sheet: &[u8], start: Start, train: Train, x: u32) -> u32
     requires { ⌜ HeadRead (now sheet) (start .lsp) (start .profile) ⌝ }
-    ensures { λ r. ⌜ r ≡ speedIn train x (numbersOf (now (sheet .entry))) ⌝ }
+    ensures { λ r. ⌜ r ≡ speedIn train x (numbersOfSheet (now (sheet .entry))) ⌝ }
 {
     profile(sheet, start.profile, train, start.lsp, x)
 }

@@ -1,19 +1,13 @@
-// A field of up to 32 bits at any bit of a slice, read and stored through the eight bytes that hold it.
+// A field of up to 32 bits at any bit of a slice, read through the eight bytes that hold it.
 ghost use mathlib.Core.Path.{_≡_};
 ghost use Prim.Native.Nat.{_+_, _*_, _-_, _/_, _%_, _^_, _≤_, _<_, min};
 ghost use lib.ListN.{length};
-ghost use Rattle.bits.specs.Bits.{fieldAt, withField};
+ghost use Rattle.bits.specs.Bits.{fieldAt};
 
 fn wide(x: u8) -> u64
     ensures { λ r. ⌜ r ≡ x ⌝ }
 {
     x as u64
-}
-
-fn low(x: u64) -> u8
-    ensures { λ r. ⌜ r ≡ x % 256 ⌝ }
-{
-    (x % 256) as u8
 }
 
 fn power(k: u32) -> u64
@@ -53,37 +47,6 @@ fn eight(s: &[u8], i: usize) -> u64
     four(s, i + 4) + four(s, i) * 4294967296
 }
 
-fn put_byte(s: &mut [u8], i: usize, v: u64)
-    requires { ⌜ i < length (now s) ⌝ }
-    ensures { λ _. ⌜ now (s .exit) ≡ withField (now (s .entry)) (8 * i) 8 v ⌝ }
-{
-    s[i] = low(v);
-}
-
-fn put_two(s: &mut [u8], i: usize, v: u64)
-    requires { ⌜ i + 2 ≤ length (now s) ⌝ }
-    ensures { λ _. ⌜ now (s .exit) ≡ withField (now (s .entry)) (8 * i) 16 v ⌝ }
-{
-    put_byte(s, i, v / 256);
-    put_byte(s, i + 1, v);
-}
-
-fn put_four(s: &mut [u8], i: usize, v: u64)
-    requires { ⌜ i + 4 ≤ length (now s) ⌝ }
-    ensures { λ _. ⌜ now (s .exit) ≡ withField (now (s .entry)) (8 * i) 32 v ⌝ }
-{
-    put_two(s, i, v / 65536);
-    put_two(s, i + 2, v);
-}
-
-fn put_eight(s: &mut [u8], i: usize, v: u64)
-    requires { ⌜ i + 8 ≤ length (now s) ⌝ }
-    ensures { λ _. ⌜ now (s .exit) ≡ withField (now (s .entry)) (8 * i) 64 v ⌝ }
-{
-    put_four(s, i, v / 4294967296);
-    put_four(s, i + 4, v);
-}
-
 // ---- a field of eight bytes
 
 // Where the eight bytes start that hold a field at the bit at, in a slice of n: at the field's first byte, or with the last eight.
@@ -100,16 +63,6 @@ fn cut(x: u64, d: u32, width: u32) -> u32
     ensures { λ r. ⌜ r ≡ x / 2 ^ d % 2 ^ width ⌝ }
 {
     ((x >> d) % power(width)) as u32
-}
-
-// x with the lowest width bits of v in that field.
-fn paste(x: u64, d: u32, width: u32, v: u32) -> u64
-    requires { ⌜ (width ≤ 32) × (d < 64) × (d + width ≤ 64) ⌝ }
-    ensures { λ r. ⌜ r ≡ x - x / 2 ^ d % 2 ^ width * 2 ^ d + v % 2 ^ width * 2 ^ d ⌝ }
-{
-    let p = power(d);
-    let q = power(width);
-    x - x / p % q * p + v as u64 % q * p
 }
 
 // ---- a field of a slice; in a slice shorter than eight bytes, one bit after the other
@@ -143,40 +96,4 @@ pub fn read_field(s: &[u8], at: usize, width: u32) -> u32
         return read_field(&s[0..], at, width - 1) * 2 + bit(s, at + (width - 1) as usize);
     }
     read_window(s, at, width)
-}
-
-// Stores the lowest bit of b in the bit at.
-fn store_bit(s: &mut [u8], at: usize, b: u32)
-    requires { ⌜ at < 8 * length (now s) ⌝ }
-    ensures { λ _. ⌜ now (s .exit) ≡ withField (now (s .entry)) at 1 b ⌝ }
-{
-    let i = at / 8;
-    let x = byte(s, i);
-    put_byte(s, i, paste(x, (7 - at % 8) as u32, 1, b));
-}
-
-// The same for the lowest width bits of v, in a slice of at least eight bytes.
-fn store_long(s: &mut [u8], at: usize, width: u32, v: u32)
-    requires { ⌜ (0 < width) × (width ≤ 32) × (at + width ≤ 8 * length (now s)) × (8 ≤ length (now s)) ⌝ }
-    ensures { λ _. ⌜ now (s .exit) ≡ withField (now (s .entry)) at width v ⌝ }
-{
-    let i = start(at, s.len());
-    let x = eight(s, i);
-    put_eight(s, i, paste(x, (64 - (at - 8 * i)) as u32 - width, width, v));
-}
-
-// Stores the lowest width bits of v in the field at the bit at.
-pub fn store_field(s: &mut [u8], at: usize, width: u32, v: u32)
-    requires { ⌜ (width ≤ 32) × (at + width ≤ 8 * length (now s)) × (at < 2 ^ 32) ⌝ }
-    ensures { λ _. ⌜ now (s .exit) ≡ withField (now (s .entry)) at width v ⌝ }
-{
-    if width == 0 {
-        return;
-    }
-    if 8 <= s.len() {
-        store_long(s, at, width, v);
-        return;
-    }
-    store_bit(s, at, v >> (width - 1));
-    store_field(&mut s[0..], at + 1, width - 1, v);
 }

@@ -1,21 +1,17 @@
 -- The two conversions: an answer and the whole room, for any bytes and any room.
 -- Assumes nothing.
-use mathlib.Core.Path.{_≡_}
-use mathlib.Core.Bool.{Bool, cond}
+use mathlib.Core.Bool.{cond}
 use mathlib.Core.List.{List, _++_}
-use Prim.Native.Nat.{ℕ, _+_, _≤_}
+use Prim.Native.Nat.{ℕ}
 use lib.Dec.{ltb}
-use lib.ListN.{length, take, drop}
-use Rattle.bits.specs.Bits.{bytesOfBits}
+use lib.ListN.{length, drop}
 use Rattle.kinds.specs.declared.Item.{Item}
-use Rattle.format.specs.Format.{Read, accepted, refused, read, write, valuesOf}
-use Rattle.format.specs.Media.{packet, sheet}
-use Rattle.segment.specs.Segment.{body, fields, wireChanges}
-use Rattle.segment.specs.Frame.{frame}
-use Rattle.segment.specs.Judgement.{segmentNumber, fromPacket, fromSheet, afterNumber, toPacket, toSheet}
-use Rattle.format.specs.Places.{rest, Placed}
+use Rattle.format.specs.Format.{Read, accepted, refused}
+use Rattle.segment.specs.Segment.{wireChanges}
+use Rattle.segment.specs.Judgement.{fromPacket, fromSheet, toPacket, toSheet}
 use Rattle.convert.specs.declared.Converted.{Converted}
 
+-- "answer, length and all bytes of the room"
 pub record Outcome : Type 0 where
   pub answer : Converted
   pub room : List ℕ
@@ -25,65 +21,22 @@ abbrev pub refusedWith : ℕ → List ℕ → Outcome
 refusedWith r room = record { answer = record { refusal = r; length = 0 }; room = room }
 
 -- "Success returns the length, with the bytes past it as they were"
-abbrev pub placed : List ℕ → List ℕ → Outcome
-placed bytes room = record { answer = record { refusal = 0; length = length bytes }; room = bytes ++ drop (length bytes) room }
+abbrev pub successWith : List ℕ → List ℕ → Outcome
+successWith bytes room = record { answer = record { refusal = 0; length = length bytes }; room = bytes ++ drop (length bytes) room }
 
 -- "8: result longer than the lent room"
 abbrev pub fitted : List ℕ → List ℕ → Outcome
-fitted bytes room = cond (ltb (length room) (length bytes)) (refusedWith 8 room) (placed bytes room)
+fitted bytes room = cond (ltb (length room) (length bytes)) (refusedWith 8 room) (successWith bytes room)
 
 -- "Conversions then judge 8"
 abbrev pub converted : (List Item → List ℕ) → Read → List ℕ → Outcome
 converted write (refused r left) room = refusedWith r room
 converted write (accepted l) room = fitted (write l) room
 
+-- "packet to sheet"
 unfoldable pub packetToSheet : List ℕ → List ℕ → Outcome
 packetToSheet s room = converted (toSheet wireChanges) (fromPacket wireChanges s) room
 
+-- "sheet to packet"
 unfoldable pub sheetToPacket : List ℕ → List ℕ → Outcome
 sheetToPacket s room = converted (toPacket wireChanges) (fromSheet wireChanges s) room
-
--- ---- what the writers are held to, once everything is judged
-
-abbrev pub sheetOf : List ℕ → List ℕ
-sheetOf s = toSheet wireChanges (valuesOf (fromPacket wireChanges s))
-
--- the packet was accepted, and the room holds its sheet
-pub record Writable (s room : List ℕ) : Type 0 where
-  pub accepts : fromPacket wireChanges s ≡ accepted (valuesOf (fromPacket wireChanges s))
-  pub holds : length (sheetOf s) ≤ length room
-
--- the numbers of the fields after the packet number, where the fields end at the bit stop
-abbrev pub fieldsOf : List ℕ → ℕ → List ℕ
-fieldsOf s stop = write sheet (fields wireChanges) (valuesOf (read packet (fields wireChanges) (rest s 24 stop)))
-
-pub record FieldsWritable (s : List ℕ) (stop : ℕ) (room : List ℕ) (start : ℕ) : Type 0 where
-  pub place : Placed s 24 stop
-  pub accepts : read packet (fields wireChanges) (rest s 24 stop) ≡ accepted (valuesOf (read packet (fields wireChanges) (rest s 24 stop)))
-  pub holds : start + length (fieldsOf s stop) ≤ length room
-
--- the bits of a sheet's fields after the packet number
-abbrev pub bitsOfSheet : List ℕ → List Bool
-bitsOfSheet s = write packet (fields wireChanges) (afterNumber (valuesOf (fromSheet wireChanges s)))
-
--- the sheet was accepted
-abbrev pub Accepts : List ℕ → Type 0
-Accepts s = fromSheet wireChanges s ≡ accepted (valuesOf (fromSheet wireChanges s))
-
--- the body's values, from its place in the sheet on
-abbrev pub bodyRead : List ℕ → ℕ → Read
-bodyRead s at = read sheet (body wireChanges) (drop at s)
-
-abbrev pub bodyBitsOf : List ℕ → ℕ → List Bool
-bodyBitsOf s at = write packet (body wireChanges) (valuesOf (bodyRead s at))
-
--- the body's place in an accepted sheet
-pub record BodyAt (s : List ℕ) (at : ℕ) : Type 0 where
-  pub inside : at ≤ length s
-  pub accepts : bodyRead s at ≡ accepted (valuesOf (bodyRead s at))
-
--- the first fifteen bytes, and the place of the body's first number
-pub record Headed (s header : List ℕ) (at : ℕ) : Type 0 where
-  pub bytes : header ≡ bytesOfBits (take 120 (frame segmentNumber (bitsOfSheet s)))
-  pub place : BodyAt s at
-  pub rest : drop 96 (bitsOfSheet s) ≡ bodyBitsOf s at

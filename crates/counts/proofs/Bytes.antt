@@ -15,15 +15,15 @@ use Rattle.numbers.proofs.Counting.{last-group, more-groups}
 use Rattle.kinds.specs.Kind.{Kind}
 use Rattle.kinds.specs.Kinds.{ncCdDiff, ncDiff, class, mostTraction, mCurrent}
 use Rattle.kinds.specs.Tables.{cantFigures, volts}
-use Rattle.kinds.specs.Judged.{fromPacket}
+use Rattle.kinds.specs.Judged.{valueInPacket}
 use Rattle.counts.specs.Counts.{bytesOf, mostClass}
 
 module _ (k : Kind) (v : ℕ) where
   -- a value that is allowed, and one that is not
-  pub bytes-some : {r : ℕ} → k .allowed v ≡ true → r ≡ length (groupsIn (k .raise v)) → r ≡ bytesOf (fromPacket k v)
+  pub bytes-some : {r : ℕ} → k .allowed v ≡ true → r ≡ length (groupsIn (k .raise v)) → r ≡ bytesOf (valueInPacket k v)
   bytes-some a e = rw a e
 
-  pub bytes-none : k .allowed v ≡ false → 0 ≡ bytesOf (fromPacket k v)
+  pub bytes-none : k .allowed v ≡ false → 0 ≡ bytesOf (valueInPacket k v)
   bytes-none a = rw a
 
 -- ---- the tests of the kinds
@@ -76,14 +76,14 @@ module _ (last lsp v : ℕ) where
   location-in h l = rw (lt-ltb last v h, lt-ltb v lsp l)
 
 module _ (v : ℕ) where
-  pub current-none : v ≡ 1023 → 1 ≡ bytesOf (fromPacket mCurrent v)
+  pub current-none : v ≡ 1023 → 1 ≡ bytesOf (valueInPacket mCurrent v)
   unfolding groupsIn
   current-none e = rw e
 
-  pub current-out : (v ≡ 1023 → ⊥) → 1000 < v → 0 ≡ bytesOf (fromPacket mCurrent v)
+  pub current-out : (v ≡ 1023 → ⊥) → 1000 < v → 0 ≡ bytesOf (valueInPacket mCurrent v)
   current-out e h = bytes-none mCurrent v (rw (lt-leb v 1000 h, ne-eqb v 1023 e))
 
-  pub current-in : {r : ℕ} → (v ≡ 1023 → ⊥) → v ≤ 1000 → r ≡ length (groupsIn (v * 10 + 1)) → r ≡ bytesOf (fromPacket mCurrent v)
+  pub current-in : {r : ℕ} → (v ≡ 1023 → ⊥) → v ≤ 1000 → r ≡ length (groupsIn (v * 10 + 1)) → r ≡ bytesOf (valueInPacket mCurrent v)
   current-in e h q = bytes-some mCurrent v (rw (le-leb v 1000 h)) (rw (ne-eqb v 1023 e) q)
 
 pub class-refusal : (q : ℕ) → class q .refusal ≡ 4
@@ -100,7 +100,7 @@ pub other-class : (q : ℕ) → (q ≡ 0 → ⊥) → 2 ≡ mostClass q
 other-class zero h = absurd (h refl)
 other-class (suc q) h = refl
 
-pub class-out : (q v : ℕ) → mostClass q < v → 0 ≡ bytesOf (fromPacket (class q) v)
+pub class-out : (q v : ℕ) → mostClass q < v → 0 ≡ bytesOf (valueInPacket (class q) v)
 class-out zero v h = bytes-none ncCdDiff v (le-ltb v 11 (omega arith))
 class-out (suc q) v h = bytes-none ncDiff v (high-out 0 2 v h)
 
@@ -109,7 +109,7 @@ both-small true true = lit< tt
 both-small true false = lit< tt
 both-small false b = let e : 0 * boolByte b ≡ 0 = omega arith in omega arith
 
-pub class-in : (q v : ℕ) → v ≤ mostClass q → 1 + boolByte (eqb q 0) * boolByte (leb 2 v) ≡ bytesOf (fromPacket (class q) v)
+pub class-in : (q v : ℕ) → v ≤ mostClass q → 1 + boolByte (eqb q 0) * boolByte (leb 2 v) ≡ bytesOf (valueInPacket (class q) v)
 class-in zero v h =
     bytes-some ncCdDiff v (lt-ltb v 11 (omega arith))
     (by-cases (leb 2 v)

@@ -4,7 +4,7 @@ ghost use Prim.Native.Nat.{_<_};
 ghost use lib.ListN.{length};
 ghost use Rattle.numbers.specs.Numbers.{groupsIn};
 ghost use Rattle.kinds.specs.Kinds.{digits, nidOperational, speed, ncCdDiff, class, dLocation, mVoltage, mostTraction, nidCTraction, mCurrent};
-ghost use Rattle.kinds.specs.Judged.{fromPacket};
+ghost use Rattle.kinds.specs.Judged.{valueInPacket};
 ghost use Rattle.kinds.specs.Rules.{meaning};
 ghost use Rattle.counts.specs.Counts.{bytesOf, BytesIn, mostClass};
 use kinds::LOCATION;
@@ -43,11 +43,11 @@ pub fn within(least: u32, largest: u32, v: u32) -> u32
     if largest < v {
         return 0;
     }
-    numbers::groups(v)
+    grouping::groups(v)
 }
 
 pub fn location(last: u32, lsp: u32, v: u32) -> u32
-    ensures { λ r. ⌜ r ≡ bytesOf (fromPacket (dLocation last lsp) v) ⌝ }
+    ensures { λ r. ⌜ r ≡ bytesOf (valueInPacket (dLocation last lsp) v) ⌝ }
 {
     if v <= last {
         return 0;
@@ -55,12 +55,12 @@ pub fn location(last: u32, lsp: u32, v: u32) -> u32
     if lsp <= v {
         return 0;
     }
-    numbers::groups(v)
+    grouping::groups(v)
 }
 
 // From 26 steps on a speed is 128 or more.
 pub fn speed(v: u32) -> u32
-    ensures { λ r. ⌜ r ≡ bytesOf (fromPacket speed v) ⌝ }
+    ensures { λ r. ⌜ r ≡ bytesOf (valueInPacket speed v) ⌝ }
 {
     if body::VStatic::LARGEST < v {
         return 0;
@@ -73,7 +73,7 @@ pub fn speed(v: u32) -> u32
 
 // The first two figures are below 128.
 fn cant(v: u32) -> u32
-    ensures { λ r. ⌜ r ≡ bytesOf (fromPacket ncCdDiff v) ⌝ }
+    ensures { λ r. ⌜ r ≡ bytesOf (valueInPacket ncCdDiff v) ⌝ }
 {
     if body::NcCdDiff::LARGEST < v {
         return 0;
@@ -96,7 +96,7 @@ fn most_class(q: u32) -> u32
 
 // By its Q_DIFF, with no branch on it, which goes up and down from entry to entry.
 pub fn class(q: u32, v: u32) -> u32
-    ensures { λ r. ⌜ r ≡ bytesOf (fromPacket (class q) v) ⌝ }
+    ensures { λ r. ⌜ r ≡ bytesOf (valueInPacket (class q) v) ⌝ }
 {
     if most_class(q) < v {
         return 0;
@@ -106,7 +106,7 @@ pub fn class(q: u32, v: u32) -> u32
 
 // 25,000 alone is 16,384 or more, and 0 below 128.
 pub fn volts(v: u32) -> u32
-    ensures { λ r. ⌜ r ≡ bytesOf (fromPacket mVoltage v) ⌝ }
+    ensures { λ r. ⌜ r ≡ bytesOf (valueInPacket mVoltage v) ⌝ }
 {
     if body::MVoltage::LARGEST < v {
         return 0;
@@ -131,7 +131,7 @@ fn most_traction(voltage: u32) -> u32
 }
 
 pub fn traction(voltage: u32, v: u32) -> u32
-    ensures { λ r. ⌜ r ≡ bytesOf (fromPacket (nidCTraction voltage) v) ⌝ }
+    ensures { λ r. ⌜ r ≡ bytesOf (valueInPacket (nidCTraction voltage) v) ⌝ }
 {
     if most_traction(voltage) < v {
         return 0;
@@ -140,7 +140,7 @@ pub fn traction(voltage: u32, v: u32) -> u32
 }
 
 pub fn current(v: u32) -> u32
-    ensures { λ r. ⌜ r ≡ bytesOf (fromPacket mCurrent v) ⌝ }
+    ensures { λ r. ⌜ r ≡ bytesOf (valueInPacket mCurrent v) ⌝ }
 {
     if v == body::MCurrent::NO_LIMIT {
         return 1;
@@ -148,7 +148,7 @@ pub fn current(v: u32) -> u32
     if body::MCurrent::HIGHEST < v {
         return 0;
     }
-    numbers::groups(v * body::MCurrent::STEP + 1)
+    grouping::groups(v * body::MCurrent::STEP + 1)
 }
 
 // Whether each of the eight digits is 0 to 9 or F: where the top bit of one is set, its other bits are 0, 1 or 7.
@@ -160,17 +160,17 @@ pub fn digits_good(v: u32) -> bool
 }
 
 pub fn operational(v: u32) -> u32
-    ensures { λ r. ⌜ r ≡ bytesOf (fromPacket nidOperational v) ⌝ }
+    ensures { λ r. ⌜ r ≡ bytesOf (valueInPacket nidOperational v) ⌝ }
 {
     let good = digits_good(v);
     if good {
-        return numbers::groups(v);
+        return grouping::groups(v);
     }
     0
 }
 
 pub fn by(rule: Rule, v: u32) -> u32
-    ensures { λ r. ⌜ r ≡ bytesOf (fromPacket (meaning rule) v) ⌝ }
+    ensures { λ r. ⌜ r ≡ bytesOf (valueInPacket (meaning rule) v) ⌝ }
 {
     match rule {
         Rule::Range {

@@ -9,10 +9,10 @@ use borrow.Author.Tests.{eqb-true, eqb-false, ne-eqb, le-leb, lt-leb}
 use lib.Dec.{eqb, ltb}
 use Rattle.bits.proofs.Tests.{by-cases}
 use Rattle.speed.specs.declared.Train.{Train}
-use Rattle.speed.specs.Speed.{Entry, Element, named, namedSpeeds, lowest, endBefore, holds, heldSpeeds}
+use Rattle.speed.specs.Speed.{Entry, named, namedSpeeds, holds}
 use Rattle.elements.specs.declared.Lows.{Lows}
 use Rattle.elements.specs.declared.Open.{Open}
-use Rattle.elements.specs.Elements.{none, insteadFrom, lowestFrom, speedFrom, speedOf, Worked, OneMore, elementAs}
+use Rattle.elements.specs.Elements.{none, insteadFrom, lowestFrom, speedFrom, speedOf, Worked, OneMore, elementWith}
 
 -- ---- one speed more
 
@@ -118,24 +118,18 @@ speed-worked lows v {a} {b} {r} m p q h e = record { is = is; below = below }
 -- ---- where an element holds
 
 module _ (t : Train) (o : Open) (stop x : ℕ) where
-  pub too-early : x < o .start → false ≡ holds t (elementAs o) stop x
+  pub too-early : x < o .start → false ≡ holds t (elementWith o []) stop x
   too-early h = rw (lt-leb (o .start) x h)
 
-  pub delayed : o .start ≤ x → o .«q_front» ≡ 0 → ltb x (stop + t .length) ≡ holds t (elementAs o) stop x
+  pub delayed : o .start ≤ x → o .«q_front» ≡ 0 → ltb x (stop + t .length) ≡ holds t (elementWith o []) stop x
   delayed h e = rw (le-leb (o .start) x h, e)
 
-  pub at-once : o .start ≤ x → (o .«q_front» ≡ 0 → ⊥) → ltb x stop ≡ holds t (elementAs o) stop x
+  pub at-once : o .start ≤ x → (o .«q_front» ≡ 0 → ⊥) → ltb x stop ≡ holds t (elementWith o []) stop x
   at-once h n = rw (le-leb (o .start) x h, ne-eqb (o .«q_front») 0 n)
 
 -- ---- one element more
 
--- the element that is open ends where the next starts
-pub held-more : (t : Train) (lsp x held : ℕ) (o : Open) (l : List Element) → held ≤ none → o .speed < none
-    → insteadFrom (lowest held (heldSpeeds t (endBefore lsp l) x (elementAs o ∷ []))) 0 (heldSpeeds t lsp x l) ≡ insteadFrom held 0 (heldSpeeds t lsp x (elementAs o ∷ l))
-held-more t lsp x held o l h s =
-    by-cases (holds t (elementAs o) (endBefore lsp l) x)
-    (λ d. rw d (instead-one held 0 (heldSpeeds t lsp x l) h (o .speed) s))
-    (λ d. rw d)
-
-pub held-under : (t : Train) (x held : ℕ) (o : Open) (stop : ℕ) → lowest held (heldSpeeds t stop x (elementAs o ∷ [])) ≤ held
-held-under t x held o stop = by-cases (holds t (elementAs o) stop x) (λ d. rw d (omega arith)) (λ d. rw d (omega arith))
+-- one speed more is held, or none
+module _ (held : ℕ) (h : held ≤ none) where
+  pub held-more : {r v : ℕ} → r ≡ min held v → v < none → (l : List ℕ) → insteadFrom r 0 l ≡ insteadFrom held 0 (v ∷ l)
+  held-more {r} {v} e s l = rw e (instead-one held 0 l h v s)

@@ -1,31 +1,32 @@
 -- The parts of an accepted speed profile in any medium: field after field, entry after entry, element after element.
 -- Assumes nothing.
 use mathlib.Core.Path.{_≡_, refl, sym, ap, _∙_}
+use mathlib.Core.Bool.{true, false, cond}
 use mathlib.Core.List.{List, [], _∷_}
-use Prim.Native.Nat.{ℕ, zero, suc, _+_, _-_, _≤_, _<_}
+use Prim.Native.Nat.{ℕ, zero, suc, _+_, _-_, _≤_, _<_, min}
 use native.Mathlib.Omega.{arith}
 use lib.ListN.{drop, getD}
 use lib.Seq.{drop-drop, getD-drop}
 use Rattle.kinds.specs.declared.Item.{Item}
 use Rattle.kinds.specs.Kind.{Kind}
 use Rattle.kinds.specs.Kinds.{qDiff, class, speed, qFront, nIter, dLocation}
-use Rattle.format.specs.Format.{Format, field, sheetNumbers}
+use Rattle.format.specs.Format.{Format, field, then, sheetNumbers}
 use Rattle.segment.specs.Segment.{entries, profile, changes, part}
 use Rattle.segment.specs.Parts.{entry}
-use Rattle.segment.proofs.Parts.{entries-more, entries-none, changes-more}
+use Rattle.segment.proofs.Parts.{entries-more, changes-more}
 use Rattle.speed.specs.declared.Train.{Train}
-use Rattle.speed.specs.Speed.{Element, endBefore, heldSpeeds, lowest, permitted, entriesOf, afterEntries, elementOf, afterElement, changesFrom, elementsFrom}
+use Rattle.speed.specs.Speed.{Element, elementSpeed, endBefore, holds, heldSpeeds, permitted, entriesOf, afterEntries, elementOf, afterElement, changesFrom, elementsFrom}
 use Rattle.elements.specs.declared.Lows.{Lows}
 use Rattle.elements.specs.declared.Open.{Open}
-use Rattle.elements.specs.Elements.{none, noLows, insteadFrom, speedFrom, Worked, OneMore, elementAs}
-use Rattle.elements.specs.Reading.{settled, Ahead, Past, Passes, FieldRead, EntryRead, EntriesRead, ElementRead, ChangesRead, ProfileRead}
-use Rattle.elements.proofs.Lowest.{held-more, held-under}
+use Rattle.elements.specs.Elements.{none, noLows, insteadFrom, speedFrom, Worked, OneMore, elementWith, elementAs}
+use Rattle.elements.specs.Reading.{Readable, Past, Passes, FieldRead, EntryRead, EntriesRead, Opened, Opens, ElementRead, Ended, Finished, ChangesRead, ProfileRead}
+use Rattle.elements.proofs.Lowest.{held-more}
 
 -- one more number is gone
 one-gone : {m : List ℕ} (n : ℕ) (s : List ℕ) → m ≡ drop n s → drop 1 m ≡ drop (n + 1) s
 one-gone n s e = ap (drop 1) e ∙ drop-drop 1 n s
 
-first-left : (n : ℕ) (s : List ℕ) → getD (drop n s) 0 0 ≡ getD s n 0
+pub first-left : (n : ℕ) (s : List ℕ) → getD (drop n s) 0 0 ≡ getD s n 0
 first-left n s = let e : n + 0 ≡ n = omega arith in rw e at (getD-drop n s 0 0)
 
 -- one change more
@@ -33,50 +34,55 @@ changes-split : (n : ℕ) → 0 < n → (s : List ℕ) → changesFrom 0 n s ≡
 changes-split zero h s = absurd (omega arith)
 changes-split (suc n) h s = let e : suc n - 1 ≡ n = omega arith in rw e
 
-module _ (Left : Format → ℕ → List Item → Type 0) where
+-- the place after n entries, where one at a place ends at the next of it
+abbrev pub entriesEnd : (ℕ → ℕ) → ℕ → ℕ → ℕ
+entriesEnd next zero at = at
+entriesEnd next (suc n) at = entriesEnd next n (next at)
+
+module _ (Reads : Format → ℕ → List Item → Type 0) where
   -- ---- fields
 
-  module _ {k : Kind} {at to v a : ℕ} (r : FieldRead Left k at to v a) (part : ℕ → Format → Format) where
+  module _ {k : Kind} {at to v a : ℕ} (r : FieldRead Reads k at to v a) (part : ℕ → Format → Format) where
     -- what is left after a field was accepted too
-    pub ahead-field : Ahead Left (λ f. field k (λ u. part u f)) at → Ahead Left (part v) to
-    ahead-field h = let p = r .past (λ u. part u (h .follows)) (h .values) (h .left) in record { follows = h .follows; values = p .values; left = p .left }
+    pub readable-field : Readable Reads (λ f. field k (λ u. part u f)) at → Readable Reads (part v) to
+    readable-field h = let p = r .past (λ u. part u (h .follows)) (h .values) (h .reads) in record { follows = h .follows; values = p .values; reads = p .reads }
 
-  pub ahead-first : {p : Format → Format} (q : Format → Format) {at : ℕ} → Ahead Left (λ f. p (q f)) at → Ahead Left p at
-  ahead-first q h = record { follows = q (h .follows); values = h .values; left = h .left }
+  pub readable-first : {p : Format → Format} (q : Format → Format) {at : ℕ} → Readable Reads (λ f. p (q f)) at → Readable Reads p at
+  readable-first q h = record { follows = q (h .follows); values = h .values; reads = h .reads }
 
-  pub ahead-passed : {p : Format → Format} (q : Format → Format) {after : List ℕ → List ℕ} {at to : ℕ} → Passes Left p after at to → Ahead Left (λ f. p (q f)) at → Ahead Left q to
-  ahead-passed q r h = let p = r .past (q (h .follows)) (h .values) (h .left) in record { follows = h .follows; values = p .values; left = p .left }
+  pub readable-passed : {p : Format → Format} (q : Format → Format) {after : List ℕ → List ℕ} {at to : ℕ} → Passes Reads p after at to → Readable Reads (λ f. p (q f)) at → Readable Reads q to
+  readable-passed q r h = let p = r .past (q (h .follows)) (h .values) (h .reads) in record { follows = h .follows; values = p .values; reads = p .reads }
 
-  module _ {k : Kind} {at to v a : ℕ} (r : FieldRead Left k at to v a) where
+  module _ {k : Kind} {at to v a : ℕ} (r : FieldRead Reads k at to v a) where
     -- the next field after n numbers
-    pub then-past : {next : ℕ → Format} (n : ℕ) (s : List ℕ) → Past Left (field k next) at (drop n s) → Past Left (next v) to (drop (n + 1) s)
-    then-past {next} n s p = let q = r .past next (p .values) (p .left) in record { values = q .values; left = q .left; numbers = q .numbers ∙ one-gone n s (p .numbers) }
+    pub then-past : {next : ℕ → Format} (n : ℕ) (s : List ℕ) → Past Reads (field k next) at (drop n s) → Past Reads (next v) to (drop (n + 1) s)
+    then-past {next} n s p = let q = r .past next (p .values) (p .reads) in record { values = q .values; reads = q .reads; numbers = q .numbers ∙ one-gone n s (p .numbers) }
 
-    pub then-is : {next : ℕ → Format} (n : ℕ) (s : List ℕ) → Past Left (field k next) at (drop n s) → getD s n 0 ≡ a
+    pub then-is : {next : ℕ → Format} (n : ℕ) (s : List ℕ) → Past Reads (field k next) at (drop n s) → getD s n 0 ≡ a
     then-is {next} n s p =
-        sym (first-left n s) ∙ ap (λ (m : List ℕ). getD m 0 0) (sym (p .numbers)) ∙ r .is next (p .values) (p .left)
+        sym (first-left n s) ∙ ap (λ (m : List ℕ). getD m 0 0) (sym (p .numbers)) ∙ r .is next (p .values) (p .reads)
 
-  pub past-here : {f : Format} {at : ℕ} (l : List Item) → Left f at l → Past Left f at (drop 0 (sheetNumbers l))
-  past-here l h = record { values = l; left = h; numbers = refl }
+  pub past-here : {f : Format} {at : ℕ} (l : List Item) → Reads f at l → Past Reads f at (drop 0 (sheetNumbers l))
+  past-here l h = record { values = l; reads = h; numbers = refl }
 
   -- the next part, of m numbers
-  pub passes-past : {part : Format → Format} (m : ℕ) {at to : ℕ} → Passes Left part (drop m) at to → {f : Format} (n : ℕ) (s : List ℕ) → Past Left (part f) at (drop n s)
-      → Past Left f to (drop (n + m) s)
+  pub passes-past : {part : Format → Format} (m : ℕ) {at to : ℕ} → Passes Reads part (drop m) at to → {f : Format} (n : ℕ) (s : List ℕ) → Past Reads (part f) at (drop n s)
+      → Past Reads f to (drop (n + m) s)
   passes-past m r {f} n s p =
-      let q = r .past f (p .values) (p .left) in
-      record { values = q .values; left = q .left; numbers = q .numbers ∙ ap (drop m) (p .numbers) ∙ drop-drop m n s }
+      let q = r .past f (p .values) (p .reads) in
+      record { values = q .values; reads = q .reads; numbers = q .numbers ∙ ap (drop m) (p .numbers) ∙ drop-drop m n s }
 
   -- ---- an entry
 
-  module _ {at b c to q v g u w : ℕ} (first : FieldRead Left qDiff at b q q) (second : FieldRead Left (class q) b c v g)
-      (third : FieldRead Left speed c to u w) where
-    entry-past : (f : Format) (l : List Item) → Left (entry f) at l → Past Left f to (drop 3 (sheetNumbers l))
-    entry-past f l h = let s = sheetNumbers l in then-past third 2 s (then-past second 1 s (then-past first 0 s (past-here l h)))
+  module _ {at b c to q v g u w : ℕ} (first : FieldRead Reads qDiff at b q q) (second : FieldRead Reads (class q) b c v g)
+      (third : FieldRead Reads speed c to u w) where
+    pub entry-passes : Passes Reads entry (drop 3) at to
+    entry-passes = record { past = λ f l h. let s = sheetNumbers l in then-past third 2 s (then-past second 1 s (then-past first 0 s (past-here l h))) }
 
-    pub entry-read : {t : Train} {lows after : Lows} → OneMore t lows q g w after → EntryRead Left t lows after at to
-    entry-read {t} {lows} {after} m = record { passes = record { past = entry-past }; more = more }
+    pub entry-read : {t : Train} {lows after : Lows} → OneMore t lows q g w after → EntryRead Reads t lows after at to
+    entry-read {t} {lows} {after} m = record { passes = entry-passes; more = more }
       where
-        more : (f : Format) (l : List Item) → Left (entry f) at l
+        more : (f : Format) (l : List Item) → Reads (entry f) at l
             → OneMore t lows (getD (sheetNumbers l) 0 0) (getD (sheetNumbers l) 1 0) (getD (sheetNumbers l) 2 0) after
         more f l h =
             let s = sheetNumbers l in
@@ -85,173 +91,236 @@ module _ (Left : Format → ℕ → List Item → Type 0) where
 
   -- ---- entries, one after another
 
+  -- passed over, where an entry at a place ends at the next of it
+  module _ (next : ℕ → ℕ) (one : (at : ℕ) → Passes Reads entry (drop 3) at (next at)) where
+    pub entries-pass : (n at : ℕ) → Passes Reads (entries n) (afterEntries n) at (entriesEnd next n at)
+    unfolding entries
+    entries-pass zero at = record { past = λ f l h. past-here l h }
+    entries-pass (suc n) at =
+        record {
+          past = λ f l h.
+              let p = one at .past (entries n f) l h in
+              let q = entries-pass n (next at) .past f (p .values) (p .reads) in
+              record { values = q .values; reads = q .reads; numbers = q .numbers ∙ ap (afterEntries n) (p .numbers) };
+        }
+
+    -- one entry less is left
+    module _ {n : ℕ} (h : 0 < n) (at : ℕ) where
+      pub entries-end-next : entriesEnd next (n - 1) (next at) ≡ entriesEnd next n at
+      entries-end-next = let e : suc (n - 1) ≡ n = omega arith in ap (λ (m : ℕ). entriesEnd next m at) e
+
+      pub entries-next : Readable Reads (entries n) at → Readable Reads (entries (n - 1)) (next at)
+      entries-next r =
+          let p = one at .past (entries (n - 1) (r .follows)) (r .values) (rw (entries-more n h (r .follows)) at (r .reads)) in
+          record { follows = r .follows; values = p .values; reads = p .reads }
+
+  pub entry-readable : {n at : ℕ} → 0 < n → Readable Reads (entries n) at → Readable Reads entry at
+  entry-readable {n} h r = record { follows = entries (n - 1) (r .follows); values = r .values; reads = rw (entries-more n h (r .follows)) at (r .reads) }
+
   -- what is left of the entries, and what they say with the lows of those before
   pub record Entering (t : Train) (whole : ℕ) (l : List Item) (n to : ℕ) (lows : Lows) (f : Format) : Type 0 where
     pub values : List Item
-    pub left : Left (entries n f) to values
+    pub reads : Reads (entries n f) to values
     pub same : (v : ℕ) → speedFrom t lows v (entriesOf n (sheetNumbers values)) ≡ speedFrom t noLows v (entriesOf whole (sheetNumbers l))
-    pub after : afterEntries n (sheetNumbers values) ≡ afterEntries whole (sheetNumbers l)
 
   module _ {t : Train} {whole : ℕ} {l : List Item} {to : ℕ} {lows : Lows} {f : Format} where
-    entering-one : (m : ℕ) {n : ℕ} {a : ℕ} {next : Lows} → n ≡ suc m → Entering t whole l n to lows f → EntryRead Left t lows next to a → Entering t whole l m a next f
+    entering-one : (m : ℕ) {n : ℕ} {a : ℕ} {next : Lows} → n ≡ suc m → Entering t whole l n to lows f → EntryRead Reads t lows next to a → Entering t whole l m a next f
     unfolding entries
     entering-one m {a = a} {next = next} e g r =
-        let h : Left (entries (suc m) f) to (g .values) = rw e at (g .left) in
+        let h : Reads (entries (suc m) f) to (g .values) = rw e at (g .reads) in
         let s = sheetNumbers (g .values) in
         let p = r .passes .past (entries m f) (g .values) h in
         let more = r .more (entries m f) (g .values) h .same in
         record {
           values = p .values;
-          left = p .left;
+          reads = p .reads;
           same = λ v. rw (p .numbers) (more v (entriesOf m (drop 3 s)) ∙ ap (λ (n : ℕ). speedFrom t lows v (entriesOf n s)) (sym e) ∙ g .same v);
-          after = rw (p .numbers) (ap (λ (n : ℕ). afterEntries n s) (sym e) ∙ g .after);
         }
 
     module _ {n : ℕ} (h : 0 < n) (g : Entering t whole l n to lows f) where
-      pub entering-next : {a : ℕ} {next : Lows} → EntryRead Left t lows next to a → Entering t whole l (n - 1) a next f
+      pub entering-next : {a : ℕ} {next : Lows} → EntryRead Reads t lows next to a → Entering t whole l (n - 1) a next f
       entering-next r = let e : n ≡ suc (n - 1) = omega arith in entering-one (n - 1) e g r
 
-      pub entering-ahead : Ahead Left entry to
-      entering-ahead = record { follows = entries (n - 1) f; values = g .values; left = rw (entries-more n h f) at (g .left) }
+      pub entering-readable : Readable Reads entry to
+      entering-readable = entry-readable h (record { follows = f; values = g .values; reads = g .reads })
 
-    pub entering-past : Entering t whole l 0 to lows f → Past Left f to (afterEntries whole (sheetNumbers l))
-    entering-past g = record { values = g .values; left = rw (entries-none 0 (omega arith) f) at (g .left); numbers = g .after }
-
-  pub entering-all : {t : Train} {n at : ℕ} (l : List Item) {f : Format} → Left (entries n f) at l → Entering t n l n at noLows f
-  entering-all l h = record { values = l; left = h; same = λ v. refl; after = refl }
+  pub entering-all : {t : Train} {n at : ℕ} (l : List Item) {f : Format} → Reads (entries n f) at l → Entering t n l n at noLows f
+  entering-all l h = record { values = l; reads = h; same = λ v. refl }
 
   -- every way into the entries is a way to what is left of them
   abbrev pub Entered : Train → ℕ → ℕ → ℕ → ℕ → Lows → Type 0
-  Entered t whole at n to lows = (f : Format) (l : List Item) → Left (entries whole f) at l → Entering t whole l n to lows f
+  Entered t whole at n to lows = (f : Format) (l : List Item) → Reads (entries whole f) at l → Entering t whole l n to lows f
 
-  pub entries-read : {t : Train} {whole at n to v r : ℕ} {lows : Lows} (end : ℕ) → Entered t whole at n to lows → n ≤ 0 → to ≡ end → Worked lows v r → v < none
-      → EntriesRead Left t v whole at end r
-  entries-read {t} {whole} {at} {n} {to} {v} {r} {lows} end g z e w h =
-      rw (← e)
-      record { passes = record { past = λ f l i. entering-past (gone f l i) }; said = λ f l i. w .is ∙ gone f l i .same v; below = w .below h }
+  pub entries-read : {t : Train} {whole at n to v r : ℕ} {lows : Lows} → Entered t whole at n to lows → n ≤ 0 → Worked lows v r → v < none → EntriesRead Reads t v whole at r
+  entries-read {t} {whole} {at} {n} {to} {v} {r} {lows} g z w h =
+      record { said = λ f l i. w .is ∙ gone f l i .same v; below = w .below h }
     where
       gone : Entered t whole at 0 to lows
       gone f l i = let q : n ≡ 0 = omega arith in rw q at (g f l i)
 
   -- ---- an element
 
-  module _ {at b c d to v w q n speed-of : ℕ} {t : Train} (first : FieldRead Left speed at b v w) (second : FieldRead Left qFront b c q q) (third : FieldRead Left (nIter 31) c d n n)
-      (more : EntriesRead Left t w n d to speed-of) where
-    element-past : (f : Format) (l : List Item) → Left (profile f) at l → Past Left f to (afterElement (sheetNumbers l))
-    element-past f l h =
-        let s = sheetNumbers l in
-        let p = then-past second 1 s (then-past first 0 s (past-here l h)) in
-        let o = then-past third 2 s p in
-        let r = more .passes .past f (o .values) (o .left) in
-        record { values = r .values; left = r .left; numbers = r .numbers ∙ rw (o .numbers, then-is third 2 s p) }
+  module _ {at b c d v w q n : ℕ} (first : FieldRead Reads speed at b v w) (second : FieldRead Reads qFront b c q q) (third : FieldRead Reads (nIter 31) c d n n) where
+    -- its entries are readable where it is
+    pub element-entries : Readable Reads profile at → Readable Reads (entries n) d
+    element-entries h =
+        readable-field third entries
+        (readable-field second (λ q f. field (nIter 31) λ n. entries n f) (readable-field first (λ v f. then qFront (field (nIter 31) λ n. entries n f)) h))
 
-    pub element-read : (start : ℕ) → ElementRead Left t at to (record { start = start; speed = speed-of; «q_front» = q })
-    element-read start = record { passes = record { past = element-past }; said = said; below = more .below }
+    module _ {to : ℕ} (more : Passes Reads (entries n) (afterEntries n) d to) (small : w < none) where
+      pub element-read : (start : ℕ) → ElementRead Reads at to (record { start = start; «v_static» = w; «q_front» = q; count = n; entries = d })
+      element-read start = record { passes = record { past = past }; opened = opened; below = small }
+        where
+          past : (f : Format) (l : List Item) → Reads (profile f) at l → Past Reads f to (afterElement (sheetNumbers l))
+          past f l h =
+              let s = sheetNumbers l in
+              let p = then-past second 1 s (then-past first 0 s (past-here l h)) in
+              let o = then-past third 2 s p in
+              let r = more .past f (o .values) (o .reads) in
+              record { values = r .values; reads = r .reads; numbers = r .numbers ∙ rw (o .numbers, then-is third 2 s p) }
+
+          opened : (f : Format) (l : List Item) → Reads (profile f) at l
+              → Opened Reads (record { start = start; «v_static» = w; «q_front» = q; count = n; entries = d }) (elementOf start (sheetNumbers l))
+          opened f l h =
+              let s = sheetNumbers l in
+              let a = then-past first 0 s (past-here l h) in
+              let p = then-past second 1 s a in
+              let o = then-past third 2 s p in
+              record {
+                follows = f;
+                values = o .values;
+                reads = o .reads;
+                is = rw (then-is first 0 s (past-here l h), then-is second 1 s a, then-is third 2 s p, o .numbers);
+              }
+
+  pub opened-as : {o : Open} {e e′ : Element} → e ≡ e′ → Opened Reads o e → Opened Reads o e′
+  opened-as q i = record { follows = i .follows; values = i .values; reads = i .reads; is = sym q ∙ i .is }
+
+  -- ---- an element that ends
+
+  module _ {t : Train} {held stop x : ℕ} {o : Open} where
+    -- it holds, so its entries were read
+    pub ended-holds : {v r : ℕ} → holds t (elementWith o []) stop x ≡ true → EntriesRead Reads t (o .«v_static») (o .count) (o .entries) v → held ≤ none → r ≡ min held v
+        → Ended Reads t held stop x o r
+    ended-holds {v} {r} d e h q = record { said = said }
       where
-        said : (f : Format) (l : List Item) → Left (profile f) at l
-            → elementAs (record { start = start; speed = speed-of; «q_front» = q }) ≡ settled t (elementOf start (sheetNumbers l))
-        said f l h =
-            let s = sheetNumbers l in
-            let a = then-past first 0 s (past-here l h) in
-            let p = then-past second 1 s a in
-            let o = then-past third 2 s p in
-            let e = more .said f (o .values) (o .left) in
-            rw (then-is first 0 s (past-here l h), then-is second 1 s a, then-is third 2 s p, ← o .numbers, e)
+        said : (e′ : Element) → Opened Reads o e′ → (l : List ℕ) → insteadFrom r 0 l ≡ insteadFrom held 0 (cond (holds t e′ stop x) (elementSpeed t e′ ∷ l) l)
+        said e′ i l =
+            let s = e .said (i .follows) (i .values) (i .reads) in
+            rw (i .is, d, ← s) (held-more held h q (e .below) l)
+
+    -- it does not, so nothing more is held
+    pub ended-not : holds t (elementWith o []) stop x ≡ false → Ended Reads t held stop x o held
+    ended-not d = record { said = λ e i l. rw (i .is, d) }
+
+    -- it was the last
+    pub finished-as : {u v : ℕ} → Ended Reads t held stop x o u → v ≡ insteadFrom u 0 [] → Finished Reads t held stop x o v
+    finished-as d q = record { said = λ e i. q ∙ d .said e i [] }
 
   -- ---- changes, one after another
 
-  module _ (t : Train) (lsp x : ℕ) (first : Open) (whole : ℕ) (l : List Item) where
+  module _ (t : Train) (lsp x answer : ℕ) where
     -- what is left of the changes, and the permitted speed with what is held of the elements before
     pub record Changing (n to held : ℕ) (o : Open) (f : Format) : Type 0 where
+      pub element : Element
+      pub opened : Opened Reads o element
       pub values : List Item
-      pub left : Left (changes profile lsp (o .start) n f) to values
-      pub same : insteadFrom held 0 (heldSpeeds t lsp x (elementAs o ∷ changesFrom 0 n (sheetNumbers values)))
-          ≡ permitted t lsp x (elementAs first ∷ changesFrom 0 whole (sheetNumbers l))
+      pub reads : Reads (changes profile lsp (o .start) n f) to values
+      pub same : insteadFrom held 0 (heldSpeeds t lsp x (element ∷ changesFrom 0 n (sheetNumbers values))) ≡ answer
 
-    module _ {to held : ℕ} {o : Open} {f : Format} where
-      module _ {n : ℕ} (h : 0 < n) (g : Changing n to held o f) where
-        -- the next change's location, and its element
-        pub change-left : Left (field (dLocation (o .start) lsp) λ y. profile (changes profile lsp y (n - 1) f)) to (g .values)
-        change-left = rw (changes-more profile lsp (o .start) n h f) at (g .left)
+    module _ {n to held : ℕ} {o : Open} {f : Format} (h : 0 < n) (g : Changing n to held o f) where
+      -- the next change's location, and its element
+      change-reads : Reads (field (dLocation (o .start) lsp) λ y. profile (changes profile lsp y (n - 1) f)) to (g .values)
+      change-reads = rw (changes-more profile lsp (o .start) n h f) at (g .reads)
 
-        pub change-ahead : Ahead Left (λ i. field (dLocation (o .start) lsp) λ y. profile (changes profile lsp y (n - 1) i)) to
-        change-ahead = record { follows = f; values = g .values; left = change-left }
+      pub change-readable : Readable Reads (λ i. field (dLocation (o .start) lsp) λ y. profile (changes profile lsp y (n - 1) i)) to
+      change-readable = record { follows = f; values = g .values; reads = change-reads }
 
-        -- one change more
-        pub changing-next : {b to′ held′ start : ℕ} {o′ : Open} → FieldRead Left (dLocation (o .start) lsp) to b start start → ElementRead Left t b to′ o′ → o′ .start ≡ start
-            → held ≤ none → o .speed < none → held′ ≡ lowest held (heldSpeeds t start x (elementAs o ∷ [])) → Changing (n - 1) to′ held′ o′ f
-        changing-next {b} {to′} {held′} {start} {o′} r e q small below d =
-            let s = sheetNumbers (g .values) in
-            let more = changes profile lsp start (n - 1) f in
-            let p = r .past (λ y. profile (changes profile lsp y (n - 1) f)) (g .values) change-left in
-            let u = e .passes .past more (p .values) (p .left) in
-            let at-start : 0 + getD s 0 0 ≡ start = omega (arith, r .is (λ y. profile (changes profile lsp y (n - 1) f)) (g .values) change-left) in
-            let els = changesFrom 0 n s in
-            let split : els ≡ elementOf start (drop 1 s) ∷ changesFrom 0 (n - 1) (afterElement (drop 1 s)) = changes-split n h s ∙ rw at-start in
-            let now : elementAs o′ ≡ settled t (elementOf start (drop 1 s)) =
-            e .said more (p .values) (p .left) ∙ rw (q, p .numbers) in
-            record {
-              values = u .values;
-              left = rw q (u .left);
-              same =
-                  ap (λ (m : Element). insteadFrom held′ 0 (heldSpeeds t lsp x (m ∷ changesFrom 0 (n - 1) (sheetNumbers (u .values))))) now
-                  ∙ rw (u .numbers, p .numbers, d)
-                  (ap (λ (m : List Element). insteadFrom (lowest held (heldSpeeds t start x (elementAs o ∷ []))) 0 (heldSpeeds t lsp x m)) (sym split)
-                  ∙ ap (λ (m : ℕ). insteadFrom (lowest held (heldSpeeds t m x (elementAs o ∷ []))) 0 (heldSpeeds t lsp x els)) (ap (endBefore lsp) (sym split))
-                  ∙ held-more t lsp x held o els small below
-                  ∙ g .same);
-            }
+      -- one change more
+      pub changing-next : {b to′ held′ start : ℕ} {o′ : Open} → FieldRead Reads (dLocation (o .start) lsp) to b start start → ElementRead Reads b to′ o′ → o′ .start ≡ start
+          → Ended Reads t held start x o held′ → Changing (n - 1) to′ held′ o′ f
+      changing-next {b} {to′} {held′} {start} {o′} r e q d =
+          let s = sheetNumbers (g .values) in
+          let more = changes profile lsp start (n - 1) f in
+          let p = r .past (λ y. profile (changes profile lsp y (n - 1) f)) (g .values) change-reads in
+          let u = e .passes .past more (p .values) (p .reads) in
+          let at-start : 0 + getD s 0 0 ≡ start = omega (arith, r .is (λ y. profile (changes profile lsp y (n - 1) f)) (g .values) change-reads) in
+          let els = changesFrom 0 n s in
+          let split : els ≡ elementOf start (drop 1 s) ∷ changesFrom 0 (n - 1) (afterElement (drop 1 s)) = changes-split n h s ∙ rw at-start in
+          let stops : start ≡ endBefore lsp els = ap (endBefore lsp) (sym split) in
+          record {
+            element = elementOf start (drop 1 s);
+            opened = opened-as (rw (q, p .numbers)) (e .opened more (p .values) (p .reads));
+            values = u .values;
+            reads = rw q (u .reads);
+            same =
+                rw (u .numbers, p .numbers)
+                (ap (λ (m : List Element). insteadFrom held′ 0 (heldSpeeds t lsp x m)) (sym split)
+                ∙ d .said (g .element) (g .opened) (heldSpeeds t lsp x els)
+                ∙ ap (λ (m : ℕ). insteadFrom held 0 (cond (holds t (g .element) m x) (elementSpeed t (g .element) ∷ heldSpeeds t lsp x els) (heldSpeeds t lsp x els))) stops
+                ∙ g .same);
+          }
 
-      -- the last element ends at the segment's end
-      pub changing-end : {v u : ℕ} → Changing 0 to held o f → held ≤ none → o .speed < none → u ≡ lowest held (heldSpeeds t lsp x (elementAs o ∷ []))
-          → v ≡ insteadFrom u 0 [] → v ≡ permitted t lsp x (elementAs first ∷ changesFrom 0 whole (sheetNumbers l))
-      changing-end g small below d e = e ∙ ap (λ (n : ℕ). insteadFrom n 0 []) d ∙ held-more t lsp x held o [] small below ∙ g .same
-
-    pub changing-all : {at : ℕ} {f : Format} → Left (changes profile lsp (first .start) whole f) at l → Changing whole at none first f
-    changing-all h = record { values = l; left = h; same = refl }
-
-  -- every way into the changes is a way to what is left of them; what is held and the open element's speed are no more than they may be
+  -- every way into the changes is a way to what is left of them
   pub record Changed (t : Train) (lsp x : ℕ) (first : Open) (whole at n to held : ℕ) (o : Open) : Type 0 where
-    pub going : (f : Format) (l : List Item) → Left (changes profile lsp (first .start) whole f) at l → Changing t lsp x first whole l n to held o f
-    pub small : held ≤ none
-    pub below : o .speed < none
+    pub going : (e : Element) → Opened Reads first e → (f : Format) (l : List Item) → Reads (changes profile lsp (first .start) whole f) at l
+        → Changing t lsp x (permitted t lsp x (e ∷ changesFrom 0 whole (sheetNumbers l))) n to held o f
+    pub below : o .«v_static» < none
+
+  -- an element that is open, by the values of its entries
+  opened-some : {o : Open} (h : Opens Reads o) → Opened Reads o (elementAs o (sheetNumbers (h .readable .values)))
+  opened-some h = let r = h .readable in record { follows = r .follows; values = r .values; reads = r .reads; is = refl }
 
   module _ {t : Train} {lsp x whole at n to held : ℕ} {first o : Open} (g : Changed t lsp x first whole at n to held o) where
-    pub changed-next : {b to′ held′ start : ℕ} {o′ : Open} → 0 < n → FieldRead Left (dLocation (o .start) lsp) to b start start → ElementRead Left t b to′ o′ × (o′ .start ≡ start)
-        → held′ ≡ lowest held (heldSpeeds t start x (elementAs o ∷ [])) → Changed t lsp x first whole at (n - 1) to′ held′ o′
-    changed-next {start = start} h r e d =
-        record {
-          going = λ f l i. changing-next t lsp x first whole l h (g .going f l i) r (e .0) (e .1) (g .small) (g .below) d;
-          small = omega (arith, d, held-under t x held o start, g .small);
-          below = e .0 .below;
-        }
+    pub changed-next : {b to′ held′ start : ℕ} {o′ : Open} → 0 < n → FieldRead Reads (dLocation (o .start) lsp) to b start start → ElementRead Reads b to′ o′ × (o′ .start ≡ start)
+        → Ended Reads t held start x o held′ → Changed t lsp x first whole at (n - 1) to′ held′ o′
+    changed-next h r e d =
+        record { going = λ v i f l j. changing-next t lsp x (permitted t lsp x (v ∷ changesFrom 0 whole (sheetNumbers l))) h (g .going v i f l j) r (e .0) (e .1) d; below = e .0 .below }
 
-    pub changed-ahead : 0 < n → Ahead Left (changes profile lsp (first .start) whole) at
-        → Ahead Left (λ i. field (dLocation (o .start) lsp) λ y. profile (changes profile lsp y (n - 1) i)) to
-    changed-ahead h a = change-ahead t lsp x first whole (a .values) h (g .going (a .follows) (a .values) (a .left))
+    module _ (p : Opens Reads first) (a : Readable Reads (changes profile lsp (first .start) whole) at) where
+      pub changed-opens : Opens Reads o
+      changed-opens =
+          let i = g .going _ (opened-some p) (a .follows) (a .values) (a .reads) .opened in
+          record { readable = record { follows = i .follows; values = i .values; reads = i .reads }; below = g .below }
 
-    pub changes-read : {u v : ℕ} → n ≤ 0 → u ≡ lowest held (heldSpeeds t lsp x (elementAs o ∷ [])) → v ≡ insteadFrom u 0 [] → ChangesRead Left t lsp x first whole at v
-    changes-read z d e =
+      pub changed-readable : 0 < n → Readable Reads (λ i. field (dLocation (o .start) lsp) λ y. profile (changes profile lsp y (n - 1) i)) to
+      changed-readable h = change-readable t lsp x _ h (g .going _ (opened-some p) (a .follows) (a .values) (a .reads))
+
+      -- the next element, after its location
+      pub changed-element : {b start : ℕ} → 0 < n → FieldRead Reads (dLocation (o .start) lsp) to b start start → Readable Reads profile b
+      changed-element {b} {start} h r =
+          readable-first (changes profile lsp start (n - 1)) (readable-field r (λ y i. profile (changes profile lsp y (n - 1) i)) (changed-readable h))
+
+    -- the last element ends at the segment's end
+    pub changes-read : {v : ℕ} → n ≤ 0 → Finished Reads t held lsp x o v → ChangesRead Reads t lsp x first whole at v
+    changes-read z d =
         let q : n ≡ 0 = omega arith in
-        record { said = λ f l i. changing-end t lsp x first whole l (rw q at (g .going f l i)) (g .small) (g .below) d e }
+        record { said = λ w i f l j. let m = rw q at (g .going w i f l j) in d .said (m .element) (m .opened) ∙ m .same }
 
-  pub changed-all : {t : Train} {lsp x whole at : ℕ} {first : Open} → first .speed < none → Changed t lsp x first whole at whole at none first
-  changed-all {t} {lsp} {x} {whole} {at} {first} h = record { going = λ f l i. changing-all t lsp x first whole l i; small = omega arith; below = h }
+  pub changed-all : {t : Train} {lsp x whole at : ℕ} {first : Open} → Opens Reads first → Changed t lsp x first whole at whole at none first
+  changed-all h = record { going = λ e i f l j. record { element = e; opened = i; values = l; reads = j; same = refl }; below = h .below }
 
   -- ---- the profile
 
-  module _ {t : Train} {lsp x at b c n v : ℕ} {o : Open} (first : ElementRead Left t at b o) (starts : o .start ≡ 0) (count : FieldRead Left (nIter 31) b c n n)
-      (more : ChangesRead Left t lsp x o n c v) where
-    pub profile-read : ProfileRead Left t lsp x at v
-    profile-read = record { said = said }
+  module _ (lsp : ℕ) {at b c n : ℕ} {o : Open} (first : ElementRead Reads at b o) (starts : o .start ≡ 0) (count : FieldRead Reads (nIter 31) b c n n) where
+    -- the changes of a profile that is readable
+    pub profile-changes : Readable Reads (part profile 31 lsp) at → Opens Reads o × Readable Reads (changes profile lsp (o .start) n) c
+    profile-changes h =
+        let g : Format = field (nIter 31) λ m. changes profile lsp 0 m (h .follows) in
+        let i = first .opened g (h .values) (h .reads) in (
+          record { readable = record { follows = i .follows; values = i .values; reads = i .reads }; below = first .below },
+          rw starts (readable-field count (λ m f. changes profile lsp 0 m f) (readable-passed (λ f. field (nIter 31) λ m. changes profile lsp 0 m f) (first .passes) h)),
+        )
+
+    pub profile-read : {t : Train} {x v : ℕ} → ChangesRead Reads t lsp x o n c v → ProfileRead Reads t lsp x at v
+    profile-read {t} {x} {v} more = record { said = said }
       where
-        said : (f : Format) (l : List Item) → Left (part profile 31 lsp f) at l → v ≡ permitted t lsp x (elementsFrom 0 (sheetNumbers l))
+        said : (f : Format) (l : List Item) → Reads (part profile 31 lsp f) at l → v ≡ permitted t lsp x (elementsFrom 0 (sheetNumbers l))
         said f l h =
             let s = sheetNumbers l in
             let g : Format = field (nIter 31) λ m. changes profile lsp 0 m f in
             let p = first .passes .past g l h in
-            let u = count .past (λ m. changes profile lsp 0 m f) (p .values) (p .left) in
-            let e = more .said f (u .values) (rw starts (u .left)) in
-            let k : getD (afterElement s) 0 0 ≡ n = ap (λ (m : List ℕ). getD m 0 0) (sym (p .numbers)) ∙ count .is (λ m. changes profile lsp 0 m f) (p .values) (p .left) in
-            let w : elementAs o ≡ settled t (elementOf (0 + 0) s) = first .said g l h ∙ rw starts in
-            e ∙ ap (λ (m : Element). permitted t lsp x (m ∷ changesFrom 0 n (sheetNumbers (u .values)))) w ∙ rw (u .numbers, p .numbers, ← k)
+            let u = count .past (λ m. changes profile lsp 0 m f) (p .values) (p .reads) in
+            let i : Opened Reads o (elementOf (0 + 0) s) = opened-as (rw starts) (first .opened g l h) in
+            let k : getD (afterElement s) 0 0 ≡ n = ap (λ (m : List ℕ). getD m 0 0) (sym (p .numbers)) ∙ count .is (λ m. changes profile lsp 0 m f) (p .values) (p .reads) in
+            more .said (elementOf (0 + 0) s) i f (u .values) (rw starts (u .reads)) ∙ rw (u .numbers, p .numbers, ← k)

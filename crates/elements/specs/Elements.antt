@@ -6,7 +6,7 @@ use mathlib.Core.List.{List, [], _∷_}
 use Prim.Native.Nat.{ℕ, _<_, min}
 use lib.Dec.{eqb}
 use Rattle.speed.specs.declared.Train.{Train}
-use Rattle.speed.specs.Speed.{Entry, Element, namedSpeeds, lowest, instead}
+use Rattle.speed.specs.Speed.{Entry, Element, namedSpeeds, lowest, instead, entriesOf}
 use Rattle.elements.specs.declared.Lows.{Lows}
 use Rattle.elements.specs.declared.Open.{Open}
 
@@ -43,6 +43,9 @@ pub record Worked (lows : Lows) (v r : ℕ) : Type 0 where
 pub record OneMore (t : Train) (lows : Lows) (q class w : ℕ) (after : Lows) : Type 0 where
   pub same : (v : ℕ) (es : List Entry) → speedFrom t after v es ≡ speedFrom t lows v (record { qDiff = q; class = class; vDiff = w } ∷ es)
 
--- an element whose speed is known
-abbrev pub elementAs : Open → Element
-elementAs o = record { start = o .start; vStatic = o .speed; qFront = o .«q_front»; entries = [] }
+-- an open element with these entries, and with those that numbers spell
+abbrev pub elementWith : Open → List Entry → Element
+elementWith o es = record { start = o .start; vStatic = o .«v_static»; qFront = o .«q_front»; entries = es }
+
+abbrev pub elementAs : Open → List ℕ → Element
+elementAs o s = elementWith o (entriesOf (o .count) s)

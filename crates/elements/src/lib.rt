@@ -1,10 +1,10 @@
-// One element of a speed profile: the lowest speeds of its entries that name the train, its speed, and what it adds where it holds.
+// One element of a speed profile: the lowest speeds of its entries that name the train, its speed, and whether it holds.
 ghost use mathlib.Core.Path.{_≡_};
 ghost use mathlib.Core.Bool.{cond};
-ghost use mathlib.Core.List.{[], _∷_};
+ghost use mathlib.Core.List.{[]};
 ghost use Prim.Native.Nat.{min, _<_};
-ghost use Rattle.speed.specs.Speed.{holds, heldSpeeds, lowest};
-ghost use Rattle.elements.specs.Elements.{none, noLows, insteadFrom, Worked, OneMore, elementAs};
+ghost use Rattle.speed.specs.Speed.{holds};
+ghost use Rattle.elements.specs.Elements.{none, noLows, insteadFrom, Worked, OneMore, elementWith};
 use speed::Train;
 
 // Stands for no speed. It is above every speed, so that the lowest of it and another is the other, and no flag goes along.
@@ -22,14 +22,17 @@ pub struct Lows {
     pub lowering: u32,
 }
 
-// An element's start, its speed for the train, and its Q_FRONT.
+// An element whose entries were not looked at: its start, V_STATIC in km/h, Q_FRONT, and the count and the place of its entries.
 pub struct Open {
     pub start: u32,
-    pub speed: u32,
+    pub v_static: u32,
     pub q_front: u32,
+    pub count: u32,
+    pub entries: usize,
 }
 
-fn lower(a: u32, b: u32) -> u32
+// The lower speed of two.
+pub fn lower(a: u32, b: u32) -> u32
     ensures { λ r. ⌜ r ≡ min a b ⌝ }
 {
     if a < b {
@@ -96,9 +99,9 @@ impl Lows {
 }
 
 impl Open {
-    // Whether the element holds at x, where it ends at end.
-    fn holds(self, train: Train, end: u32, x: u32) -> bool
-        ensures { λ r. ⌜ r ≡ holds train (elementAs self) end x ⌝ }
+    // Whether the element holds at x, where it ends at end: no entry has a say in it.
+    pub fn holds(self, train: Train, end: u32, x: u32) -> bool
+        ensures { λ r. ⌜ r ≡ holds train (elementWith self []) end x ⌝ }
     {
         if x < self.start {
             return false;
@@ -107,16 +110,6 @@ impl Open {
             return (x as u64) < end as u64 + train.length as u64;
         }
         x < end
-    }
-
-    // The lowest speed held at x, once the element ends at end.
-    pub fn ended(self, held: u32, train: Train, end: u32, x: u32) -> u32
-        ensures { λ r. ⌜ r ≡ lowest held (heldSpeeds train end x (elementAs self ∷ [])) ⌝ }
-    {
-        if self.holds(train, end, x) {
-            return lower(held, self.speed);
-        }
-        held
     }
 }
 

@@ -4,7 +4,7 @@ use mathlib.Core.Path.{_≡_, refl, sym, ap, ap₂, _∙_}
 use mathlib.Core.Bool.{Bool}
 use mathlib.Core.List.{List, [], _∷_, _++_}
 use Prim.Native.Nat.{ℕ, zero, suc, _+_, _*_, _-_, _/_, _%_, _^_, _<_, _≤_}
-use native.Mathlib.Nat.{mod-lt, mod-eq-of-lt, zero-mod, add-mul-mod-self-right, mod-mod}
+use native.Mathlib.Nat.{zero-add, suc-add, mod-lt, mod-eq-of-lt, zero-mod, add-mul-mod-self-right, mod-mod}
 use native.Mathlib.Numerals.{add-one}
 use native.Mathlib.Omega.{arith}
 use lib.ListN.{length, take, drop, set, length-append, length-drop, drop-of-length-le}
@@ -13,7 +13,7 @@ use lib.Seq.{sets, length-sets, take-take, drop-drop, drop-append-le}
 use Rattle.bits.specs.Bits.{bitsOf, number, fill, pack, bytesOfBits}
 use Rattle.bits.proofs.Spelling.{length-bits, number-bits, number-small, number-append}
 use Rattle.bits.proofs.Padding.{length-fill, fill-add, zeros, length-zeros, fill-zeros, zero-bits, pack-add, take-pack, pack-front, length-pack}
-use Rattle.bits.proofs.Cells.{take-cells}
+use Rattle.bits.proofs.Cells.{sets-append, take-cells}
 use Rattle.filling.specs.Filling.{bytesIn, Filled, Filling}
 
 -- ---- bytes of a number
@@ -21,6 +21,23 @@ use Rattle.filling.specs.Filling.{bytesIn, Filled, Filling}
 -- the first byte, and the rest
 pub bytes-more : (s : List ℕ) (j m d x : ℕ) → d ≡ 8 * m → sets s j (bytesIn (suc m) x) ≡ sets (set s j (x / 2 ^ d % 256)) (j + 1) (bytesIn m x)
 bytes-more s j m d x e = rw (e, add-one)
+
+length-bytes-in : (n x : ℕ) → length (bytesIn n x) ≡ n
+length-bytes-in zero x = refl
+length-bytes-in (suc n) x = ap suc (length-bytes-in n x)
+
+-- bytes in two parts
+bytes-parts : (m n x : ℕ) → bytesIn (m + n) x ≡ bytesIn m (x / 2 ^ (8 * n)) ++ bytesIn n x
+bytes-parts zero n x = rw zero-add
+bytes-parts (suc m) n x =
+    let e : 8 * (m + n) ≡ 8 * n + 8 * m = omega arith in
+    rw (suc-add, e, ← shr-shr x (8 * n) (8 * m)) (ap (λ (l : List ℕ). x / 2 ^ (8 * n) / 2 ^ (8 * m) % 256 ∷ l) (bytes-parts m n x))
+
+-- twice n bytes
+pub bytes-halves : (s : List ℕ) (i n x : ℕ) → sets (sets s i (bytesIn n (x / 2 ^ (8 * n)))) (i + n) (bytesIn n x) ≡ sets s i (bytesIn (n + n) x)
+bytes-halves s i n x =
+    let b : List ℕ = bytesIn n (x / 2 ^ (8 * n)) in
+    sym (rw (bytes-parts n n x, sets-append s i b (bytesIn n x), length-bytes-in n (x / 2 ^ (8 * n))))
 
 -- the top byte of what is left of eight once m are out, and what is left then
 pub top-byte : (x m : ℕ) → m ≤ 7 → x * 2 ^ (8 * m) % 2 ^ 64 / 2 ^ 56 % 256 ≡ x / 2 ^ (8 * (7 - m)) % 256

@@ -11,19 +11,31 @@ fn low(x: u64) -> u8
     (x % 256) as u8
 }
 
-// Stores the eight bytes of x from the byte i on, the top byte first.
+// Stores the two lowest bytes of x from the byte i on, the top byte first.
+fn store_two(s: &mut [u8], i: usize, x: u64)
+    requires { ⌜ i + 2 ≤ length (now s) ⌝ }
+    ensures { λ _. ⌜ now (s .exit) ≡ sets (now (s .entry)) i (bytesIn 2 x) ⌝ }
+{
+    s[i] = low(x >> 8);
+    s[i + 1] = low(x);
+}
+
+// The same for four bytes.
+fn store_four(s: &mut [u8], i: usize, x: u64)
+    requires { ⌜ i + 4 ≤ length (now s) ⌝ }
+    ensures { λ _. ⌜ now (s .exit) ≡ sets (now (s .entry)) i (bytesIn 4 x) ⌝ }
+{
+    store_two(s, i, x >> 16);
+    store_two(s, i + 2, x);
+}
+
+// The same for all eight.
 fn store_eight(s: &mut [u8], i: usize, x: u64)
     requires { ⌜ i + 8 ≤ length (now s) ⌝ }
     ensures { λ _. ⌜ now (s .exit) ≡ sets (now (s .entry)) i (bytesIn 8 x) ⌝ }
 {
-    s[i] = low(x >> 56);
-    s[i + 1] = low(x >> 48);
-    s[i + 2] = low(x >> 40);
-    s[i + 3] = low(x >> 32);
-    s[i + 4] = low(x >> 24);
-    s[i + 5] = low(x >> 16);
-    s[i + 6] = low(x >> 8);
-    s[i + 7] = low(x);
+    store_four(s, i, x >> 32);
+    store_four(s, i + 4, x);
 }
 
 // The same where the slice ends before the eighth. The rest is shifted up, which keeps the compiler from making more of this loop than it is.

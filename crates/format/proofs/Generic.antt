@@ -7,7 +7,7 @@ use native.Mathlib.Omega.{arith}
 use lib.ListN.{length}
 use Rattle.kinds.specs.declared.Item.{Item}
 use Rattle.kinds.specs.Kind.{Kind}
-use Rattle.format.specs.Format.{Format, end, field, Read, accepted, refused, Step, step, stop, Medium, with, follow, read, write}
+use Rattle.format.specs.Format.{Format, end, field, Read, accepted, refused, FieldStep, step, stop, Medium, with, follow, read, write}
 use Rattle.format.specs.Conforming.{Conforming, done, also}
 
 -- what a medium has to meet: a good value that was put is taken, and what is taken was put so and not otherwise
@@ -22,7 +22,7 @@ pub with-accepted : (i : Item) (r : Read) (l : List Item) → with i r ≡ accep
 with-accepted i (accepted t) l e = (t, refl, cc)
 with-accepted i (refused r n) l e = absurd (never e)
 
-follow-accepted : {A : Type 0} (n : ℕ) (r : Step A) (next : Item → List A → Read) (l : List Item) → follow n r next ≡ accepted l
+follow-accepted : {A : Type 0} (n : ℕ) (r : FieldStep A) (next : Item → List A → Read) (l : List Item) → follow n r next ≡ accepted l
     → (i : Item) × (s : List A) × (t : List Item) × (r ≡ step i s) × (next i s ≡ accepted t) × (l ≡ i ∷ t)
 follow-accepted n (stop r) next l e = absurd (never e)
 follow-accepted n (step i s) next l e = let p = with-accepted i (next i s) l e in (i, s, p .0, refl, p .1, p .2)

@@ -23,8 +23,8 @@ use Rattle.kinds.specs.declared.Item.{Item}
 use Rattle.kinds.specs.declared.Field.{Field}
 use Rattle.kinds.specs.declared.Field.the-variants.{Is, Refused}
 use Rattle.kinds.specs.Kind.{Kind}
-use Rattle.kinds.specs.Judged.{fromPacket, fromSheet, loweredTo}
-use Rattle.format.specs.Format.{Format, end, field, Read, accepted, refused, Step, step, stop, Medium, with, follow, read, write}
+use Rattle.kinds.specs.Judged.{valueInPacket, numberInSheet, fieldWith}
+use Rattle.format.specs.Format.{Format, end, field, Read, accepted, refused, FieldStep, step, stop, Medium, with, follow, read, write}
 use Rattle.format.specs.Media.{stepped, takeBits, packet, takeGroups, sheet}
 use Rattle.format.specs.Conforming.{Conforming, done, also, InPacket, InSheet}
 use Rattle.format.specs.Grounds.{Front, here, past, Every, atEnd, each, BitsFault, GroupsFault, Ground, atField, leftOver, Written, Ending, answered, grounded, OneJudgement}
@@ -67,7 +67,7 @@ with-refused i (accepted l) r n e k = absurd (never (sym e))
 with-refused i (refused q m) r n e k = k e
 
 -- what was refused, at this field or after it
-follow-refused : {A C : Type 0} (m : ℕ) (t : Step A) (next : Item → List A → Read) (r n : ℕ) → follow m t next ≡ refused r n
+follow-refused : {A C : Type 0} (m : ℕ) (t : FieldStep A) (next : Item → List A → Read) (r n : ℕ) → follow m t next ≡ refused r n
     → (t ≡ stop r → m ≡ n → C) → ((i : Item) (s : List A) → t ≡ step i s → next i s ≡ refused r n → C) → C
 follow-refused m (stop q) next r n e at after = let p : q ≡ r = cc in at (rw p) (cc)
 follow-refused m (step i s) next r n e at after = with-refused i (next i s) r n e λ f. after i s refl f
@@ -172,8 +172,8 @@ bits-stops k s r ok e =
     let w = k .width in
     let v = number (take w s) in
     by-cases (ltb (length s) w)
-    (λ d. let f : _≡_ {A = Step Bool} (stop 6) (stop r) = rw d at e in BitsFault.unfitting (ltb-true (length s) w d) (cc))
-    λ d. stepped-stop (fromPacket k v) (drop w s) r (rw d at e) λ p.
+    (λ d. let f : _≡_ {A = FieldStep Bool} (stop 6) (stop r) = rw d at e in BitsFault.unfitting (ltb-true (length s) w d) (cc))
+    λ d. stepped-stop (valueInPacket k v) (drop w s) r (rw d at e) λ p.
     by-cases (k .allowed v)
     (λ a. let f : Is (record { sheet = k .raise v; packet = v }) ≡ Refused r = rw a at p in absurd (let z : _≡_ {A = ℕ} 0 1 = cc in omega arith))
     λ a.
@@ -203,7 +203,7 @@ bits-faulting = record { stops = bits-stops; faults = bits-faults }
 
 -- groups
 
-lowered-none : {C : Type 0} (k : Kind) (a : ℕ) (o : Option ℕ) (r : ℕ) → loweredTo k a o ≡ Refused r → (o ≡ none → r ≡ k .refusal → C) → C
+lowered-none : {C : Type 0} (k : Kind) (a : ℕ) (o : Option ℕ) (r : ℕ) → fieldWith k a o ≡ Refused r → (o ≡ none → r ≡ k .refusal → C) → C
 lowered-none k a none r e f = f refl (cc)
 lowered-none k a (some v) r e f = absurd (let z : _≡_ {A = ℕ} 0 1 = cc in omega arith)
 
@@ -212,12 +212,12 @@ groups-stops k s r ok e = go (numberIn s) refl
   where
     go : (n : Number) → numberIn s ≡ n → GroupsFault k s r
     go Bad d =
-        let f : _≡_ {A = Step ℕ} (stop 9) (stop r) = rw d at e in
+        let f : _≡_ {A = FieldStep ℕ} (stop 9) (stop r) = rw d at e in
         GroupsFault.numberless (λ a b.
         let v : numberIn s ≡ Value a = rw (b .whole) (number-again a (b .more) (b .below)) in
         let z : _≡_ {A = ℕ} 0 1 = cc in omega arith) (cc)
     go (Value a) d =
-        stepped-stop (fromSheet k a) (drop (length (groupsIn a)) s) r (rw d at e) λ p.
+        stepped-stop (numberInSheet k a) (drop (length (groupsIn a)) s) r (rw d at e) λ p.
         lowered-none k a (k .lower a) r p λ l q.
         let b = number-only s a ok d in
         GroupsFault.unallowed a (record { below = b .small; more = drop (length (groupsIn a)) s; whole = b .bytes }) l q

@@ -12,7 +12,7 @@ use Rattle.kinds.specs.Kind.{Kind}
 use Rattle.fields.proofs.Lawful.{LawfulKind, value-small, raised-small}
 use Rattle.format.specs.Format.{Format, end, field, accepted, read, write, packetValues}
 use Rattle.format.specs.Media.{packet, sheet}
-use Rattle.format.specs.Conforming.{Conforming, done, also, InPacket, InSheet, lowered}
+use Rattle.format.specs.Conforming.{Conforming, done, also, InPacket, InSheet, givenBack}
 use Rattle.format.proofs.Media.{packet-again, packet-only, sheet-again}
 
 pub data Lawful : Format → Type 0 where
@@ -29,7 +29,7 @@ to-sheet (goes {k = k} lawful rest) (also {i = i} g c) =
     (to-sheet (rest v (g .allowed)) c)
 
 -- values from a sheet, lowered, are good for a packet
-pub to-packet : {f : Format} {l : List Item} → Lawful f → Conforming InSheet f l → Conforming InPacket f (lowered f l)
+pub to-packet : {f : Format} {l : List Item} → Lawful f → Conforming InSheet f l → Conforming InPacket f (givenBack f l)
 to-packet w done = done
 to-packet (goes {k = k} lawful rest) (also {i = i} g c) =
     let v = i .packet in
@@ -37,12 +37,12 @@ to-packet (goes {k = k} lawful rest) (also {i = i} g c) =
     also (record { allowed = a; fits = value-small lawful v a; raised = refl }) (to-packet (rest v a) c)
 
 -- lowering leaves the packet's values, and so its bits
-pub lowered-bits : (f : Format) (l : List Item) → write packet f (lowered f l) ≡ write packet f l
+pub lowered-bits : (f : Format) (l : List Item) → write packet f (givenBack f l) ≡ write packet f l
 lowered-bits end l = refl
 lowered-bits (field k next) [] = refl
 lowered-bits (field k next) (i ∷ l) = ap (λ (s : List Bool). bitsOf (k .width) (i .packet) ++ s) (lowered-bits (next (i .packet)) l)
 
-pub lowered-values : {f : Format} {l : List Item} {Good : Kind → Item → Type 0} → Conforming Good f l → packetValues (lowered f l) ≡ packetValues l
+pub lowered-values : {f : Format} {l : List Item} {Good : Kind → Item → Type 0} → Conforming Good f l → packetValues (givenBack f l) ≡ packetValues l
 lowered-values done = refl
 lowered-values (also {i = i} g c) = ap (λ (s : List ℕ). i .packet ∷ s) (lowered-values c)
 
@@ -58,7 +58,7 @@ same-bits (field k next) (i ∷ l) (j ∷ m) e =
     rw p (ap (λ (s : List Bool). bitsOf (k .width) (j .packet) ++ s) (same-bits (next (j .packet)) l m q))
 
 -- and so does lowering
-pub same-lowered : (f : Format) (l m : List Item) → packetValues l ≡ packetValues m → lowered f l ≡ lowered f m
+pub same-lowered : (f : Format) (l m : List Item) → packetValues l ≡ packetValues m → givenBack f l ≡ givenBack f m
 same-lowered end l m e = refl
 same-lowered (field k next) [] [] e = refl
 same-lowered (field k next) [] (j ∷ m) e = absurd (let z : _≡_ {A = ℕ} 0 1 = cc in omega arith)
@@ -75,7 +75,7 @@ module _ (f : Format) (w : Lawful f) where
   packet-sheet-packet s l e = let p = packet-only f s l e in (sheet-again (to-sheet w (p .0)), sym (p .1))
 
   -- from conforming values of a sheet to its packet: accepted, with the values lowered
-  pub sheet-packet : (l : List Item) → Conforming InSheet f l → read packet f (write packet f l) ≡ accepted (lowered f l)
+  pub sheet-packet : (l : List Item) → Conforming InSheet f l → read packet f (write packet f l) ≡ accepted (givenBack f l)
   sheet-packet l c = rw (← lowered-bits f l) (packet-again (to-packet w c))
 
   -- the same packet exactly for the same packet values
@@ -85,11 +85,11 @@ module _ (f : Format) (w : Lawful f) where
     where
       only : write packet f l ≡ write packet f m → packetValues l ≡ packetValues m
       only e =
-          let p : accepted (lowered f l) ≡ accepted (lowered f m) = sym (sheet-packet l cl) ∙ ap (read packet f) e ∙ sheet-packet m cm in
-          let q : lowered f l ≡ lowered f m = cc in
+          let p : accepted (givenBack f l) ≡ accepted (givenBack f m) = sym (sheet-packet l cl) ∙ ap (read packet f) e ∙ sheet-packet m cm in
+          let q : givenBack f l ≡ givenBack f m = cc in
           sym (lowered-values cl) ∙ ap packetValues q ∙ lowered-values cm
 
   -- which is where they agree in every field after lowering
   pub same-fields : (l m : List Item) → Conforming InSheet f l → Conforming InSheet f m
-      → (packetValues l ≡ packetValues m) ↔ (lowered f l ≡ lowered f m)
+      → (packetValues l ≡ packetValues m) ↔ (givenBack f l ≡ givenBack f m)
   same-fields l m cl cm = (same-lowered f l m, λ q. sym (lowered-values cl) ∙ ap packetValues q ∙ lowered-values cm)

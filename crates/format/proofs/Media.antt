@@ -22,13 +22,13 @@ use Rattle.kinds.specs.declared.Item.{Item}
 use Rattle.kinds.specs.declared.Field.{Field}
 use Rattle.kinds.specs.declared.Field.the-variants.{Is, Refused}
 use Rattle.kinds.specs.Kind.{Kind}
-use Rattle.kinds.specs.Judged.{fromPacket, fromSheet, loweredTo}
-use Rattle.format.specs.Format.{Format, accepted, Step, step, stop, read, write}
+use Rattle.kinds.specs.Judged.{valueInPacket, numberInSheet, fieldWith}
+use Rattle.format.specs.Format.{Format, accepted, FieldStep, step, stop, read, write}
 use Rattle.format.specs.Media.{stepped, takeBits, putBits, packet, takeGroups, putGroups, sheet}
 use Rattle.format.specs.Conforming.{Conforming, InPacket, InSheet}
 use Rattle.format.proofs.Generic.{LawfulMedium, read-write, write-read}
 
-stopped : {A C : Type 0} {r : ℕ} {i : Item} {t : List A} → _≡_ {A = Step A} (stop r) (step i t) → C
+stopped : {A C : Type 0} {r : ℕ} {i : Item} {t : List A} → _≡_ {A = FieldStep A} (stop r) (step i t) → C
 stopped e = absurd (let z : _≡_ {A = ℕ} 0 1 = cc in omega arith)
 
 -- a field judged that went on
@@ -38,7 +38,7 @@ stepped-on (Refused r) s i t e k = stopped e
 
 -- ---- bits
 
-from-packet : {C : Type 0} (k : Kind) (v : ℕ) (i : Item) → fromPacket k v ≡ Is i
+from-packet : {C : Type 0} (k : Kind) (v : ℕ) (i : Item) → valueInPacket k v ≡ Is i
     → (k .allowed v ≡ true → i ≡ record { sheet = k .raise v; packet = v } → C) → C
 from-packet k v i e f =
     by-cases (k .allowed v)
@@ -65,7 +65,7 @@ bits-only k s i t ok e =
     let w = k .width in
     let v = number (take w s) in
     by-cases (ltb (length s) w) (λ d. stopped (rw d at e)) λ d.
-    stepped-on (fromPacket k v) (drop w s) i t (rw d at e) λ p q.
+    stepped-on (valueInPacket k v) (drop w s) i t (rw d at e) λ p q.
     from-packet k v i p λ a j.
     let n : length (take w s) ≡ w = length-take-le w s (ltb-false (length s) w d) in
     let fits : v < 2 ^ w = rw n at (number-small (take w s)) in
@@ -82,7 +82,7 @@ bytes-drop zero s ok = ok
 bytes-drop (suc n) [] ok = ok
 bytes-drop (suc n) (b ∷ s) ok = bytes-drop n s (ok .1)
 
-from-sheet : {C : Type 0} (k : Kind) (a : ℕ) (o : Option ℕ) (i : Item) → k .lower a ≡ o → loweredTo k a o ≡ Is i
+from-sheet : {C : Type 0} (k : Kind) (a : ℕ) (o : Option ℕ) (i : Item) → k .lower a ≡ o → fieldWith k a o ≡ Is i
     → ((v : ℕ) → k .lower a ≡ some v → i ≡ record { sheet = a; packet = v } → C) → C
 from-sheet k a none i d e f = absurd (let z : _≡_ {A = ℕ} 0 1 = cc in omega arith)
 from-sheet k a (some v) i d e f = f v d (cc)
@@ -96,7 +96,7 @@ groups-only k s i t ok e = go (numberIn s) refl
     go : (r : Number) → numberIn s ≡ r → InSheet k i × (s ≡ putGroups k i ++ t) × Bytes t
     go Bad d = stopped (rw d at e)
     go (Value a) d =
-        stepped-on (fromSheet k a) (drop (length (groupsIn a)) s) i t (rw d at e) λ p q.
+        stepped-on (numberInSheet k a) (drop (length (groupsIn a)) s) i t (rw d at e) λ p q.
         from-sheet k a (k .lower a) i refl p λ v l j.
         let r = number-only s a ok d in
         rw (j, ← q) (record { lowered = l; fits = r .small }, r .bytes, bytes-drop (length (groupsIn a)) s ok)

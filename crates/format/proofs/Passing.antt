@@ -18,14 +18,14 @@ use Rattle.kinds.specs.declared.Item.{Item}
 use Rattle.kinds.specs.declared.Field.{Field}
 use Rattle.kinds.specs.declared.Field.the-variants as Judged
 use Rattle.kinds.specs.Kind.{Kind}
-use Rattle.kinds.specs.Judged.{fromPacket, fromSheet}
-use Rattle.format.specs.Format.{Format, end, field, Read, accepted, refused, Step, step, stop, Medium, with, follow, read, answerOf}
+use Rattle.kinds.specs.Judged.{valueInPacket, numberInSheet}
+use Rattle.format.specs.Format.{Format, end, field, Read, accepted, refused, FieldStep, step, stop, Medium, with, follow, read, answerOf}
 use Rattle.format.specs.Media as media
 use Rattle.format.specs.Media.{takeBits, takeGroups, packet, sheet}
 use Rattle.format.specs.Places as places
-use Rattle.format.specs.Places.{Taken, rest, Placed, takenAt, bitsTaken, numberTaken}
+use Rattle.format.specs.Places.{Taken, bitsBetween, Placed, takenAt, bitsTaken, numberTaken}
 use Rattle.format.proofs.Places.{rest-length}
-use Rattle.format.specs.Pass.{Task, stepped, taken, pass, made}
+use Rattle.format.specs.Pass.{Task, ofStep, ofTaken, pass, made}
 
 module _ {A X B : Type 0} (m : Medium A) (t : Task X B) where
   -- a pass is a reading, and what is made of the values
@@ -41,7 +41,7 @@ module _ {A X B : Type 0} (m : Medium A) (t : Task X B) where
 
       go : ((i : Item) (v : List A) → pass m t (next (i .packet)) (t .on k i x) v
           ≡ answerOf (t .refusal) (λ l. t .answer (made t (next (i .packet)) l (t .on k i x))) (read m (next (i .packet)) v))
-          → (u : Step A) → stepped (t .refusal) u (λ i v. pass m t (next (i .packet)) (t .on k i x) v)
+          → (u : FieldStep A) → ofStep (t .refusal) u (λ i v. pass m t (next (i .packet)) (t .on k i x) v)
           ≡ answerOf (t .refusal) (λ l. t .answer (made t (field k next) l x)) (follow (length s) u (λ i v. read m (next (i .packet)) v))
       go more (step i v) = more i v ∙ with-one i (read m (next (i .packet)) v)
       go more (stop r) = refl
@@ -49,7 +49,7 @@ module _ {A X B : Type 0} (m : Medium A) (t : Task X B) where
 -- ---- a medium seen at places
 
 -- the medium's step, from a field taken at a place
-abbrev pub stepAt : {A : Type 0} → (ℕ → List A) → Taken → Step A
+abbrev pub stepAt : {A : Type 0} → (ℕ → List A) → Taken → FieldStep A
 stepAt view (Taken.Is i to) = step i (view to)
 stepAt view (Taken.Refused r) = stop r
 
@@ -60,11 +60,11 @@ pub record Seen {A : Type 0} (m : Medium A) (view : ℕ → List A) (took : Kind
 module _ {A X B : Type 0} {m : Medium A} {view : ℕ → List A} {took : Kind → ℕ → Taken} {Here : ℕ → Type 0} (seen : Seen m view took Here) (t : Task X B) where
   -- a field at a place, and then what follows at the place after it
   pub pass-field : (k : Kind) (next : ℕ → Format) (x : X) (at : ℕ) → Here at
-      → pass m t (field k next) x (view at) ≡ taken (t .refusal) (took k at) (λ i to. pass m t (next (i .packet)) (t .on k i x) (view to))
+      → pass m t (field k next) x (view at) ≡ ofTaken (t .refusal) (took k at) (λ i to. pass m t (next (i .packet)) (t .on k i x) (view to))
   pass-field k next x at h = rw (seen .sees k at h) (go (took k at))
     where
-      go : (u : Taken) → stepped (t .refusal) (stepAt view u) (λ i v. pass m t (next (i .packet)) (t .on k i x) v)
-          ≡ taken (t .refusal) u (λ i to. pass m t (next (i .packet)) (t .on k i x) (view to))
+      go : (u : Taken) → ofStep (t .refusal) (stepAt view u) (λ i v. pass m t (next (i .packet)) (t .on k i x) v)
+          ≡ ofTaken (t .refusal) u (λ i to. pass m t (next (i .packet)) (t .on k i x) (view to))
       go (Taken.Is i to) = refl
       go (Taken.Refused r) = refl
 
@@ -75,7 +75,7 @@ stepped-taken view (Judged.Is i) to = refl
 stepped-taken view (Judged.Refused r) to = refl
 
 module _ (s : List ℕ) (end : ℕ) where
-  bits-sees : (k : Kind) (at : ℕ) → Placed s at end → takeBits k (rest s at end) ≡ stepAt (λ n. rest s n end) (bitsTaken k s at end)
+  bits-sees : (k : Kind) (at : ℕ) → Placed s at end → takeBits k (bitsBetween s at end) ≡ stepAt (λ n. bitsBetween s n end) (bitsTaken k s at end)
   unfolding fieldAt
   bits-sees k at h =
       rw (rest-length s end at h)
@@ -90,9 +90,9 @@ module _ (s : List ℕ) (end : ℕ) where
         drop-drop,
         e,
       )
-      (stepped-taken (λ n. rest s n end) (fromPacket k (fieldAt s at (k .width))) (at + k .width))))
+      (stepped-taken (λ n. bitsBetween s n end) (valueInPacket k (fieldAt s at (k .width))) (at + k .width))))
 
-  pub packet-seen : Seen packet (λ at. rest s at end) (λ k at. bitsTaken k s at end) (λ at. Placed s at end)
+  pub packet-seen : Seen packet (λ at. bitsBetween s at end) (λ k at. bitsTaken k s at end) (λ at. Placed s at end)
   packet-seen = record { sees = bits-sees }
 
 -- ---- a sheet's groups
@@ -101,8 +101,8 @@ module _ (s : List ℕ) where
   groups-sees : (k : Kind) (at : ℕ) → Unit {0} → takeGroups k (drop at s) ≡ stepAt (λ n. drop n s) (numberTaken k s at)
   groups-sees k at h = go (numberIn (drop at s))
     where
-      go : (x : Number) → media.numbered k x (drop at s) ≡ stepAt (λ n. drop n s) (places.numbered k at x)
-      go (Value a) = rw drop-drop (stepped-taken (λ n. drop n s) (fromSheet k a) (at + length (groupsIn a)))
+      go : (x : Number) → media.numbered k x (drop at s) ≡ stepAt (λ n. drop n s) (places.takenOf k at x)
+      go (Value a) = rw drop-drop (stepped-taken (λ n. drop n s) (numberInSheet k a) (at + length (groupsIn a)))
       go Bad = refl
 
   pub sheet-seen : Seen sheet (λ at. drop at s) (λ k at. numberTaken k s at) (λ at. Unit {0})

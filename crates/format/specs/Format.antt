@@ -6,38 +6,39 @@ use lib.ListN.{length}
 use Rattle.kinds.specs.declared.Item.{Item}
 use Rattle.kinds.specs.Kind.{Kind}
 
--- Next a field of this kind; what follows depends on its value in the packet.
+-- "then that many": next a field of this kind; what follows depends on its value in the packet
 pub data Format : Type 0 where
   end : Format
   field : Kind → (ℕ → Format) → Format
 
--- a field on whose value nothing depends
+-- a field on whose value nothing depends, as in "NID_C 10, NID_SP 32"
 abbrev pub then : Kind → Format → Format
 then k f = field k (λ _. f)
 
--- What reading gives: the values of the fields, or a refusal's number and how much was left where it was given, which is its place.
+-- "A packet is judged": the values of the fields, or a refusal's number and how much was left where it was given, which is its place
 pub data Read : Type 0 where
   accepted : List Item → Read
   refused : ℕ → ℕ → Read
 
--- What reading one field gives: its value and what is left, or a refusal's number.
-pub data Step (A : Type 0) : Type 0 where
-  step : Item → List A → Step A
-  stop : ℕ → Step A
+-- "field by field in order": what reading one field gives, its value and what is left, or a refusal's number
+pub data FieldStep (A : Type 0) : Type 0 where
+  step : Item → List A → FieldStep A
+  stop : ℕ → FieldStep A
 
--- How a medium takes a field in front, and puts one; and the refusal where something is left after the last.
+-- how a medium takes a field in front, and puts one; and the refusal where something is left after the last: "6 for bits left", "9 for bytes left"
 pub record Medium (A : Type 0) : Type 0 where
-  pub take : Kind → List A → Step A
+  pub take : Kind → List A → FieldStep A
   pub put : Kind → Item → List A
   pub left : ℕ
 
--- a value in front of those read after it
+-- "field by field in order": a value in front of those read after it
 abbrev pub with : Item → Read → Read
 with i (accepted l) = accepted (i ∷ l)
 with i (refused r n) = refused r n
 
 module _ {A : Type 0} where
-  abbrev pub follow : ℕ → Step A → (Item → List A → Read) → Read
+  -- "field by field in order": what one field gives, and then the others
+  abbrev pub follow : ℕ → FieldStep A → (Item → List A → Read) → Read
   follow n (step i s) next = with i (next i s)
   follow n (stop r) next = refused r n
 
@@ -47,6 +48,7 @@ module _ {A : Type 0} where
   read m end (x ∷ s) = refused (m .left) (length (x ∷ s))
   read m (field k next) s = follow (length s) (m .take k s) (λ i t. read m (next (i .packet)) t)
 
+  -- "numbers one after the other", and a packet's fields so: what is put for each value
   abbrev pub write : Medium A → Format → List Item → List A
   write m end l = []
   write m (field k next) [] = []
@@ -57,14 +59,15 @@ abbrev pub valuesOf : Read → List Item
 valuesOf (accepted l) = l
 valuesOf (refused r left) = []
 
--- what is answered: of the values that were read, or of a refusal's number
+-- what is answered: of the values that were read, or of a refusal, which "returns its number"
 abbrev pub answerOf : {B : Type 0} → (ℕ → B) → (List Item → B) → Read → B
 answerOf refusal value (accepted l) = value l
 answerOf refusal value (refused r left) = refusal r
 
--- the fields' values in the packet, and in the sheet
+-- the column "Packet": the fields' values in the packet
 abbrev pub packetValues : List Item → List ℕ
 packetValues l = map (λ i. i .packet) l
 
+-- the column "Sheet": the fields' numbers in the sheet
 abbrev pub sheetNumbers : List Item → List ℕ
 sheetNumbers l = map (λ i. i .sheet) l

@@ -13,7 +13,7 @@ use Rattle.kinds.specs.Kind.{Kind}
 use Rattle.format.specs.Format.{Format, end, field, Medium, write}
 use Rattle.format.specs.Conforming.{Conforming}
 
--- values that conform to the front of a tree, one good value for each field, and the tree that stands after them
+-- "field by field in order": values that conform to the front of a tree, one good value for each field, and the tree that stands after them
 pub data Front (Good : Kind → Item → Type 0) : Format → List Item → Format → Type 0 where
   here : {f : Format} → Front Good f [] f
   past : {k : Kind} {next : ℕ → Format} {i : Item} {l : List Item} {g : Format} → Good k i → Front Good (next (i .packet)) l g → Front Good (field k next) (i ∷ l) g
@@ -23,17 +23,17 @@ pub data Every (Holds : Kind → Type 0) : Format → Type 0 where
   atEnd : Every Holds end
   each : {k : Kind} {next : ℕ → Format} → Holds k → ((v : ℕ) → Every Holds (next v)) → Every Holds (field k next)
 
--- one of the numbers of a list
+-- one of the numbers of a list, as the "Refusal numbers"
 pub data Among (a : ℕ) : List ℕ → Type 0 where
   first : {l : List ℕ} → Among a (a ∷ l)
   later : {b : ℕ} {l : List ℕ} → Among a l → Among a (b ∷ l)
 
--- an input that is written of conforming values
+-- "When a packet is written": an input that is written of conforming values
 pub record Written {A : Type 0} (m : Medium A) (Good : Kind → Item → Type 0) (f : Format) (s : List A) (values : List Item) : Type 0 where
   pub good : Conforming Good f values
   pub whole : s ≡ write m f values
 
--- what is wrong with a field of a packet that these bits are left for
+-- "6 before 4 or 5": what is wrong with a field of a packet that these bits are left for
 pub data BitsFault (k : Kind) (bits : List Bool) (r : ℕ) : Type 0 where
   -- "6: a field doesn't fit in the body's remaining bits"
   unfitting : length bits < k .width → r ≡ 6 → BitsFault k bits r
@@ -47,7 +47,7 @@ pub record Begins (bytes : List ℕ) (a : ℕ) : Type 0 where
   pub more : List ℕ
   pub whole : bytes ≡ groupsIn a ++ more
 
--- what is wrong with a field of a sheet that these bytes are left for
+-- "9 before 2, 4 or 5": what is wrong with a field of a sheet that these bytes are left for
 pub data GroupsFault (k : Kind) (bytes : List ℕ) (r : ℕ) : Type 0 where
   -- "9: sheet ends too soon, .. or a number is not in its shortest form or not below 4,294,967,296"
   numberless : ((a : ℕ) → Begins bytes a → ⊥) → r ≡ 9 → GroupsFault k bytes r
@@ -55,7 +55,7 @@ pub data GroupsFault (k : Kind) (bytes : List ℕ) (r : ℕ) : Type 0 where
   unallowed : (a : ℕ) → Begins bytes a → k .lower a ≡ none → r ≡ k .refusal → GroupsFault k bytes r
 
 module _ {A : Type 0} (m : Medium A) (Good : Kind → Item → Type 0) (Fault : Kind → List A → ℕ → Type 0) where
-  -- a field at fault, after values that conform
+  -- "field by field in order": a field at fault, after values that conform
   pub record AtField (f : Format) (s : List A) (r left : ℕ) : Type 0 where
     pub values : List Item
     pub kind : Kind
@@ -66,7 +66,7 @@ module _ {A : Type 0} (m : Medium A) (Good : Kind → Item → Type 0) (Fault : 
     pub fault : Fault kind rest r
     pub place : left ≡ length rest
 
-  -- something left after the last field
+  -- "6 for bits left", "9 for bytes left": something left after the last field
   pub record LeftOver (f : Format) (s : List A) (r left : ℕ) : Type 0 where
     pub values : List Item
     pub good : Conforming Good f values
@@ -81,7 +81,7 @@ module _ {A : Type 0} (m : Medium A) (Good : Kind → Item → Type 0) (Fault : 
     atField : AtField f s r left → Ground f s r left
     leftOver : LeftOver f s r left → Ground f s r left
 
--- an answer, or a ground
+-- "an answer or the one refusal": an answer, or a ground
 pub data Ending (Answered : Type 0) {I : Type 0} (Ground : I → Type 0) : Type 0 where
   answered : Answered → Ending Answered Ground
   grounded : (i : I) → Ground i → Ending Answered Ground
@@ -92,6 +92,6 @@ pub record OneEnding (Answered : Type 0) {I : Type 0} (Ground : I → Type 0) : 
   pub apart : (i : I) → Answered → Ground i → ⊥
   pub one : (i j : I) → Ground i → Ground j → i ≡ j
 
--- the same with the place of the refusal, for whoever judges: a ground for its number and how much was left
+-- "Each refusal is given then and not otherwise", with its place, for whoever judges: a ground for its number and how much was left
 abbrev pub OneJudgement : (List Item → Type 0) → (ℕ → ℕ → Type 0) → Type 0
 OneJudgement Values Ground = OneEnding ((l : List Item) × Values l) {I = ℕ × ℕ} (λ p. Ground (p .0) (p .1))

@@ -13,18 +13,19 @@ use Rattle.kinds.specs.declared.Item.{Item}
 use Rattle.kinds.specs.declared.Field.{Field}
 use Rattle.kinds.specs.declared.Field.the-variants.{Is, Refused}
 use Rattle.kinds.specs.Kind.{Kind}
-use Rattle.kinds.specs.Judged.{fromPacket, fromSheet}
-use Rattle.format.specs.Format.{Step, step, stop, Medium}
+use Rattle.kinds.specs.Judged.{valueInPacket, numberInSheet}
+use Rattle.format.specs.Format.{FieldStep, step, stop, Medium}
 
--- a field judged, and what is left after it
-abbrev pub stepped : {A : Type 0} → Field → List A → Step A
+-- "field by field in order": a field judged, and what is left after it
+abbrev pub stepped : {A : Type 0} → Field → List A → FieldStep A
 stepped (Is i) s = step i s
 stepped (Refused r) s = stop r
 
 -- "6: a field doesn't fit in the body's remaining bits", "6 before 4 or 5"
-abbrev pub takeBits : Kind → List Bool → Step Bool
-takeBits k s = cond (ltb (length s) (k .width)) (stop 6) (stepped (fromPacket k (number (take (k .width) s))) (drop (k .width) s))
+abbrev pub takeBits : Kind → List Bool → FieldStep Bool
+takeBits k s = cond (ltb (length s) (k .width)) (stop 6) (stepped (valueInPacket k (number (take (k .width) s))) (drop (k .width) s))
 
+-- "each field most significant bit first"
 abbrev pub putBits : Kind → Item → List Bool
 putBits k i = bitsOf (k .width) (i .packet)
 
@@ -33,13 +34,15 @@ abbrev pub packet : Medium Bool
 packet = record { take = takeBits; put = putBits; left = 6 }
 
 -- "9: sheet ends too soon, .. or a number is not in its shortest form", "9 before 2, 4 or 5"
-abbrev pub numbered : Kind → Number → List ℕ → Step ℕ
-numbered k (Value a) s = stepped (fromSheet k a) (drop (length (groupsIn a)) s)
+abbrev pub numbered : Kind → Number → List ℕ → FieldStep ℕ
+numbered k (Value a) s = stepped (numberInSheet k a) (drop (length (groupsIn a)) s)
 numbered k Bad s = stop (refusalOf Bad)
 
-abbrev pub takeGroups : Kind → List ℕ → Step ℕ
+-- "A sheet is judged number by number"
+abbrev pub takeGroups : Kind → List ℕ → FieldStep ℕ
 takeGroups k s = numbered k (numberIn s) s
 
+-- "each in groups of seven bits"
 abbrev pub putGroups : Kind → Item → List ℕ
 putGroups k i = groupsIn (i .sheet)
 

@@ -12,7 +12,7 @@ use Rattle.numbers.specs.Numbers.{numberIn, groupsIn, refusalOf}
 use Rattle.kinds.specs.declared.Field.{Field}
 use Rattle.kinds.specs.declared.Field.the-variants as Judged
 use Rattle.kinds.specs.Kind.{Kind}
-use Rattle.kinds.specs.Judged.{fromPacket, fromSheet}
+use Rattle.kinds.specs.Judged.{valueInPacket, numberInSheet}
 use Rattle.kinds.specs.declared.Item.{Item}
 
 -- a field's value and the place after it, or a refusal
@@ -21,8 +21,8 @@ pub data Taken : Type 0 where
   Refused : ℕ → Taken
 
 -- the bits of a packet from the bit at up to the bit stop
-abbrev pub rest : List ℕ → ℕ → ℕ → List Bool
-rest s at stop = take (stop - at) (drop at (bitsOfBytes s))
+abbrev pub bitsBetween : List ℕ → ℕ → ℕ → List Bool
+bitsBetween s at stop = take (stop - at) (drop at (bitsOfBytes s))
 
 -- a place in a packet whose fields end at the bit stop
 pub record Placed (s : List ℕ) (at stop : ℕ) : Type 0 where
@@ -37,12 +37,12 @@ takenAt (Judged.Refused r) next = Refused r
 
 -- "field by field in order (6 before 4 or 5)"
 abbrev pub bitsTaken : Kind → List ℕ → ℕ → ℕ → Taken
-bitsTaken k s at stop = cond (ltb (stop - at) (k .width)) (Refused 6) (takenAt (fromPacket k (fieldAt s at (k .width))) (at + k .width))
+bitsTaken k s at stop = cond (ltb (stop - at) (k .width)) (Refused 6) (takenAt (valueInPacket k (fieldAt s at (k .width))) (at + k .width))
 
 -- "number by number, 9 before 2, 4 or 5"
-abbrev pub numbered : Kind → ℕ → Number → Taken
-numbered k at (Value a) = takenAt (fromSheet k a) (at + length (groupsIn a))
-numbered k at Bad = Refused (refusalOf Bad)
+abbrev pub takenOf : Kind → ℕ → Number → Taken
+takenOf k at (Value a) = takenAt (numberInSheet k a) (at + length (groupsIn a))
+takenOf k at Bad = Refused (refusalOf Bad)
 
 abbrev pub numberTaken : Kind → List ℕ → ℕ → Taken
-numberTaken k s at = numbered k at (numberIn (drop at s))
+numberTaken k s at = takenOf k at (numberIn (drop at s))

@@ -1,4 +1,4 @@
--- A step over a part of a tree, in a pass that carries anything from place to place.
+-- A step over a part of a tree, in a pass that carries anything from place to place. What the code below a promise is held to; no promise names it.
 -- Assumes nothing.
 use mathlib.Core.Path.{_≡_}
 use mathlib.Core.List.{List}

@@ -20,7 +20,7 @@ use Rattle.format.specs.Media.{packet}
 use Rattle.segment.specs.Segment.{fields, wireChanges}
 use Rattle.segment.specs.Frame.{packetNumber, bodyBits, fromOne, numberItem, padded}
 use Rattle.segment.specs.Judgement.{segmentNumber, fromPacket}
-use Rattle.format.specs.Places.{rest, Placed}
+use Rattle.format.specs.Places.{bitsBetween, Placed}
 use Rattle.frame.specs.declared.Frame.{Frame}
 use Rattle.frame.specs.declared.Frame.the-variants as Frame
 use Rattle.frame.specs.Framed.{frameOf}
@@ -65,7 +65,7 @@ module _ (s : List ℕ) where
 
   -- the fields of a packet whose frame is whole, and its padding
   pub packet-fields : (stop : ℕ) → Frame.End stop ≡ frameOf s
-      → fromPacket wireChanges s ≡ padded segmentNumber (fromOne (drop stop (bitsOfBytes s))) (read packet (fields wireChanges) (rest s 24 stop))
+      → fromPacket wireChanges s ≡ padded segmentNumber (fromOne (drop stop (bitsOfBytes s))) (read packet (fields wireChanges) (bitsBetween s 24 stop))
   unfolding fromPacket
   packet-fields stop e =
       let w = whole stop e in
@@ -129,7 +129,7 @@ module _ {B : Type 0} (refusal : ℕ → B) (value : List Item → B) where
 
     module _ (stop : ℕ) (e : Frame.End stop ≡ frameOf s) where
       abbrev fieldsRead : Read
-      fieldsRead = read packet (fields wireChanges) (rest s 24 stop)
+      fieldsRead = read packet (fields wireChanges) (bitsBetween s 24 stop)
 
       pub packet-refused : {r : ℕ} → refusal r ≡ fieldsAnswer fieldsRead → ((l : List Item) → refusal r ≡ value l → ⊥)
           → refusal r ≡ answerOf refusal value (fromPacket wireChanges s)

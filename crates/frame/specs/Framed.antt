@@ -1,4 +1,4 @@
--- The frame of a packet as the code answers it: a refusal, or where the fields end.
+-- The frame of a packet as the code answers it: a refusal, or where the fields end. What the code below a promise is held to; no promise names it.
 -- Assumes nothing.
 use mathlib.Core.Bool.{cond}
 use mathlib.Core.List.{List}

@@ -13,9 +13,9 @@ pub enum Frame {
 }
 
 // The refusals of a frame.
-pub const SHORT: u32 = 1;
+pub const TOO_SHORT: u32 = 1;
 
-pub const LENGTH: u32 = 3;
+pub const OTHER_SIZE: u32 = 3;
 
 pub const PADDING: u32 = 7;
 
@@ -25,20 +25,20 @@ pub const HEADER: usize = 15;
 pub const FIRST_FIELD: usize = 24;
 
 // The bit where a packet's fields end, or the refusal of its frame.
-pub fn framed(s: &[u8]) -> Frame
+pub fn judge_frame(s: &[u8]) -> Frame
     ensures { λ r. ⌜ r ≡ frameOf (now (s .entry)) ⌝ }
 {
     if s.len() < HEADER {
-        return Frame::Refused(SHORT);
+        return Frame::Refused(TOO_SHORT);
     }
-    if bits::read_field(s, 0, header::NidPacketAto::WIDTH) != header::NidPacketAto::LARGEST {
+    if bits::read_field(s, 0, header::NidPacketAto::WIDTH) != header::NidPacketAto::SEGMENT {
         return Frame::Refused(kinds::PACKET_NUMBER);
     }
     let body = bits::read_field(s, 8, header::LPacketAto::WIDTH) as usize;
     if s.len() == HEADER + (body + 7) / 8 {
         Frame::End(8 * HEADER + body)
     } else {
-        Frame::Refused(LENGTH)
+        Frame::Refused(OTHER_SIZE)
     }
 }
 

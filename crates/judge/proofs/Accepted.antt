@@ -12,34 +12,37 @@ use Rattle.segment.specs.Segment.{fields, wireChanges}
 use Rattle.segment.specs.Frame.{fromOne, numberItem}
 use Rattle.segment.specs.Judgement.{fromPacket}
 use Rattle.segment.proofs.Framing.{padded-accepted}
-use Rattle.format.specs.Places.{rest}
-use Rattle.judge.specs.declared.Verdict.the-variants.{Accepted, Refused}
+use Rattle.format.specs.Places.{bitsBetween}
+use Rattle.judge.specs.declared.PacketVerdict.the-variants as PacketVerdict
 use Rattle.frame.specs.declared.Frame.the-variants as Frame
 use Rattle.judge.specs.Verdict.{verdictOf}
 use Rattle.frame.specs.Framed.{frameOf}
 use Rattle.frame.proofs.Framing.{packet-frame, packet-fields}
-use Rattle.judge.proofs.Sizes.{refused-apart}
+use Rattle.judge.proofs.Sizes.{Sorts, packet-sorts}
 
-pub verdict-accepted : {C : Type 0} (size : List Item → ℕ) (r : Read) (n : ℕ) → Accepted n ≡ verdictOf size r → (r ≡ accepted (valuesOf r) → n ≡ size (valuesOf r) → C) → C
-verdict-accepted size (accepted l) n e k = k refl (cc)
-verdict-accepted size (refused r left) n e k = refused-apart (sym e)
+module _ {B : Type 0} {accepts refuses : ℕ → B} (sorts : Sorts accepts refuses) (size : List Item → ℕ) where
+  pub verdict-accepted : {C : Type 0} (r : Read) (n : ℕ) → accepts n ≡ verdictOf accepts refuses size r → (r ≡ accepted (valuesOf r) → n ≡ size (valuesOf r) → C) → C
+  verdict-accepted (accepted l) n e k = k refl (sorts .size e)
+  verdict-accepted (refused r left) n e k = absurd (sorts .apart (sym e))
 
-pub verdict-refused : {C : Type 0} (size : List Item → ℕ) (r : Read) (q : ℕ) → Refused q ≡ verdictOf size r → ((left : ℕ) → r ≡ refused q left → C) → C
-verdict-refused size (accepted l) q e k = refused-apart e
-verdict-refused size (refused r left) q e k = let p : r ≡ q = cc in k left (rw p)
+  pub verdict-refused : {C : Type 0} (r : Read) (q : ℕ) → refuses q ≡ verdictOf accepts refuses size r → ((left : ℕ) → r ≡ refused q left → C) → C
+  verdict-refused (accepted l) q e k = absurd (sorts .apart e)
+  verdict-refused (refused r left) q e k = let p : r ≡ q = sym (sorts .number e) in k left (rw p)
 
 module _ (s : List ℕ) where
   -- the frame of an accepted packet is whole
   pub accepted-frame : {C : Type 0} (r : ℕ) {l : List Item} → fromPacket wireChanges s ≡ accepted l → Frame.Refused r ≡ frameOf s → C
-  accepted-frame r a e = refused-apart (packet-frame Refused (λ l. Accepted 0) s r e ∙ ap (answerOf Refused (λ l. Accepted 0)) a)
+  accepted-frame r a e =
+      let none : List Item → _ = λ l. PacketVerdict.SheetBytes 0 in
+      absurd (packet-sorts .apart {n = 0} (packet-frame PacketVerdict.Refused none s r e ∙ ap (answerOf PacketVerdict.Refused none) a))
 
   -- the fields' own values
   pub record Parts (stop : ℕ) (l : List Item) : Type 0 where
     pub values : List Item
-    pub reads : read packet (fields wireChanges) (rest s 24 stop) ≡ accepted values
+    pub reads : read packet (fields wireChanges) (bitsBetween s 24 stop) ≡ accepted values
     pub all : l ≡ numberItem 6 ∷ values
 
   pub parts : (stop : ℕ) (l : List Item) → Frame.End stop ≡ frameOf s → fromPacket wireChanges s ≡ accepted l → Parts stop l
   parts stop l e a =
-      padded-accepted 6 (fromOne (drop stop (bitsOfBytes s))) (read packet (fields wireChanges) (rest s 24 stop)) l (sym (packet-fields s stop e) ∙ a) λ m p none q.
+      padded-accepted 6 (fromOne (drop stop (bitsOfBytes s))) (read packet (fields wireChanges) (bitsBetween s 24 stop)) l (sym (packet-fields s stop e) ∙ a) λ m p none q.
       record { values = m; reads = p; all = q }

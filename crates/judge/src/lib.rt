@@ -1,7 +1,14 @@
-// The verdict on a packet or on a sheet, with the size of what it converts to, and the refusals of a medium.
+// The verdict on a packet and on a sheet, with the size of what it converts to, and the refusals of a medium.
 
-pub enum Verdict {
-    Accepted(usize),
+// The bytes of the packet's sheet.
+pub enum PacketVerdict {
+    SheetBytes(usize),
+    Refused(u32),
+}
+
+// The bits of the sheet's packet, without L_PACKET_ATO and padding.
+pub enum SheetVerdict {
+    PacketBits(usize),
     Refused(u32),
 }
 

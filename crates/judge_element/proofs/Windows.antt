@@ -1,15 +1,16 @@
 -- Fields that are read at once, as parts of one number; and the steps over them, from the bytes counted of each.
 -- Assumes nothing.
-use mathlib.Core.Path.{_≡_, refl}
+use mathlib.Core.Path.{_≡_, refl, _∙_}
 use mathlib.Core.List.{List}
 use Prim.Native.Nat.{ℕ, zero, suc, _+_, _*_, _-_, _/_, _%_, _≤_}
 use native.Mathlib.Omega.{arith}
+use borrow.Author.Tests.{ne-eqb}
 use lib.Dec.{lit≤}
 use lib.ListN.{length}
 use Rattle.bits.specs.Bits.{fieldAt}
 use Rattle.bits.proofs.Windows.{field-front, field-back, read-window}
 use Rattle.kinds.specs.Kinds.{speed, qFront, nIter, qDiff, class, mVoltage, nidCTraction}
-use Rattle.kinds.specs.Judged.{fromPacket}
+use Rattle.kinds.specs.Judged.{valueInPacket}
 use Rattle.counts.specs.Counts.{bytesOf}
 use Rattle.counts.proofs.Bytes.{bytes-some, both-in, one-byte, class-refusal}
 use Rattle.format.specs.Format.{then}
@@ -21,11 +22,31 @@ use Rattle.judge_field.specs.declared.Step.the-variants.{On, Refused}
 use Rattle.judge_field.specs.declared.Next.the-variants as Next
 use Rattle.judge_field.specs.Judging.{Standing, Wide, Over, Took, Gave}
 use Rattle.judge_field.proofs.Steps.{took-none, took-some, past, past-off}
-use Rattle.judge_element.specs.Profile.{profileHead}
+use Rattle.judge_element.specs.Profile.{profileHead, bothBytes, nameBytes, pastEntry}
 
 pub class-wide : (q : ℕ) → Wide (class q)
 class-wide zero = record { some = lit≤ tt; most = lit≤ tt }
 class-wide (suc q) = record { some = lit≤ tt; most = lit≤ tt }
+
+-- an entry that has bytes
+past-some : (at n r : ℕ) → (r ≡ 0 → ⊥) → pastEntry at n r ≡ On (at + 13) (n + r)
+past-some at n zero z = absurd (z refl)
+past-some at n (suc r) z = refl
+
+-- the bytes of two fields, by cases
+both-cases : {C : Type 0} (a b : ℕ) → (a ≡ 0 → C) → ((a ≡ 0 → ⊥) → b ≡ 0 → C) → ((a ≡ 0 → ⊥) → (b ≡ 0 → ⊥) → bothBytes a b ≡ a + b → C) → C
+both-cases zero b f g k = f refl
+both-cases (suc a) zero f g k = g (λ z. omega arith) refl
+both-cases (suc a) (suc b) f g k =
+    k (λ z. omega arith) (λ z. omega arith) (rw (ne-eqb (suc a) 0 (λ z. omega arith), ne-eqb (suc b) 0 (λ z. omega arith)))
+
+-- the step over an entry, from its bytes
+module _ (s : List ℕ) (stop : ℕ) {at n r : ℕ} (o : Over entry s stop at n (pastEntry at n r)) where
+  pub entry-refused : r ≡ 0 → Over entry s stop at n (Refused 4)
+  entry-refused z = rw z at o
+
+  pub entry-passed : (r ≡ 0 → ⊥) → Over entry s stop at n (On (at + 13) (n + r))
+  entry-passed z = rw (past-some at n r z) at o
 
 module _ (s : List ℕ) (stop : ℕ) {at n : ℕ} (h : Standing s stop at n) where
   inside : (w : ℕ) → w ≤ stop - at → at + w ≤ 8 * length s
@@ -34,7 +55,7 @@ module _ (s : List ℕ) (stop : ℕ) {at n : ℕ} (h : Standing s stop at n) whe
   -- ---- an entry: Q_DIFF 2, class 4, V_DIFF 7
 
   module _ (room : 13 ≤ stop - at) {t : ℕ} (e : t ≡ fieldAt s at 13) {a b d : ℕ}
-      (ea : a ≡ bytesOf (fromPacket qDiff (t / 2048))) (eb : b ≡ bytesOf (fromPacket (class (t / 2048)) (t / 128 % 16))) (ed : d ≡ bytesOf (fromPacket speed (t % 128))) where
+      (ea : a ≡ bytesOf (valueInPacket qDiff (t / 2048))) (eb : b ≡ bytesOf (valueInPacket (class (t / 2048)) (t / 128 % 16))) (ed : d ≡ bytesOf (valueInPacket speed (t % 128))) where
     q-value : t / 2048 ≡ fieldAt s at 2
     q-value = rw e (field-front s at 2 11 (inside 13 room))
 
@@ -65,15 +86,51 @@ module _ (s : List ℕ) (stop : ℕ) {at n : ℕ} (h : Standing s stop at n) whe
             value-on (λ q f. then (class q) (then speed f)) q-took
             (over-on (past s stop class-took) (past-off s stop (took-none s stop speed 7 refl (class-took .stands) (lit≤ tt) (omega arith) speed-value ed z)))
 
-        pub entry-on : (d ≡ 0 → ⊥) → Over entry s stop at n (On (at + 13) (n + a + b + d))
+        pub entry-on : (d ≡ 0 → ⊥) → Over entry s stop at n (pastEntry at n (a + b + d))
         entry-on z =
             let p : at + 2 + 4 + 7 ≡ at + 13 = omega arith in
-            rw p at (value-on (λ q f. then (class q) (then speed f)) q-took
+            let m : n + a + b + d ≡ n + (a + b + d) = omega arith in
+            rw (past-some at n (a + b + d) (λ y. omega arith), ← m, ← p) (value-on (λ q f. then (class q) (then speed f)) q-took
             (over-on (past s stop class-took) (past s stop (took-some s stop speed 7 refl (class-took .stands) (lit≤ tt) (omega arith) speed-value ed z))))
+
+  -- the same with the bytes of Q_DIFF and class together
+  module _ (room : 13 ≤ stop - at) {t : ℕ} (e : t ≡ fieldAt s at 13) {r d : ℕ} (er : r ≡ nameBytes (t / 128 / 16) (t / 128 % 16)) (ed : d ≡ bytesOf (valueInPacket speed (t % 128))) where
+    q-bytes : ℕ
+    q-bytes = bytesOf (valueInPacket qDiff (t / 2048))
+
+    class-bytes : ℕ
+    class-bytes = bytesOf (valueInPacket (class (t / 2048)) (t / 128 % 16))
+
+    named : r ≡ bothBytes q-bytes class-bytes
+    unfolding q-bytes class-bytes
+    named = let q : t / 128 / 16 ≡ t / 2048 = omega arith in rw q at er
+
+    pub name-refused : r ≡ 0 → Over entry s stop at n (Refused 4)
+    unfolding q-bytes class-bytes
+    name-refused z =
+        both-cases q-bytes class-bytes (λ za. entry-off room e refl refl ed za)
+        (λ za zb. class-off room e refl refl ed za zb)
+        (λ za zb p. absurd (za (omega (arith, named, p))))
+
+    module _ (z : r ≡ 0 → ⊥) where
+      pub speed-refused : d ≡ 0 → Over entry s stop at n (Refused 4)
+      unfolding q-bytes class-bytes
+      speed-refused zd =
+          both-cases q-bytes class-bytes (λ za. entry-off room e refl refl ed za)
+          (λ za zb. class-off room e refl refl ed za zb)
+          (λ za zb p. speed-off room e refl refl ed za zb zd)
+
+      pub entry-counted : (d ≡ 0 → ⊥) → Over entry s stop at n (pastEntry at n (r + d))
+      unfolding q-bytes class-bytes
+      entry-counted zd =
+          both-cases q-bytes class-bytes
+          (λ za. absurd (z (named ∙ rw za)))
+          (λ za zb. absurd (z (named ∙ rw (ne-eqb q-bytes 0 za, zb))))
+          (λ za zb p. rw (named ∙ p) (entry-on room e refl refl ed za zb zd))
 
   -- ---- V_STATIC 7, Q_FRONT 1, N_ITER 5: the last two may have any value
 
-  module _ (room : 13 ≤ stop - at) {t : ℕ} (e : t ≡ fieldAt s at 13) {a : ℕ} (ea : a ≡ bytesOf (fromPacket speed (t / 64))) where
+  module _ (room : 13 ≤ stop - at) {t : ℕ} (e : t ≡ fieldAt s at 13) {a : ℕ} (ea : a ≡ bytesOf (valueInPacket speed (t / 64))) where
     static-value : t / 64 ≡ fieldAt s at 7
     static-value = rw e (field-front s at 7 6 (inside 13 room))
 
@@ -109,7 +166,7 @@ module _ (s : List ℕ) (stop : ℕ) {at n : ℕ} (h : Standing s stop at n) whe
   -- ---- M_VOLTAGE 4, NID_CTRACTION 10
 
   module _ (room : 14 ≤ stop - at) {t : ℕ} (e : t ≡ fieldAt s at 14) {a b : ℕ}
-      (ea : a ≡ bytesOf (fromPacket mVoltage (t / 1024))) (eb : b ≡ bytesOf (fromPacket (nidCTraction (t / 1024)) (t % 1024))) where
+      (ea : a ≡ bytesOf (valueInPacket mVoltage (t / 1024))) (eb : b ≡ bytesOf (valueInPacket (nidCTraction (t / 1024)) (t % 1024))) where
     volts-value : t / 1024 ≡ fieldAt s at 4
     volts-value = rw e (field-front s at 4 10 (inside 14 room))
 

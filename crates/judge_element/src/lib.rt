@@ -1,9 +1,11 @@
 // The elements of a packet's lists judged, with the bytes of their sheet counted. Nothing is written.
+ghost use mathlib.Core.Path.{_≡_};
+ghost use Prim.Native.Nat.{_*_, _-_, _/_, _%_, _≤_, _<_};
 ghost use Rattle.segment.specs.Segment as segment;
 ghost use Rattle.segment.specs.Parts as parts;
 ghost use Rattle.segment.specs.Parts.{startOf};
 ghost use Rattle.judge_field.specs.Judging.{Standing, Over, Gave};
-ghost use Rattle.judge_element.specs.Profile.{profileHead};
+ghost use Rattle.judge_element.specs.Profile.{profileHead, nameBytes, pastEntry};
 use judge_field::Next;
 use judge_field::Step;
 use kinds::OUT_OF_RANGE;
@@ -29,36 +31,61 @@ fn cut_entry(s: &[u8], stop: usize, at: usize, n: usize) -> Step
 // The bits of an entry: Q_DIFF 2, class 4, V_DIFF 7.
 const ENTRY: usize = 13;
 
-// An entry: where its bits are all there, they are read at once.
-fn entry(s: &[u8], stop: usize, at: usize, n: usize) -> Step
-    requires { ⌜ Standing (now s) stop at n ⌝ }
-    ensures { λ r. ⌜ Over parts.entry (now (s .entry)) stop at n r ⌝ }
+// The names that an entry may have, Q_DIFF 2 and class 4, a bit for each; and those whose class has two bytes.
+const NAMES: u64 = 0x7000707FF;
+
+const LONG_NAMES: u64 = 0x7FC;
+
+// The bytes of an entry's Q_DIFF and class; 0 where one is refused. No branch depends on Q_DIFF.
+fn name_bytes(name: u32) -> u32
+    requires { ⌜ name < 64 ⌝ }
+    ensures { λ r. ⌜ r ≡ nameBytes (name / 16) (name % 16) ⌝ }
 {
-    if stop - at < ENTRY {
-        return cut_entry(s, stop, at, n);
+    if (NAMES >> name) % 2 == 0 {
+        return 0;
     }
+    2 + ((LONG_NAMES >> name) % 2) as u32
+}
+
+// The bytes of an entry whose bits are all there, read at once; 0 where a field is refused.
+fn whole_entry(s: &[u8], stop: usize, at: usize, n: usize) -> usize
+    requires { ⌜ Standing (now s) stop at n × (13 ≤ stop - at) ⌝ }
+    ensures { λ r. ⌜ Over parts.entry (now (s .entry)) stop at n (pastEntry at n r) ⌝ }
+{
     let t = bits::read_window(s, at, ENTRY as u32);
-    let q = t / 2048;
-    let first = counts::one(body::QDiff::LARGEST, q);
-    if first == 0 {
-        return Step::Refused(OUT_OF_RANGE);
-    }
-    let class = counts::class(q, t / 128 % 16);
-    if class == 0 {
-        return Step::Refused(OUT_OF_RANGE);
+    let name = name_bytes(t / 128);
+    if name == 0 {
+        return 0;
     }
     let speed = counts::speed(t % 128);
     if speed == 0 {
-        return Step::Refused(OUT_OF_RANGE);
+        return 0;
     }
-    Step::On(
-        at + ENTRY,
-        n + first as usize + class as usize + speed as usize,
-    )
+    name as usize + speed as usize
 }
 
-// The specific entries of an element.
-fn entries(s: &[u8], stop: usize, at: usize, n: usize, count: u32) -> Step
+// Entries whose bits are all there.
+fn whole_entries(s: &[u8], stop: usize, at: usize, n: usize, count: u32) -> Step
+    requires { ⌜ Standing (now s) stop at n × (13 * count ≤ stop - at) ⌝ }
+    ensures { λ r. ⌜ Over (segment.entries count) (now (s .entry)) stop at n r ⌝ }
+{
+    let mut to = at;
+    let mut m = n;
+    let mut left = count;
+    while 0 < left {
+        let bytes = whole_entry(s, stop, to, m);
+        if bytes == 0 {
+            return Step::Refused(OUT_OF_RANGE);
+        }
+        to += ENTRY;
+        m += bytes;
+        left -= 1;
+    }
+    Step::On(to, m)
+}
+
+// Entries field by field.
+fn cut_entries(s: &[u8], stop: usize, at: usize, n: usize, count: u32) -> Step
     requires { ⌜ Standing (now s) stop at n ⌝ }
     ensures { λ r. ⌜ Over (segment.entries count) (now (s .entry)) stop at n r ⌝ }
 {
@@ -66,7 +93,7 @@ fn entries(s: &[u8], stop: usize, at: usize, n: usize, count: u32) -> Step
     let mut m = n;
     let mut left = count;
     while 0 < left {
-        match entry(s, stop, to, m) {
+        match cut_entry(s, stop, to, m) {
             Step::Refused(r) => {
                 return Step::Refused(r);
             }
@@ -78,6 +105,17 @@ fn entries(s: &[u8], stop: usize, at: usize, n: usize, count: u32) -> Step
         }
     }
     Step::On(to, m)
+}
+
+// The specific entries of an element: whether their bits are all there is asked once.
+fn entries(s: &[u8], stop: usize, at: usize, n: usize, count: u32) -> Step
+    requires { ⌜ Standing (now s) stop at n ⌝ }
+    ensures { λ r. ⌜ Over (segment.entries count) (now (s .entry)) stop at n r ⌝ }
+{
+    if stop - at < ENTRY * count as usize {
+        return cut_entries(s, stop, at, n, count);
+    }
+    whole_entries(s, stop, at, n, count)
 }
 
 // ---- the speed profile

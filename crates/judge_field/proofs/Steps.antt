@@ -10,7 +10,7 @@ use Rattle.bits.proofs.Tests.{by-cases}
 use Rattle.numbers.specs.Numbers.{groupsIn}
 use Rattle.numbers.proofs.Counting.{count-some, count-five}
 use Rattle.kinds.specs.Kind.{Kind}
-use Rattle.kinds.specs.Judged.{fromPacket}
+use Rattle.kinds.specs.Judged.{valueInPacket}
 use Rattle.counts.specs.Counts.{bytesOf}
 use Rattle.format.specs.Format.{then}
 use Rattle.format.specs.Places.{Taken, Placed, takenAt, bitsTaken}
@@ -34,14 +34,14 @@ module _ (s : List ℕ) (stop : ℕ) where
     pub took-short : stop - at < w → Took k s stop at n (Next.Refused 6)
     took-short l = refused (bits-short k s at stop (rw e l))
 
-    module _ (some : 1 ≤ w) (room : w ≤ stop - at) {v r : ℕ} (ev : v ≡ fieldAt s at w) (er : r ≡ bytesOf (fromPacket k v)) where
-      there : takenAt (fromPacket k v) (at + w) ≡ bitsTaken k s at stop
+    module _ (some : 1 ≤ w) (room : w ≤ stop - at) {v r : ℕ} (ev : v ≡ fieldAt s at w) (er : r ≡ bytesOf (valueInPacket k v)) where
+      there : takenAt (valueInPacket k v) (at + w) ≡ bitsTaken k s at stop
       there = rw (ev, ← e) (bits-whole k s at stop (rw e room))
 
       pub took-none : r ≡ 0 → Took k s stop at n (Next.Refused (k .refusal))
       took-none z =
           by-cases (k .allowed v)
-          (λ a. absurd (let f : bytesOf (fromPacket k v) ≡ length (groupsIn (k .raise v)) = rw a in omega (arith, count-some (k .raise v))))
+          (λ a. absurd (let f : bytesOf (valueInPacket k v) ≡ length (groupsIn (k .raise v)) = rw a in omega (arith, count-some (k .raise v))))
           (λ a. refused (rw a at there))
 
       pub took-some : (r ≡ 0 → ⊥) → Took k s stop at n (Next.Is v (at + w) (n + r))

@@ -6,9 +6,9 @@ use lib.ListN.{length}
 use Rattle.kinds.specs.Kind.{Kind}
 use Rattle.format.specs.Format.{Format}
 use Rattle.format.specs.Media.{packet, sheet}
-use Rattle.format.specs.Places.{rest}
-use Rattle.judge.specs.declared.Verdict.{Verdict}
-use Rattle.judge.specs.declared.Verdict.the-variants as Verdict
+use Rattle.format.specs.Places.{bitsBetween}
+use Rattle.judge.specs.declared.PacketVerdict.{PacketVerdict}
+use Rattle.judge.specs.declared.PacketVerdict.the-variants as PacketVerdict
 use Rattle.judge_field.specs.declared.Step.{Step}
 use Rattle.judge_field.specs.declared.Step.the-variants.{On, Refused}
 use Rattle.judge_field.specs.declared.Next.{Next}
@@ -19,12 +19,12 @@ use Rattle.format.specs.Ways as ways
 use Rattle.format.specs.Ways.{Way, passing, Went, Got}
 
 -- the sheet's bytes are counted
-abbrev pub judging : Task ℕ Verdict
-judging = counting sheet Verdict.Accepted Verdict.Refused
+abbrev pub judging : Task ℕ PacketVerdict
+judging = counting sheet PacketVerdict.SheetBytes PacketVerdict.Refused
 
 -- the verdict on a tree that stands at the bit at, n bytes so far
-abbrev pub verdictAt : List ℕ → ℕ → Format → ℕ → ℕ → Verdict
-verdictAt s stop f at n = pass packet judging f n (rest s at stop)
+abbrev pub verdictAt : List ℕ → ℕ → Format → ℕ → ℕ → PacketVerdict
+verdictAt s stop f at n = pass packet judging f n (bitsBetween s at stop)
 
 -- a place in a packet whose fields end at the bit stop, with n bytes counted before it
 pub record Standing (s : List ℕ) (stop at n : ℕ) : Type 0 where
@@ -35,8 +35,8 @@ pub record Standing (s : List ℕ) (stop at n : ℕ) : Type 0 where
   pub counted : n ≤ 5 * at
 
 -- judging as a pass seen at places, and the answers of its functions
-abbrev pub judge : List ℕ → ℕ → Way ℕ Verdict
-judge s stop = passing packet judging (λ at. rest s at stop) (Standing s stop)
+abbrev pub judge : List ℕ → ℕ → Way ℕ PacketVerdict
+judge s stop = passing packet judging (λ at. bitsBetween s at stop) (Standing s stop)
 
 abbrev pub went : Step → Went ℕ
 went (On at n) = Went.on at n

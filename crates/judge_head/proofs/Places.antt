@@ -13,7 +13,7 @@ use Rattle.numbers.specs.Numbers.{groupsIn}
 use Rattle.numbers.proofs.Counting.{count-some}
 use Rattle.kinds.specs.Kind.{upTo}
 use Rattle.kinds.specs.Kinds.{nidOperational, tTimestampSeconds, lSp, qUtcOffset}
-use Rattle.kinds.specs.Judged.{fromPacket}
+use Rattle.kinds.specs.Judged.{valueInPacket}
 use Rattle.counts.specs.Counts.{bytesOf}
 use Rattle.counts.proofs.Bytes.{bytes-some, bytes-none, both-in, low-out}
 use Rattle.format.specs.Format.{then, field}
@@ -24,14 +24,14 @@ use Rattle.judge_field.specs.declared.Step.the-variants.{On, Refused}
 use Rattle.judge_field.specs.declared.Next.the-variants as Next
 use Rattle.judge_field.specs.Judging.{Standing, Over, Took, Gave}
 use Rattle.judge_field.proofs.Steps.{took-none, took-some, past, past-off}
-use Rattle.judge_head.specs.Head.{headPart, counted, Counted, Passed}
+use Rattle.judge_head.specs.Head.{headPart, stepTo, PartBytes, Passed}
 
 -- bytes that are some, and none
-pub counted-some : (to n r : ℕ) → (r ≡ 0 → ⊥) → counted to n r ≡ On to (n + r)
+pub counted-some : (to n r : ℕ) → (r ≡ 0 → ⊥) → stepTo to n r ≡ On to (n + r)
 counted-some to n zero z = absurd (z refl)
 counted-some to n (suc r) z = refl
 
-pub counted-none : (to n r : ℕ) → r ≡ 0 → counted to n r ≡ Refused 4
+pub counted-none : (to n r : ℕ) → r ≡ 0 → stepTo to n r ≡ Refused 4
 counted-none to n zero z = refl
 counted-none to n (suc r) z = absurd (omega arith)
 
@@ -47,9 +47,9 @@ module _ (s : List ℕ) where
 
   -- ---- the header
 
-  module _ {a b c d e : ℕ} (ea : a ≡ bytesOf (fromPacket nidOperational (fieldAt s 24 32))) (eb : b ≡ length (groupsIn (fieldAt s 56 24))) (ec : c ≡ length (groupsIn (fieldAt s 80 15)))
-      (ed : d ≡ bytesOf (fromPacket tTimestampSeconds (fieldAt s 95 17))) (ee : e ≡ length (groupsIn (fieldAt s 112 8))) where
-    pub header-off : a ≡ 0 → Counted (runs 0 5) s 24 120 0
+  module _ {a b c d e : ℕ} (ea : a ≡ bytesOf (valueInPacket nidOperational (fieldAt s 24 32))) (eb : b ≡ length (groupsIn (fieldAt s 56 24))) (ec : c ≡ length (groupsIn (fieldAt s 80 15)))
+      (ed : d ≡ bytesOf (valueInPacket tTimestampSeconds (fieldAt s 95 17))) (ee : e ≡ length (groupsIn (fieldAt s 112 8))) where
+    pub header-off : a ≡ 0 → PartBytes (runs 0 5) s 24 120 0
     unfolding runs kindAt
     header-off z stop n h l =
         let o = over-off {q = runs 1 4} (past-off s stop (took-none s stop nidOperational 32 refl h (lit≤ tt) (omega arith) refl ea z)) in
@@ -63,14 +63,14 @@ module _ (s : List ℕ) where
           let p = any stop 24 16777215 refl (lit≤ tt) (o .stands) (omega arith) eb in
           over-on o (over-on p (any stop 15 32767 refl (lit≤ tt) (p .stands) (omega arith) ec))
 
-      pub seconds-off : d ≡ 0 → Counted (runs 0 5) s 24 120 0
+      pub seconds-off : d ≡ 0 → PartBytes (runs 0 5) s 24 120 0
       unfolding runs kindAt
       seconds-off z stop n h l =
           let o = before stop n h l in
           let q = over-on o (over-off {q = runs 4 1} (past-off s stop (took-none s stop tTimestampSeconds 17 refl (o .stands) (lit≤ tt) (omega arith) refl ed z))) in
           record { goes = q .goes; stands = q .stands }
 
-      pub header-on : (d ≡ 0 → ⊥) → Counted (runs 0 5) s 24 120 (a + b + c + d + e)
+      pub header-on : (d ≡ 0 → ⊥) → PartBytes (runs 0 5) s 24 120 (a + b + c + d + e)
       unfolding runs kindAt
       header-on z stop n h l =
           let o = before stop n h l in
@@ -95,15 +95,15 @@ module _ (s : List ℕ) where
 
   -- ---- the fields between L_SP and the lists
 
-  module _ {a b c : ℕ} (ea : a ≡ length (groupsIn (fieldAt s 202 24))) (eb : b ≡ bytesOf (fromPacket qUtcOffset (fieldAt s 226 7))) (ec : c ≡ length (groupsIn (fieldAt s 233 20))) where
-    pub clock-off : b ≡ 0 → Counted (runs 10 3) s 202 253 0
+  module _ {a b c : ℕ} (ea : a ≡ length (groupsIn (fieldAt s 202 24))) (eb : b ≡ bytesOf (valueInPacket qUtcOffset (fieldAt s 226 7))) (ec : c ≡ length (groupsIn (fieldAt s 233 20))) where
+    pub clock-off : b ≡ 0 → PartBytes (runs 10 3) s 202 253 0
     unfolding runs kindAt
     clock-off z stop n h l =
         let o = any stop 24 16777215 refl (lit≤ tt) h (omega arith) ea in
         let q = over-on o (over-off {q = runs 12 1} (past-off s stop (took-none s stop qUtcOffset 7 refl (o .stands) (lit≤ tt) (omega arith) refl eb z))) in
         record { goes = q .goes; stands = q .stands }
 
-    pub offset-on : (b ≡ 0 → ⊥) → Counted (runs 10 3) s 202 253 (a + b + c)
+    pub offset-on : (b ≡ 0 → ⊥) → PartBytes (runs 10 3) s 202 253 (a + b + c)
     unfolding runs kindAt
     offset-on z stop n h l =
         let o = any stop 24 16777215 refl (lit≤ tt) h (omega arith) ea in
@@ -114,7 +114,7 @@ module _ (s : List ℕ) where
 
   -- ---- the whole
 
-  module _ {stop : ℕ} (h : Standing s stop 24 1) (room : 253 ≤ stop) {a : ℕ} (ca : Counted (runs 0 5) s 24 120 a) where
+  module _ {stop : ℕ} (h : Standing s stop 24 1) (room : 253 ≤ stop) {a : ℕ} (ca : PartBytes (runs 0 5) s 24 120 a) where
     pub head-off : a ≡ 0 → Gave headPart s stop 24 1 (Next.Refused 4)
     unfolding runs
     head-off z =
@@ -135,7 +135,7 @@ module _ (s : List ℕ) where
           let g = gave-on header-over (gave-on identity-over (gave-none (runs 10 3) (gave-took k))) in
           record { goes = g .goes; stands = g .stands }
 
-      module _ (zv : v ≡ 0 → ⊥) {r : ℕ} (d : ℕ) (er : r ≡ length (groupsIn v)) (cd : Counted (runs 10 3) s 202 253 d) where
+      module _ (zv : v ≡ 0 → ⊥) {r : ℕ} (d : ℕ) (er : r ≡ length (groupsIn v)) (cd : PartBytes (runs 10 3) s 202 253 d) where
         length-took : Took lSp s stop 178 (1 + a + b) (Next.Is v 202 (1 + a + b + r))
         length-took =
             let l : fieldAt s 178 24 < 2 ^ 24 = field-small s 178 24 24 (le-refl 24) in

@@ -14,13 +14,13 @@ abbrev pub headPart : (ℕ → Format) → Format
 headPart next = runs 0 9 (field lSp λ lsp. runs 10 3 (next lsp))
 
 -- the step over fields of r bytes that end at the bit to: "4" where there are none
-abbrev pub counted : ℕ → ℕ → ℕ → Step
-counted to n zero = Refused 4
-counted to n (suc r) = On to (n + suc r)
+abbrev pub stepTo : ℕ → ℕ → ℕ → Step
+stepTo to n zero = Refused 4
+stepTo to n (suc r) = On to (n + suc r)
 
 -- r is the bytes of a part from the bit at to the bit to, and 0 where a field of it is refused, wherever the packet's fields end after it
-abbrev pub Counted : (Format → Format) → List ℕ → ℕ → ℕ → ℕ → Type 0
-Counted part s at to r = (stop n : ℕ) → Standing s stop at n → to ≤ stop → Over part s stop at n (counted to n r)
+abbrev pub PartBytes : (Format → Format) → List ℕ → ℕ → ℕ → ℕ → Type 0
+PartBytes part s at to r = (stop n : ℕ) → Standing s stop at n → to ≤ stop → Over part s stop at n (stepTo to n r)
 
 -- the same of a part that is never refused
 abbrev pub Passed : (Format → Format) → List ℕ → ℕ → ℕ → ℕ → Type 0

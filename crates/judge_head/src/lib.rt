@@ -5,7 +5,7 @@ ghost use lib.ListN.{length};
 ghost use Rattle.kinds.specs.Rules.{meaning};
 ghost use Rattle.segment.specs.Parts.{kindAt, runs};
 ghost use Rattle.judge_field.specs.Judging.{Standing, Over, Gave};
-ghost use Rattle.judge_head.specs.Head.{headPart, Counted, Passed};
+ghost use Rattle.judge_head.specs.Head.{headPart, PartBytes, Passed};
 use judge_field::Next;
 use judge_field::Step;
 use kinds::OUT_OF_RANGE;
@@ -113,7 +113,7 @@ const LONG: usize = ALTITUDE / 8 + 9;
 // The header: NID_OPERATIONAL and the seconds can be refused.
 fn header_bytes(s: &[u8]) -> usize
     requires { ⌜ 38 ≤ length (now s) ⌝ }
-    ensures { λ r. ⌜ Counted (runs 0 5) (now (s .entry)) 24 120 r ⌝ }
+    ensures { λ r. ⌜ PartBytes (runs 0 5) (now (s .entry)) 24 120 r ⌝ }
 {
     let operational = counts::operational(bits::read_window(
         s,
@@ -131,8 +131,8 @@ fn header_bytes(s: &[u8]) -> usize
     if seconds == 0 {
         return 0;
     }
-    let engine = numbers::groups(bits::read_window(s, ENGINE, header::NidEngine::WIDTH));
-    let date = numbers::groups(bits::read_window(s, DATE, header::TTimestampDate::WIDTH));
+    let engine = grouping::groups(bits::read_window(s, ENGINE, header::NidEngine::WIDTH));
+    let date = grouping::groups(bits::read_window(s, DATE, header::TTimestampDate::WIDTH));
     let counter = counts::short(bits::read_window(s, COUNTER, header::NPacketCounter::WIDTH));
     operational as usize + engine as usize + date as usize + seconds as usize + counter as usize
 }
@@ -143,7 +143,7 @@ fn identity_bytes(s: &[u8]) -> usize
     ensures { λ r. ⌜ Passed (runs 5 4) (now (s .entry)) 120 178 r ⌝ }
 {
     let country = counts::short(bits::read_window(s, COUNTRY, body::NidC::WIDTH));
-    let identity = numbers::groups(bits::read_window(s, IDENTITY, body::NidSp::WIDTH));
+    let identity = grouping::groups(bits::read_window(s, IDENTITY, body::NidSp::WIDTH));
     let major = counts::short(bits::read_window(s, MAJOR, body::MSpVersion::WIDTH));
     let minor = counts::short(bits::read_window(s, MINOR, body::MSpVersion::WIDTH));
     country as usize + identity as usize + major as usize + minor as usize
@@ -152,7 +152,7 @@ fn identity_bytes(s: &[u8]) -> usize
 // The fields between L_SP and the lists: Q_UTC_Offset can be refused.
 fn offset_bytes(s: &[u8]) -> usize
     requires { ⌜ 38 ≤ length (now s) ⌝ }
-    ensures { λ r. ⌜ Counted (runs 10 3) (now (s .entry)) 202 253 r ⌝ }
+    ensures { λ r. ⌜ PartBytes (runs 10 3) (now (s .entry)) 202 253 r ⌝ }
 {
     let clock = counts::one(
         body::QUtcOffset::LARGEST,
@@ -161,8 +161,8 @@ fn offset_bytes(s: &[u8]) -> usize
     if clock == 0 {
         return 0;
     }
-    let offset = numbers::groups(bits::read_window(s, OFFSET, body::DEoAOffset::WIDTH));
-    let altitude = numbers::groups(bits::read_window(s, ALTITUDE, body::MSpAltitude::WIDTH));
+    let offset = grouping::groups(bits::read_window(s, OFFSET, body::DEoAOffset::WIDTH));
+    let altitude = grouping::groups(bits::read_window(s, ALTITUDE, body::MSpAltitude::WIDTH));
     offset as usize + clock as usize + altitude as usize
 }
 
@@ -184,7 +184,7 @@ fn whole_head(s: &[u8], stop: usize) -> Next
         return Next::Refused(OUT_OF_RANGE);
     }
     let identity = identity_bytes(s);
-    let length = numbers::groups(lsp);
+    let length = grouping::groups(lsp);
     Next::Is(lsp, END, 1 + header + identity + length as usize + offsets)
 }
 

@@ -9,17 +9,17 @@ use lib.ListN.{length}
 use Rattle.kinds.specs.declared.Item.{Item}
 use Rattle.format.specs.Format.{Format, end, Read, accepted, refused, read, answerOf}
 use Rattle.format.specs.Media.{packet, sheet}
-use Rattle.format.specs.Places.{rest, Placed}
+use Rattle.format.specs.Places.{bitsBetween, Placed}
 use Rattle.format.specs.Pass.{pass, made}
 use Rattle.format.proofs.Places.{rest-none, rest-some}
 use Rattle.format.proofs.Passing.{pass-read}
 use Rattle.format.proofs.Tasks.{made-count}
 use Rattle.segment.specs.Segment.{lists, body, fields, wireChanges}
 use Rattle.segment.specs.Parts.{kindAt, runs}
-use Rattle.judge.specs.declared.Verdict.{Verdict}
-use Rattle.judge.specs.declared.Verdict.the-variants as Verdict
+use Rattle.judge.specs.declared.PacketVerdict.{PacketVerdict}
+use Rattle.judge.specs.declared.PacketVerdict.the-variants as PacketVerdict
 use Rattle.judge.specs.Verdict.{fieldsVerdict}
-use Rattle.judge.proofs.Sizes.{sized-first}
+use Rattle.judge.proofs.Sizes.{size-first}
 use Rattle.judge_field.specs.declared.Step.the-variants.{On, Refused}
 use Rattle.judge_field.specs.Judging.{judging, verdictAt, Standing, Over}
 use Rattle.judge_packet.specs.Whole.{wholePart}
@@ -30,7 +30,7 @@ unfolding fields body lists runs kindAt
 whole-part = refl
 
 -- answers that agree on every list of values
-alike : (value more : List Item → Verdict) (r : Read) → ((l : List Item) → more l ≡ value l) → answerOf Verdict.Refused more r ≡ answerOf Verdict.Refused value r
+alike : (value more : List Item → PacketVerdict) (r : Read) → ((l : List Item) → more l ≡ value l) → answerOf PacketVerdict.Refused more r ≡ answerOf PacketVerdict.Refused value r
 alike value more (accepted l) h = h l
 alike value more (refused r left) h = refl
 
@@ -41,22 +41,22 @@ module _ (s : List ℕ) (stop : ℕ) where
 
   fields-verdict : fieldsVerdict s stop ≡ verdictAt s stop (wholePart end) 24 1
   fields-verdict =
-      let r = read packet (fields wireChanges) (rest s 24 stop) in
-      sym (alike _ (λ l. Verdict.Accepted (made judging (fields wireChanges) l 1)) r (λ l. ap Verdict.Accepted (made-count sheet Verdict.Accepted Verdict.Refused (fields wireChanges) l 1) ∙ sized-first l))
-      ∙ sym (pass-read packet judging (fields wireChanges) 1 (rest s 24 stop))
+      let r = read packet (fields wireChanges) (bitsBetween s 24 stop) in
+      sym (alike _ (λ l. PacketVerdict.SheetBytes (made judging (fields wireChanges) l 1)) r (λ l. ap PacketVerdict.SheetBytes (made-count sheet PacketVerdict.SheetBytes PacketVerdict.Refused (fields wireChanges) l 1 ∙ size-first l)))
+      ∙ sym (pass-read packet judging (fields wireChanges) 1 (bitsBetween s 24 stop))
       ∙ ap (λ (f : Format). verdictAt s stop f 24 1) whole-part
 
-  pub refused-whole : {r : ℕ} → Over wholePart s stop 24 1 (Refused r) → Verdict.Refused r ≡ fieldsVerdict s stop
+  pub refused-whole : {r : ℕ} → Over wholePart s stop 24 1 (Refused r) → PacketVerdict.Refused r ≡ fieldsVerdict s stop
   refused-whole o = sym (fields-verdict ∙ o .goes end)
 
-  pub accepted-whole : {at n : ℕ} → Over wholePart s stop 24 1 (On at n) → at ≡ stop → Verdict.Accepted n ≡ fieldsVerdict s stop
+  pub accepted-whole : {at n : ℕ} → Over wholePart s stop 24 1 (On at n) → at ≡ stop → PacketVerdict.SheetBytes n ≡ fieldsVerdict s stop
   accepted-whole {at} {n} o e = sym (fields-verdict ∙ o .goes end ∙ ap (λ (t : List _). pass packet judging end n t) (rest-none s stop at e))
 
-  pub left-whole : {at n : ℕ} → Over wholePart s stop 24 1 (On at n) → (at ≡ stop → ⊥) → Verdict.Refused 6 ≡ fieldsVerdict s stop
+  pub left-whole : {at n : ℕ} → Over wholePart s stop 24 1 (On at n) → (at ≡ stop → ⊥) → PacketVerdict.Refused 6 ≡ fieldsVerdict s stop
   left-whole {at} {n} o e =
       let h = o .stands in
-      sym (fields-verdict ∙ o .goes end ∙ over (rest s at stop) (rest-some s stop at (record { before = h .before; inside = h .inside; few = h .few }) e))
+      sym (fields-verdict ∙ o .goes end ∙ over (bitsBetween s at stop) (rest-some s stop at (record { before = h .before; inside = h .inside; few = h .few }) e))
     where
-      over : (t : List _) → 0 < length t → pass packet judging end n t ≡ Verdict.Refused 6
+      over : (t : List _) → 0 < length t → pass packet judging end n t ≡ PacketVerdict.Refused 6
       over [] l = absurd (omega arith)
       over (b ∷ t) l = refl

@@ -9,7 +9,7 @@ ghost use Rattle.judge.specs.Verdict.{fieldsVerdict, packetVerdict};
 ghost use Rattle.judge_field.specs.Judging.{Standing, Over};
 ghost use Rattle.judge_packet.specs.Whole.{wholePart};
 use frame::Frame;
-use judge::Verdict;
+use judge::PacketVerdict;
 use judge_field::Next;
 use judge_field::Step;
 use kinds::body;
@@ -85,34 +85,34 @@ fn segment(s: &[u8], stop: usize) -> Step
 }
 
 // The verdict on the fields of a packet, which end at the bit stop, with the bytes of its sheet.
-fn packet_fields(s: &[u8], stop: usize) -> Verdict
+fn packet_fields(s: &[u8], stop: usize) -> PacketVerdict
     requires { ⌜ Placed (now s) 24 stop × (8 ≤ length (now s)) ⌝ }
     ensures { λ r. ⌜ r ≡ fieldsVerdict (now (s .entry)) stop ⌝ }
 {
     match segment(s, stop) {
-        Step::Refused(r) => Verdict::Refused(r),
+        Step::Refused(r) => PacketVerdict::Refused(r),
         Step::On(at, n) => {
             if at == stop {
-                return Verdict::Accepted(n);
+                return PacketVerdict::SheetBytes(n);
             }
-            Verdict::Refused(judge::UNFIT)
+            PacketVerdict::Refused(judge::UNFIT)
         }
     }
 }
 
 // The verdict on a packet, with the bytes of its sheet.
-pub fn judge_packet(s: &[u8]) -> Verdict
+pub fn judge_packet(s: &[u8]) -> PacketVerdict
     ensures { λ r. ⌜ r ≡ packetVerdict (now (s .entry)) ⌝ }
 {
-    match frame::framed(s) {
-        Frame::Refused(r) => Verdict::Refused(r),
+    match frame::judge_frame(s) {
+        Frame::Refused(r) => PacketVerdict::Refused(r),
         Frame::End(stop) => match packet_fields(s, stop) {
-            Verdict::Refused(r) => Verdict::Refused(r),
-            Verdict::Accepted(n) => {
+            PacketVerdict::Refused(r) => PacketVerdict::Refused(r),
+            PacketVerdict::SheetBytes(n) => {
                 if frame::zero_from(s, stop) {
-                    Verdict::Accepted(n)
+                    PacketVerdict::SheetBytes(n)
                 } else {
-                    Verdict::Refused(frame::PADDING)
+                    PacketVerdict::Refused(frame::PADDING)
                 }
             }
         },

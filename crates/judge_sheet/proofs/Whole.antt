@@ -1,14 +1,15 @@
--- The verdict on a sheet, from the step over every field.
+-- The verdict on a sheet, from the step over every field, and the limits of the fields before the speed profile.
 -- Assumes nothing.
 use mathlib.Core.Path.{_≡_, refl, sym, ap, _∙_}
 use mathlib.Core.List.{List, [], _∷_}
-use Prim.Native.Nat.{ℕ, _+_, _^_, _≤_, _<_}
+use Prim.Native.Nat.{ℕ, zero, suc, _+_, _^_, _≤_, _<_}
 use native.Mathlib.Nat.{mod-eq-of-lt}
 use native.Mathlib.Omega.{arith}
 use lib.Dec.{lit≤, lit<}
-use lib.ListN.{length, drop, drop-of-length-le, length-drop}
+use lib.ListN.{length, drop, getD, drop-of-length-le, length-drop}
 use Rattle.bits.specs.Bits.{Bytes}
 use Rattle.kinds.specs.declared.Item.{Item}
+use Rattle.kinds.specs.Kind.{upTo}
 use Rattle.format.specs.Format.{Format, end, Read, accepted, refused, read, write, answerOf}
 use Rattle.format.specs.Media.{packet, sheet}
 use Rattle.format.specs.Pass.{pass, made}
@@ -17,12 +18,12 @@ use Rattle.format.proofs.Passing.{pass-read}
 use Rattle.format.proofs.Tasks.{made-within}
 use Rattle.format.proofs.Sized.{size-most, lowered-priced}
 use Rattle.segment.specs.Segment.{sheetFields, wireChanges}
-use Rattle.segment.specs.Parts.{sheetPart}
+use Rattle.segment.specs.Parts.{kindAt, sheetPart}
 use Rattle.segment.specs.Judgement.{fromSheet}
 use Rattle.segment.proofs.Parts.{sheet-part}
 use Rattle.segment.proofs.Ends.{sheet-bits}
-use Rattle.judge.specs.declared.Verdict.{Verdict}
-use Rattle.judge.specs.declared.Verdict.the-variants as Verdict
+use Rattle.judge.specs.declared.SheetVerdict.{SheetVerdict}
+use Rattle.judge.specs.declared.SheetVerdict.the-variants as SheetVerdict
 use Rattle.judge.specs.Verdict.{sheetVerdict}
 use Rattle.sheet_fields.specs.declared.Step.the-variants.{On, Refused}
 use Rattle.sheet_fields.specs.Judging.{judging, Over}
@@ -37,10 +38,10 @@ module _ (s : List ℕ) (ok : Bytes s) where
       omega (arith, size-most lowered-priced (sheet-bits wireChanges (lit≤ tt)) (sheet-only tree s l ok e .0))
 
   counts : (r : Read) → read sheet tree s ≡ r
-      → answerOf Verdict.Refused (λ l. Verdict.Accepted (0 + length (write packet tree l))) r ≡ answerOf Verdict.Refused (λ l. Verdict.Accepted (made judging tree l 0)) r
+      → answerOf SheetVerdict.Refused (λ l. SheetVerdict.PacketBits (0 + length (write packet tree l))) r ≡ answerOf SheetVerdict.Refused (λ l. SheetVerdict.PacketBits (made judging tree l 0)) r
   counts (accepted l) e =
       let h = few l e in
-      ap Verdict.Accepted (sym (made-within packet (2 ^ 32) Verdict.Accepted Verdict.Refused tree l 0 (lit< tt) ∙ mod-eq-of-lt (omega arith)))
+      ap SheetVerdict.PacketBits (sym (made-within packet (2 ^ 32) SheetVerdict.PacketBits SheetVerdict.Refused tree l 0 (lit< tt) ∙ mod-eq-of-lt (omega arith)))
   counts (refused r n) e = refl
 
   sheet-verdict : sheetVerdict s ≡ pass sheet judging (sheetPart end) 0 s
@@ -50,25 +51,46 @@ module _ (s : List ℕ) (ok : Bytes s) where
       ∙ sym (pass-read sheet judging tree 0 s)
       ∙ ap (λ (f : Format). pass sheet judging f 0 s) sheet-part
 
-  pub refused-whole : {r : ℕ} → Over sheetPart s 0 0 (Refused r) → Verdict.Refused r ≡ sheetVerdict s
+  pub refused-whole : {r : ℕ} → Over sheetPart s 0 0 (Refused r) → SheetVerdict.Refused r ≡ sheetVerdict s
   refused-whole o = sym (sheet-verdict ∙ o .goes end)
 
-  pub accepted-whole : {at n : ℕ} → Over sheetPart s 0 0 (On at n) → at ≡ length s → Verdict.Accepted n ≡ sheetVerdict s
+  pub accepted-whole : {at n : ℕ} → Over sheetPart s 0 0 (On at n) → at ≡ length s → SheetVerdict.PacketBits n ≡ sheetVerdict s
   accepted-whole {at} {n} o e =
       sym (sheet-verdict ∙ o .goes end ∙ ap (λ (t : List ℕ). pass sheet judging end n t) (drop-of-length-le s {i = at} (omega arith)))
 
-  pub left-whole : {at n : ℕ} → Over sheetPart s 0 0 (On at n) → (at ≡ length s → ⊥) → Verdict.Refused 9 ≡ sheetVerdict s
+  pub left-whole : {at n : ℕ} → Over sheetPart s 0 0 (On at n) → (at ≡ length s → ⊥) → SheetVerdict.Refused 9 ≡ sheetVerdict s
   left-whole {at} {n} o e =
       sym (sheet-verdict ∙ o .goes end ∙ over (drop at s) (omega (arith, length-drop at s, o .stands .inside)))
     where
-      over : (t : List ℕ) → 0 < length t → pass sheet judging end n t ≡ Verdict.Refused 9
+      over : (t : List ℕ) → 0 < length t → pass sheet judging end n t ≡ SheetVerdict.Refused 9
       over [] l = absurd (omega arith)
       over (b ∷ t) l = refl
 
--- ---- the fields before the speed profile by their number: one that is none of those before
+-- ---- the fields before the speed profile by their number
 
-pub past : (i k : ℕ) → k ≤ i → (i ≡ k → ⊥) → k + 1 ≤ i
-past i k h n = omega arith
+-- the code's tables
+abbrev pub widthTable : List ℕ
+widthTable = 32 ∷ 24 ∷ 15 ∷ 17 ∷ 8 ∷ 10 ∷ 32 ∷ 8 ∷ 8 ∷ 24 ∷ 24 ∷ 7 ∷ 20 ∷ []
 
-pub upto : (i : ℕ) → 12 ≤ i → i < 13 → i ≡ 12
-upto i h l = omega arith
+abbrev pub largestTable : List ℕ
+largestTable = 4294967295 ∷ 16777215 ∷ 32767 ∷ 86399 ∷ 255 ∷ 1023 ∷ 4294967295 ∷ 255 ∷ 255 ∷ 16777215 ∷ 16777215 ∷ 112 ∷ 1048575 ∷ []
+
+pub kind-limits : (i : ℕ) → 1 ≤ i → i < 13 → (i ≡ 9 → ⊥) → kindAt i ≡ upTo (getD widthTable i 0) (getD largestTable i 0)
+unfolding kindAt
+kind-limits zero l h n = absurd (omega arith)
+kind-limits (suc zero) l h n = refl
+kind-limits (suc (suc zero)) l h n = refl
+kind-limits (suc (suc (suc zero))) l h n = refl
+kind-limits (suc (suc (suc (suc zero)))) l h n = refl
+kind-limits (suc (suc (suc (suc (suc i))))) l h n = later i (omega arith) (λ e. n (ap (λ (m : ℕ). suc (suc (suc (suc (suc m))))) e))
+  where
+    later : (j : ℕ) → j < 8 → (j ≡ 4 → ⊥) → kindAt (suc (suc (suc (suc (suc j))))) ≡ upTo (getD widthTable (suc (suc (suc (suc (suc j))))) 0) (getD largestTable (suc (suc (suc (suc (suc j))))) 0)
+    later zero g m = refl
+    later (suc zero) g m = refl
+    later (suc (suc zero)) g m = refl
+    later (suc (suc (suc zero))) g m = refl
+    later (suc (suc (suc (suc zero)))) g m = absurd (m refl)
+    later (suc (suc (suc (suc (suc zero))))) g m = refl
+    later (suc (suc (suc (suc (suc (suc zero)))))) g m = refl
+    later (suc (suc (suc (suc (suc (suc (suc zero))))))) g m = refl
+    later (suc (suc (suc (suc (suc (suc (suc (suc j)))))))) g m = absurd (omega arith)

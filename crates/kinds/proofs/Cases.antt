@@ -11,38 +11,38 @@ use Rattle.bits.proofs.Tests.{by-cases}
 use Rattle.kinds.specs.declared.Field.the-variants.{Is, Refused}
 use Rattle.kinds.specs.Tables.{place}
 use Rattle.kinds.specs.Kinds.{digit, digits, speed, dLocation, mVoltage, nidCTraction, mCurrent}
-use Rattle.kinds.specs.Judged.{fromSheet}
+use Rattle.kinds.specs.Judged.{numberInSheet}
 
 -- "604 gives 120 and 605 is refused"
-pub speed-604 : fromSheet speed 604 ≡ Is (record { sheet = 604; packet = 120 })
+pub speed-604 : numberInSheet speed 604 ≡ Is (record { sheet = 604; packet = 120 })
 speed-604 = refl
 
-pub speed-605 : fromSheet speed 605 ≡ Refused 4
+pub speed-605 : numberInSheet speed 605 ≡ Refused 4
 speed-605 = refl
 
 -- "84 must give 80, also 83"
-pub speed-84 : fromSheet speed 84 ≡ Is (record { sheet = 84; packet = 16 })
+pub speed-84 : numberInSheet speed 84 ≡ Is (record { sheet = 84; packet = 16 })
 speed-84 = refl
 
-pub speed-83 : fromSheet speed 83 ≡ Is (record { sheet = 83; packet = 16 })
+pub speed-83 : numberInSheet speed 83 ≡ Is (record { sheet = 83; packet = 16 })
 speed-83 = refl
 
 -- "10,009 A gives 1,000 and 10,010 A is refused": amperes + 1
-pub current-10009 : fromSheet mCurrent 10010 ≡ Is (record { sheet = 10010; packet = 1000 })
+pub current-10009 : numberInSheet mCurrent 10010 ≡ Is (record { sheet = 10010; packet = 1000 })
 current-10009 = refl
 
-pub current-10010 : fromSheet mCurrent 10011 ≡ Refused 4
+pub current-10010 : numberInSheet mCurrent 10011 ≡ Refused 4
 current-10010 = refl
 
 -- 0 A, "as 0 forbids all traction", against no limit
-pub current-0 : fromSheet mCurrent 1 ≡ Is (record { sheet = 1; packet = 0 })
+pub current-0 : numberInSheet mCurrent 1 ≡ Is (record { sheet = 1; packet = 0 })
 current-0 = refl
 
-pub current-none : fromSheet mCurrent 0 ≡ Is (record { sheet = 0; packet = 1023 })
+pub current-none : numberInSheet mCurrent 0 ≡ Is (record { sheet = 0; packet = 1023 })
 current-none = refl
 
 -- "002 also maps 600 V to 5; we have no such wire and refuse it"
-pub volts-600 : fromSheet mVoltage 600 ≡ Refused 4
+pub volts-600 : numberInSheet mVoltage 600 ≡ Refused 4
 unfolding place
 volts-600 = refl
 
@@ -56,12 +56,12 @@ operational-digit (suc i) (suc n) v h e =
     rw (operational-digit i n (v / 16) (omega arith) (rw d at e)) (and-false (digit (v % 16)))
 
 -- "NID_CTRACTION .. is 0 where the voltage is 0"
-pub traction-0 : (v : ℕ) → fromSheet (nidCTraction 0) (suc v) ≡ Refused 4
+pub traction-0 : (v : ℕ) → numberInSheet (nidCTraction 0) (suc v) ≡ Refused 4
 traction-0 v = rw (leb·zero (suc v), lt-leb (suc v) 0 (omega arith))
 
 -- "5: a change's location that does not rise, is 0, or is at or past L_SP, however large"
-pub location-low : (last lsp x : ℕ) → x ≤ last → fromSheet (dLocation last lsp) x ≡ Refused 5
+pub location-low : (last lsp x : ℕ) → x ≤ last → numberInSheet (dLocation last lsp) x ≡ Refused 5
 location-low last lsp x h = rw (le-ltb last x h)
 
-pub location-high : (last lsp x : ℕ) → lsp ≤ x → fromSheet (dLocation last lsp) x ≡ Refused 5
+pub location-high : (last lsp x : ℕ) → lsp ≤ x → numberInSheet (dLocation last lsp) x ≡ Refused 5
 location-high last lsp x h = by-cases (ltb last x) (λ d. rw (d, le-ltb x lsp h)) (λ d. rw d)

@@ -7,14 +7,15 @@ use Rattle.kinds.specs.declared.Field.{Field}
 use Rattle.kinds.specs.declared.Field.the-variants.{Is, Refused}
 use Rattle.kinds.specs.Kind.{Kind}
 
--- what a packet's value makes
-abbrev pub fromPacket : Kind → ℕ → Field
-fromPacket k v = cond (k .allowed v) (Is (record { sheet = k .raise v; packet = v })) (Refused (k .refusal))
+-- "Back from the packet, speeds are times 5 and currents times 10": what a packet's value makes
+abbrev pub valueInPacket : Kind → ℕ → Field
+valueInPacket k v = cond (k .allowed v) (Is (record { sheet = k .raise v; packet = v })) (Refused (k .refusal))
 
-abbrev pub loweredTo : Kind → ℕ → Option ℕ → Field
-loweredTo k a none = Refused (k .refusal)
-loweredTo k a (some v) = Is (record { sheet = a; packet = v })
+-- "4: a field outside its range or set": a sheet's number with the packet's value, or the kind's refusal where there is none
+abbrev pub fieldWith : Kind → ℕ → Option ℕ → Field
+fieldWith k a none = Refused (k .refusal)
+fieldWith k a (some v) = Is (record { sheet = a; packet = v })
 
--- what a sheet's number makes
-abbrev pub fromSheet : Kind → ℕ → Field
-fromSheet k a = loweredTo k a (k .lower a)
+-- "whole part of speed / 5", "whole part of amperes / 10": what a sheet's number makes
+abbrev pub numberInSheet : Kind → ℕ → Field
+numberInSheet k a = fieldWith k a (k .lower a)

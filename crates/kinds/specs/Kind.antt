@@ -22,7 +22,7 @@ pub record Kind : Type 0 where
   -- from a packet's value to the sheet's number
   pub raise : ℕ → ℕ
 
--- `some v` where the test passes
+-- "outside its range" there is none: `some v` where the test passes
 abbrev pub when : Bool → ℕ → Option ℕ
 when true v = some v
 when false v = none
@@ -32,10 +32,10 @@ abbrev pub same : ℕ → ℕ → ℕ → (ℕ → Bool) → Kind
 same width largest refusal allowed =
     record { width = width; largest = largest; highest = largest; allowed = allowed; refusal = refusal; lower = λ a. when (allowed a) a; raise = λ v. v }
 
--- from least to largest
+-- from least to largest, as "1 to 16,777,215"
 abbrev pub range : ℕ → ℕ → ℕ → ℕ → Kind
 range width least largest refusal = same width largest refusal (λ v. leb least v && leb v largest)
 
--- from 0 to largest
+-- from 0 to largest, as "0 to 112"
 abbrev pub upTo : ℕ → ℕ → Kind
 upTo width largest = range width 0 largest 4

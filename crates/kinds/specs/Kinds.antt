@@ -13,6 +13,7 @@ use Rattle.kinds.specs.Tables.{cantFigures, volts, entryOf}
 abbrev pub nidPacketAto : Kind
 nidPacketAto = range 8 6 6 2
 
+-- "L_PACKET_ATO 16"
 abbrev pub lPacketAto : Kind
 lPacketAto = upTo 16 65535
 
@@ -25,26 +26,33 @@ unfoldable pub digits : ℕ → ℕ → Bool
 digits zero v = eqb v 0
 digits (suc n) v = digit (v % 16) && digits n (v / 16)
 
+-- "NID_OPERATIONAL 32"
 abbrev pub nidOperational : Kind
 nidOperational = same 32 4294967295 4 (digits 8)
 
+-- "NID_ENGINE 24"
 abbrev pub nidEngine : Kind
 nidEngine = upTo 24 16777215
 
+-- "date 15"
 abbrev pub tTimestampDate : Kind
 tTimestampDate = upTo 15 32767
 
+-- "seconds 17 (0 to 86,399)"
 abbrev pub tTimestampSeconds : Kind
 tTimestampSeconds = upTo 17 86399
 
+-- "packet counter 8"
 abbrev pub nPacketCounter : Kind
 nPacketCounter = upTo 8 255
 
 -- ---- "Body, in order"
 
+-- "NID_C 10"
 abbrev pub nidC : Kind
 nidC = upTo 10 1023
 
+-- "NID_SP 32"
 abbrev pub nidSp : Kind
 nidSp = upTo 32 4294967295
 
@@ -52,12 +60,15 @@ nidSp = upTo 32 4294967295
 abbrev pub mSpVersion : Kind
 mSpVersion = upTo 8 255
 
+-- "L_SP 24 (1 to 16,777,215 cm)"
 abbrev pub lSp : Kind
 lSp = range 24 1 16777215 4
 
+-- "D_EoA_Offset 24"
 abbrev pub dEoAOffset : Kind
 dEoAOffset = upTo 24 16777215
 
+-- "Q_UTC_Offset 7 (0 to 112)"
 abbrev pub qUtcOffset : Kind
 qUtcOffset = upTo 7 112
 
@@ -69,18 +80,23 @@ mSpAltitude = upTo 20 1048575
 abbrev pub speed : Kind
 speed = record { width = 7; largest = 120; highest = 604; allowed = λ v. leb v 120; refusal = 4; lower = λ a. when (leb a 604) (a / 5); raise = λ v. v * 5 }
 
+-- "Q_FRONT 1"
 abbrev pub qFront : Kind
 qFront = upTo 1 1
 
+-- "N_ITER 5 (0 to 31)", "N_ITER 5 (0 to 23)"
 abbrev pub nIter : ℕ → Kind
 nIter most = upTo 5 most
 
+-- "Q_DIFF 2 (0 to 2)"
 abbrev pub qDiff : Kind
 qDiff = upTo 2 2
 
+-- "class 4", "NC_CDDIFF 0 to 10"
 abbrev pub ncCdDiff : Kind
 ncCdDiff = entryOf 4 cantFigures
 
+-- "class 4", "NC_DIFF 0 to 2"
 abbrev pub ncDiff : Kind
 ncDiff = upTo 4 2
 
@@ -93,6 +109,7 @@ class (suc q) = ncDiff
 abbrev pub dLocation : ℕ → ℕ → Kind
 dLocation last lsp = same 24 16777215 5 (λ x. ltb last x && ltb x lsp)
 
+-- "M_VOLTAGE 4 (0 to 5)"
 abbrev pub mVoltage : Kind
 mVoltage = entryOf 4 volts
 
@@ -101,6 +118,7 @@ abbrev pub mostTraction : ℕ → ℕ
 mostTraction zero = 0
 mostTraction (suc u) = 1023
 
+-- "NID_CTRACTION 10"
 abbrev pub nidCTraction : ℕ → Kind
 nidCTraction u = upTo 10 (mostTraction u)
 

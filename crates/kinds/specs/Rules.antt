@@ -1,4 +1,4 @@
--- The kind that each of the code's rules stands for.
+-- The kind that each of the code's rules stands for. What the code below a promise is held to; no promise names it.
 -- Assumes nothing.
 use mathlib.Core.Path.{_≡_}
 use Prim.Native.Nat.{ℕ}

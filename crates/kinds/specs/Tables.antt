@@ -16,16 +16,17 @@ cantFigures = 80 ∷ 100 ∷ 130 ∷ 150 ∷ 165 ∷ 180 ∷ 210 ∷ 225 ∷ 245
 abbrev pub volts : List ℕ
 volts = 0 ∷ 25000 ∷ 15000 ∷ 3000 ∷ 1500 ∷ 750 ∷ []
 
--- the place of a figure in a table, whose first entry stands at i
+-- "0 to 10 in that order": the place of a figure in a table, whose first entry stands at i
 unfoldable pub place : ℕ → List ℕ → ℕ → Option ℕ
 place i [] a = none
 place i (t ∷ ts) a = let more : Option ℕ = place (suc i) ts a in cond (eqb a t) (some i) more
 
+-- the highest figure of a table: "300", "25000"
 abbrev pub greatest : List ℕ → ℕ
 greatest [] = 0
 greatest (t ∷ ts) = max t (greatest ts)
 
--- a place in the packet, the figure that stands there in the sheet
+-- "both conversions look up one table": a place in the packet, the figure that stands there in the sheet
 abbrev pub entryOf : ℕ → List ℕ → Kind
 entryOf width table = record {
   width = width;

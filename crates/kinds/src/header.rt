@@ -11,14 +11,17 @@ pub struct NidPacketAto;
 impl NidPacketAto {
     pub const WIDTH: u32 = 8;
 
-    pub const LARGEST: u32 = 6;
+    // The number of a segment's packet.
+    pub const SEGMENT: u32 = 6;
+
+    pub const LARGEST: u32 = Self::SEGMENT;
 
     pub fn rule() -> Rule
         ensures { λ r. do ⌜ Keeps nidPacketAto (← ⟦NidPacketAto::WIDTH⟧ .entry) (← ⟦NidPacketAto::LARGEST⟧ .entry) r ⌝ }
     {
         Rule::Range {
             width: Self::WIDTH,
-            least: Self::LARGEST,
+            least: Self::SEGMENT,
             largest: Self::LARGEST,
             refusal: PACKET_NUMBER,
         }

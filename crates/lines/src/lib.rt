@@ -2,9 +2,10 @@
 ghost use Prim.Native.Nat.{_+_, _*_, _≤_};
 ghost use lib.ListN.{length, drop};
 ghost use Rattle.speed.specs.Speed.{elementOf, afterElement, changesFrom};
-ghost use Rattle.sheets.specs.Numbers.{numbersIn, StandsAt};
+ghost use Rattle.sheets.specs.Numbers.{numbersIn, NumbersAt};
 ghost use Rattle.words.specs.Words.{Laid};
-ghost use Rattle.lines.specs.Lines.{names, measures, segmentLine, elementLine, elementLines, lines, changesOf};
+ghost use Rattle.lines.specs.Lines.{namesText, measures, segmentLine, elementLine, elementLines, lines};
+ghost use Rattle.lines.specs.Changes.{changesOf};
 use sheets::number;
 use sheets::past;
 use words::put_labelled;
@@ -23,7 +24,7 @@ const PROFILE: usize = 14;
 // Writes the front of the segment's line, up to NID_SP, at the front of the room.
 fn put_names(sheet: &[u8], room: &mut [u8]) -> usize
     requires { ⌜ 29 ≤ length (now room) ⌝ }
-    ensures { λ r. ⌜ Laid (now (room .entry)) 0 (names (numbersIn (now (sheet .entry)))) r (now (room .exit)) ⌝ }
+    ensures { λ r. ⌜ Laid (now (room .entry)) 0 (namesText (numbersIn (now (sheet .entry)))) r (now (room .exit)) ⌝ }
 {
     let nid_c = number(sheet, past(sheet, 0, NID_C));
     let nid_sp = number(sheet, past(sheet, 0, NID_SP));
@@ -68,7 +69,7 @@ fn put_element(sheet: &[u8], from: usize, start: u32, room: &mut [u8], at: usize
 // The place after the element that stands at the byte from: three numbers, and three of each specific entry.
 fn after_element(sheet: &[u8], from: usize) -> usize
     requires { ⌜ from ≤ length (now sheet) ⌝ }
-    ensures { λ r. ⌜ StandsAt (now (sheet .entry)) r (afterElement (numbersIn (drop from (now (sheet .entry))))) ⌝ }
+    ensures { λ r. ⌜ NumbersAt (now (sheet .entry)) r (afterElement (numbersIn (drop from (now (sheet .entry))))) ⌝ }
 {
     let entries = number(sheet, past(sheet, from, 2));
     past(sheet, from, 3 + 3 * entries as usize)

@@ -13,20 +13,21 @@ use Rattle.speed.specs.Speed.{validTrain, segmentLength, speedIn}
 use Rattle.question.specs.declared.Speed.{Speed}
 
 -- "It returns its number with length, speed or altitude 0"
-abbrev pub refusedWith : ℕ → Speed
-refusedWith r = record { refusal = r; speed = 0 }
+abbrev pub noSpeed : ℕ → Speed
+noSpeed r = record { refusal = r; speed = 0 }
 
 -- "speed questions judge 10, then 11"
-abbrev pub answered : Train → ℕ → ℕ → ℕ → Speed
-answered t x lsp v = cond (validTrain t) (cond (ltb x lsp) (record { refusal = 0; speed = v }) (refusedWith 11)) (refusedWith 10)
+abbrev pub judgedSpeed : Train → ℕ → ℕ → ℕ → Speed
+judgedSpeed t x lsp v = cond (validTrain t) (cond (ltb x lsp) (record { refusal = 0; speed = v }) (noSpeed 11)) (noSpeed 10)
 
 -- the answer of the segment's values: "Speed from a packet uses the packet's speeds times 5, from a sheet the sheet's own"
-abbrev pub asked : Train → ℕ → List Item → Speed
-asked t x l = answered t x (segmentLength (sheetNumbers l)) (speedIn t x (sheetNumbers l))
+abbrev pub speedOfValues : Train → ℕ → List Item → Speed
+speedOfValues t x l = judgedSpeed t x (segmentLength (sheetNumbers l)) (speedIn t x (sheetNumbers l))
 
--- the permitted speed from a packet, and from a sheet: the segment's own refusals come first
+-- "speed from a packet": the segment's own refusals come first
 unfoldable pub speedFromPacket : List ℕ → Train → ℕ → Speed
-speedFromPacket s t x = answerOf refusedWith (asked t x) (fromPacket wireChanges s)
+speedFromPacket s t x = answerOf noSpeed (speedOfValues t x) (fromPacket wireChanges s)
 
+-- "speed from a sheet": the same
 unfoldable pub speedFromSheet : List ℕ → Train → ℕ → Speed
-speedFromSheet s t x = answerOf refusedWith (asked t x) (fromSheet wireChanges s)
+speedFromSheet s t x = answerOf noSpeed (speedOfValues t x) (fromSheet wireChanges s)

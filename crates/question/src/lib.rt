@@ -1,7 +1,8 @@
 // The permitted speed for a train at a place, from a packet and from a sheet. It is judged whole, then the train and the place; only then the speed is worked out.
 ghost use mathlib.Core.Path.{_≡_};
-ghost use Rattle.question.specs.Question.{refusedWith, answered, speedFromPacket, speedFromSheet};
-use judge::Verdict;
+ghost use Rattle.question.specs.Question.{noSpeed, judgedSpeed, speedFromPacket, speedFromSheet};
+use judge::PacketVerdict;
+use judge::SheetVerdict;
 use speed::Train;
 
 // A refusal's number, or 0 and the permitted speed in km/h.
@@ -12,27 +13,27 @@ pub struct Speed {
 }
 
 // The refusals of a question: the train, and the place.
-pub const TRAIN: u32 = 10;
+pub const BAD_TRAIN: u32 = 10;
 
-pub const PLACE: u32 = 11;
+pub const PAST_END: u32 = 11;
 
 fn refused(refusal: u32) -> Speed
-    ensures { λ r. ⌜ r ≡ refusedWith refusal ⌝ }
+    ensures { λ r. ⌜ r ≡ noSpeed refusal ⌝ }
 {
     Speed { refusal, speed: 0 }
 }
 
 // The refusal of a train and a place in a segment of this length, or 0.
 fn refusal_of(train: Train, x: u32, lsp: u32) -> u32
-    ensures { λ r. ⌜ r ≡ answered train x lsp 0 .refusal ⌝ }
+    ensures { λ r. ⌜ r ≡ judgedSpeed train x lsp 0 .refusal ⌝ }
 {
     if speed::valid(train) {
         if x < lsp {
             return 0;
         }
-        return PLACE;
+        return PAST_END;
     }
-    TRAIN
+    BAD_TRAIN
 }
 
 // The permitted speed from a packet: its speeds times 5.
@@ -40,8 +41,8 @@ pub fn speed_from_packet(packet: &[u8], train: Train, x: u32) -> Speed
     ensures { λ r. ⌜ r ≡ speedFromPacket (now (packet .entry)) train x ⌝ }
 {
     match judge_packet::judge_packet(packet) {
-        Verdict::Refused(r) => refused(r),
-        Verdict::Accepted(_) => {
+        PacketVerdict::Refused(r) => refused(r),
+        PacketVerdict::SheetBytes(_) => {
             let refusal = refusal_of(train, x, ask_packet::length_of(packet));
             if refusal != 0 {
                 return refused(refusal);
@@ -57,8 +58,8 @@ pub fn speed_from_sheet(sheet: &[u8], train: Train, x: u32) -> Speed
     ensures { λ r. ⌜ r ≡ speedFromSheet (now (sheet .entry)) train x ⌝ }
 {
     match judge_sheet::judge_sheet(sheet) {
-        Verdict::Refused(r) => refused(r),
-        Verdict::Accepted(_) => {
+        SheetVerdict::Refused(r) => refused(r),
+        SheetVerdict::PacketBits(_) => {
             let start = ask_sheet::head(sheet);
             let refusal = refusal_of(train, x, start.lsp);
             if refusal != 0 {

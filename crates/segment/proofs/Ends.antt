@@ -22,7 +22,7 @@ use Rattle.format.proofs.Lawful.{Lawful}
 use Rattle.format.proofs.Sized.{Measured, within, lawful, size-least, size-most, packet-priced, sheet-priced}
 use Rattle.kinds.specs.declared.Item.{Item}
 use Rattle.segment.specs.Segment.{entries, changes, lists, body, fields, sheetFields, wireChanges}
-use Rattle.segment.specs.Frame.{framed}
+use Rattle.segment.specs.Frame.{packetOfBits}
 use Rattle.segment.specs.Judgement.{segmentNumber, afterNumber}
 use Rattle.segment.proofs.Framing.{framed-length}
 use Rattle.segment.proofs.Tree.{Costs, fields-measured, sheetFields-measured}
@@ -115,10 +115,10 @@ module _ (limit : ℕ) (h : limit ≤ 31) where
     pub bits-most : length (write packet (fields limit) l) ≤ 96 + (14228 + 72 * limit)
     bits-most = size-most packet-priced fields-bits c
 
-    pub packet-least : 39 ≤ length (framed segmentNumber (write packet (fields limit) l))
+    pub packet-least : 39 ≤ length (packetOfBits segmentNumber (write packet (fields limit) l))
     packet-least = rw framed-length (omega (arith, bits-least))
 
-    pub packet-most : length (framed segmentNumber (write packet (fields limit) l)) ≤ 15 + (14228 + 72 * limit + 7) / 8
+    pub packet-most : length (packetOfBits segmentNumber (write packet (fields limit) l)) ≤ 15 + (14228 + 72 * limit + 7) / 8
     packet-most = rw framed-length (omega (arith, bits-most))
 
   pub sheet-most : {l : List Item} → Conforming InSheet (sheetFields limit) l → length (write sheet (sheetFields limit) l) ≤ 5263 + 15 * limit

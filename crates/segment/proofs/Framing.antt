@@ -20,13 +20,13 @@ use Rattle.format.specs.Media.{packet}
 use Rattle.format.specs.Conforming.{Conforming, InPacket}
 use Rattle.format.proofs.Generic.{never}
 use Rattle.format.proofs.Media.{packet-again, packet-only}
-use Rattle.segment.specs.Frame.{packetNumber, bodyBits, fieldBits, padding, fromOne, numberItem, padded, unframed, frame, framed}
+use Rattle.segment.specs.Frame.{packetNumber, bodyBits, fieldBits, padding, fromOne, numberItem, padded, unframed, frame, packetOfBits}
 
 pub frame-length : (n : ℕ) (b : List Bool) → length (frame n b) ≡ 24 + length b
 frame-length n b =
     length-append (bitsOf 8 n) (bitsOf 16 (length b - 96) ++ b) ∙ ap (λ (x : ℕ). 8 + x) (length-append (bitsOf 16 (length b - 96)) b) ∙ omega arith
 
-pub framed-length : (n : ℕ) (b : List Bool) → length (framed n b) ≡ (24 + length b + 7) / 8
+pub framed-length : (n : ℕ) (b : List Bool) → length (packetOfBits n b) ≡ (24 + length b + 7) / 8
 framed-length n b = length-pack ((length (frame n b) + 7) / 8) (frame n b) ∙ rw (frame-length n b)
 
 -- ---- zero bits
@@ -69,53 +69,53 @@ module _ (n : ℕ) (b : List Bool) (low : 96 ≤ length b) (high : length b < 96
   pad : List Bool
   pad = zeros (8 * size - length (frame n b))
 
-  framed-bits : bitsOfBytes (framed n b) ≡ bitsOf 8 n ++ (bitsOf 16 (length b - 96) ++ (b ++ pad))
+  framed-bits : bitsOfBytes (packetOfBits n b) ≡ bitsOf 8 n ++ (bitsOf 16 (length b - 96) ++ (b ++ pad))
   unfolding size pad
   framed-bits =
       unpack size (frame n b) ∙ fill-zeros (frame n b) (8 * size) (omega arith)
       ∙ append-assoc (bitsOf 8 n) (bitsOf 16 (length b - 96) ++ b) pad
       ∙ ap (λ (l : List Bool). bitsOf 8 n ++ l) (append-assoc (bitsOf 16 (length b - 96)) b pad)
 
-  after-8 : drop 8 (bitsOfBytes (framed n b)) ≡ bitsOf 16 (length b - 96) ++ (b ++ pad)
+  after-8 : drop 8 (bitsOfBytes (packetOfBits n b)) ≡ bitsOf 16 (length b - 96) ++ (b ++ pad)
   after-8 = rw framed-bits (drop-at (bitsOf 8 n) (bitsOf 16 (length b - 96) ++ (b ++ pad)) 8 (length-bits 8 n))
 
-  after-24 : drop 24 (bitsOfBytes (framed n b)) ≡ b ++ pad
+  after-24 : drop 24 (bitsOfBytes (packetOfBits n b)) ≡ b ++ pad
   after-24 =
-      sym (drop-drop 16 8 (bitsOfBytes (framed n b))) ∙ ap (drop 16) after-8
+      sym (drop-drop 16 8 (bitsOfBytes (packetOfBits n b))) ∙ ap (drop 16) after-8
       ∙ drop-at (bitsOf 16 (length b - 96)) (b ++ pad) 16 (length-bits 16 (length b - 96))
 
-  framed-number : packetNumber (framed n b) ≡ n
-  framed-number = field-front (framed n b) 0 8 n (bitsOf 16 (length b - 96) ++ (b ++ pad)) framed-bits small
+  framed-number : packetNumber (packetOfBits n b) ≡ n
+  framed-number = field-front (packetOfBits n b) 0 8 n (bitsOf 16 (length b - 96) ++ (b ++ pad)) framed-bits small
 
-  framed-body : bodyBits (framed n b) ≡ length b - 96
-  framed-body = field-front (framed n b) 8 16 (length b - 96) (b ++ pad) after-8 (omega arith)
+  framed-body : bodyBits (packetOfBits n b) ≡ length b - 96
+  framed-body = field-front (packetOfBits n b) 8 16 (length b - 96) (b ++ pad) after-8 (omega arith)
 
-  framed-fields : fieldBits (framed n b) ≡ b
+  framed-fields : fieldBits (packetOfBits n b) ≡ b
   framed-fields = let e : 96 + (length b - 96) ≡ length b = omega arith in rw (framed-body, e, after-24) (take-at b pad (length b) refl)
 
-  framed-padding : fromOne (padding (framed n b)) ≡ []
+  framed-padding : fromOne (padding (packetOfBits n b)) ≡ []
   unfolding pad
   framed-padding =
       let e : 120 + (length b - 96) ≡ 24 + length b = omega arith in
-      rw (framed-body, e, ← drop-drop (length b) 24 (bitsOfBytes (framed n b)), after-24, drop-at b (zeros (8 * size - length (frame n b))) (length b) refl)
+      rw (framed-body, e, ← drop-drop (length b) 24 (bitsOfBytes (packetOfBits n b)), after-24, drop-at b (zeros (8 * size - length (frame n b))) (length b) refl)
       (no-one (8 * size - length (frame n b)))
 
 -- a framed packet is accepted, with the values that it was written of
 pub framed-again : (n : ℕ) (f : Format) (l : List Item) → n < 256 → Conforming InPacket f l
     → 96 ≤ length (write packet f l) → length (write packet f l) < 96 + 2 ^ 16
-    → unframed n f (framed n (write packet f l)) ≡ accepted (numberItem n ∷ l)
+    → unframed n f (packetOfBits n (write packet f l)) ≡ accepted (numberItem n ∷ l)
 framed-again n f l small c low high =
     let b = write packet f l in
-    let long : length (framed n b) ≡ (24 + length b + 7) / 8 = framed-length n b in
+    let long : length (packetOfBits n b) ≡ (24 + length b + 7) / 8 = framed-length n b in
     rw (
       framed-padding n b low high small,
       framed-fields n b low high small,
       framed-number n b low high small,
       framed-body n b low high small,
       packet-again c,
-      le-ltb (length (framed n b)) 15 (omega arith),
+      le-ltb (length (packetOfBits n b)) 15 (omega arith),
       eq-eqb n n refl,
-      eq-eqb (length (framed n b)) (15 + (length b - 96 + 7) / 8) (omega arith),
+      eq-eqb (length (packetOfBits n b)) (15 + (length b - 96 + 7) / 8) (omega arith),
     )
 
 -- ---- write after read
@@ -130,7 +130,7 @@ pub record Framed (n : ℕ) (f : Format) (s : List ℕ) (l : List Item) : Type 0
   pub values : List Item
   pub all : l ≡ numberItem n ∷ values
   pub good : Conforming InPacket f values
-  pub bytes : s ≡ framed n (write packet f values)
+  pub bytes : s ≡ packetOfBits n (write packet f values)
 
 -- a field of the frame is spelled by its bits
 field-bits : (s : List ℕ) (at w : ℕ) → at + w ≤ 8 * length s → bitsOf w (fieldAt s at w) ≡ take w (drop at (bitsOfBytes s))

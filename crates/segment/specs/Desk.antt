@@ -8,11 +8,12 @@ use Rattle.format.specs.Format.{Read, accepted, refused}
 use Rattle.segment.specs.Segment.{wireChanges}
 use Rattle.segment.specs.Judgement.{fromPacket, fromSheet, toPacket, toSheet}
 
+-- "packet to sheet, sheet to packet": which of the two is asked, and of which bytes
 pub data Question : Type 0 where
-  sheetOf : List ℕ → Question
-  packetOf : List ℕ → Question
+  askSheetOf : List ℕ → Question
+  askPacketOf : List ℕ → Question
 
--- the bytes of the result, or the refusal's number
+-- "returns its number", or "returns the length": the bytes of the result, or the refusal's number
 pub data Reply : Type 0 where
   bytes : List ℕ → Reply
   refusal : ℕ → Reply
@@ -23,8 +24,8 @@ replied write (refused r left) = refusal r
 
 unfoldable pub reply : Question → Reply
 unfolding fromPacket fromSheet toPacket toSheet
-reply (sheetOf s) = replied (toSheet wireChanges) (fromPacket wireChanges s)
-reply (packetOf s) = replied (toPacket wireChanges) (fromSheet wireChanges s)
+reply (askSheetOf s) = replied (toSheet wireChanges) (fromPacket wireChanges s)
+reply (askPacketOf s) = replied (toPacket wireChanges) (fromSheet wireChanges s)
 
 -- "Packet 06 00 B9 00 01 23 45 00 00 01 00 00 00 00 07, then ten 00, 40, five 00, 01, four 00, 3F, F0, 00",
 -- with these two bytes for the speed, these two for the current, and this last byte
@@ -33,6 +34,7 @@ packetWith v w c d last =
     0x06 ∷ 0x00 ∷ 0xB9 ∷ 0x00 ∷ 0x01 ∷ 0x23 ∷ 0x45 ∷ 0x00 ∷ 0x00 ∷ 0x01 ∷ 0x00 ∷ 0x00 ∷ 0x00 ∷ 0x00 ∷ 0x07
     ∷ replicate 10 0 ++ 0x40 ∷ replicate 5 0 ++ v ∷ w ∷ replicate 3 0 ++ c ∷ d ∷ last ∷ []
 
+-- "Packet 06 00 B9 .. is accepted"
 abbrev pub firstPacket : List ℕ
 firstPacket = packetWith 0x01 0x00 0x3F 0xF0 0x00
 
@@ -41,28 +43,31 @@ abbrev pub sheetWith : List ℕ → List ℕ → List ℕ
 sheetWith v c =
     0x06 ∷ 0xC5 ∷ 0xC6 ∷ 0x04 ∷ 0x01 ∷ 0x00 ∷ 0x00 ∷ 0x07 ∷ replicate 4 0 ++ 0x01 ∷ 0x00 ∷ 0x00 ∷ 0x00 ∷ v ++ replicate 6 0 ++ c ++ 0x00 ∷ []
 
+-- "Its sheet has 25 bytes"
 abbrev pub firstSheet : List ℕ
 firstSheet = sheetWith (0x50 ∷ []) (0x00 ∷ [])
 
-pub record Case : Type 0 where
+-- "Desk cases": what is asked, and the answer
+pub record ConversionCase : Type 0 where
   pub ask : Question
   pub answer : Reply
 
-abbrev pub conversions : List Case
+-- "Marked (P): to be proved": those that are conversions
+abbrev pub conversions : List ConversionCase
 conversions =
-    record { ask = sheetOf firstPacket; answer = bytes firstSheet }
-    ∷ record { ask = packetOf firstSheet; answer = bytes firstPacket }
+    record { ask = askSheetOf firstPacket; answer = bytes firstSheet }
+    ∷ record { ask = askPacketOf firstSheet; answer = bytes firstPacket }
     -- "With 54 (84 km/h) in place of 50 it makes the same packet; with 55 another"
-    ∷ record { ask = packetOf (sheetWith (0x54 ∷ []) (0x00 ∷ [])); answer = bytes firstPacket }
-    ∷ record { ask = packetOf (sheetWith (0x55 ∷ []) (0x00 ∷ [])); answer = bytes (packetWith 0x01 0x10 0x3F 0xF0 0x00) }
+    ∷ record { ask = askPacketOf (sheetWith (0x54 ∷ []) (0x00 ∷ [])); answer = bytes firstPacket }
+    ∷ record { ask = askPacketOf (sheetWith (0x55 ∷ []) (0x00 ∷ [])); answer = bytes (packetWith 0x01 0x10 0x3F 0xF0 0x00) }
     -- "The packet without its last byte: 3. Empty packet: 1. Empty sheet: 9. Last byte 01: 7"
-    ∷ record { ask = sheetOf (take 38 firstPacket); answer = refusal 3 }
-    ∷ record { ask = sheetOf []; answer = refusal 1 }
-    ∷ record { ask = packetOf []; answer = refusal 9 }
-    ∷ record { ask = sheetOf (packetWith 0x01 0x00 0x3F 0xF0 0x01); answer = refusal 7 }
+    ∷ record { ask = askSheetOf (take 38 firstPacket); answer = refusal 3 }
+    ∷ record { ask = askSheetOf []; answer = refusal 1 }
+    ∷ record { ask = askPacketOf []; answer = refusal 9 }
+    ∷ record { ask = askSheetOf (packetWith 0x01 0x00 0x3F 0xF0 0x01); answer = refusal 7 }
     -- "604 and 605 km/h; 0 A against no limit; number 80 00: 9"
-    ∷ record { ask = packetOf (sheetWith (0xDC ∷ 0x04 ∷ []) (0x00 ∷ [])); answer = bytes (packetWith 0x07 0x80 0x3F 0xF0 0x00) }
-    ∷ record { ask = packetOf (sheetWith (0xDD ∷ 0x04 ∷ []) (0x00 ∷ [])); answer = refusal 4 }
-    ∷ record { ask = packetOf (sheetWith (0x50 ∷ []) (0x01 ∷ [])); answer = bytes (packetWith 0x01 0x00 0x00 0x00 0x00) }
-    ∷ record { ask = packetOf (0x80 ∷ 0x00 ∷ []); answer = refusal 9 }
+    ∷ record { ask = askPacketOf (sheetWith (0xDC ∷ 0x04 ∷ []) (0x00 ∷ [])); answer = bytes (packetWith 0x07 0x80 0x3F 0xF0 0x00) }
+    ∷ record { ask = askPacketOf (sheetWith (0xDD ∷ 0x04 ∷ []) (0x00 ∷ [])); answer = refusal 4 }
+    ∷ record { ask = askPacketOf (sheetWith (0x50 ∷ []) (0x01 ∷ [])); answer = bytes (packetWith 0x01 0x00 0x00 0x00 0x00) }
+    ∷ record { ask = askPacketOf (0x80 ∷ 0x00 ∷ []); answer = refusal 9 }
     ∷ []

@@ -18,20 +18,21 @@ packetNumber s = fieldAt s 0 8
 abbrev pub bodyBits : List ℕ → ℕ
 bodyBits s = fieldAt s 8 16
 
--- the bits of the fields after L_PACKET_ATO, 96 of the header and the body's; and the padding
+-- the bits of the fields after L_PACKET_ATO: 96 of "Header, 120 bits", and the body's
 abbrev pub fieldBits : List ℕ → List Bool
 fieldBits s = take (96 + bodyBits s) (drop 24 (bitsOfBytes s))
 
+-- "Zero bits pad it to a whole byte": the bits after the body
 abbrev pub padding : List ℕ → List Bool
 padding s = drop (120 + bodyBits s) (bitsOfBytes s)
 
--- from the first bit that is 1 on
+-- "a padding bit is 1": from the first such bit on
 abbrev pub fromOne : List Bool → List Bool
 fromOne [] = []
 fromOne (true ∷ s) = true ∷ s
 fromOne (false ∷ s) = fromOne s
 
--- the packet number's own item
+-- "the packet number, 6, comes first": its own item
 abbrev pub numberItem : ℕ → Item
 numberItem n = record { sheet = n; packet = n }
 
@@ -50,10 +51,10 @@ unframed n f s =
     (cond (eqb (length s) (15 + (bodyBits s + 7) / 8)) fieldByField (refused 3 0))
     (refused 2 0))
 
--- the packet number, L_PACKET_ATO, and the fields' bits
+-- "NID_PACKET_ATO 8 (6 on our link), L_PACKET_ATO 16", and the fields' bits
 abbrev pub frame : ℕ → List Bool → List Bool
 frame n bits = bitsOf 8 n ++ (bitsOf 16 (length bits - 96) ++ bits)
 
--- the packet of the fields' bits
-abbrev pub framed : ℕ → List Bool → List ℕ
-framed n bits = bytesOfBits (frame n bits)
+-- "Zero bits pad it to a whole byte": the packet of the fields' bits
+abbrev pub packetOfBits : ℕ → List Bool → List ℕ
+packetOfBits n bits = bytesOfBits (frame n bits)

@@ -20,7 +20,7 @@ use Rattle.segment.specs.Judgement.{segmentNumber}
 abbrev pub Sized : List ℕ → Type 0
 Sized s = length s ≡ 15 + (bodyBits s + 7) / 8
 
--- no ground for 1, 2 or 3
+-- "judged 1, 2, 3": no ground for one of them
 pub record WellFramed (s : List ℕ) : Type 0 where
   pub long : 15 ≤ length s
   pub number : packetNumber s ≡ segmentNumber
@@ -56,9 +56,10 @@ pub data FieldRefusal (k : Kind) : Type 0 where
   asValue : k .refusal ≡ 4 → FieldRefusal k
   asLocation : (last lsp : ℕ) → k ≡ dLocation last lsp → FieldRefusal k
 
--- the refusals of a packet, and of a sheet
+-- "A packet is judged 1, 2, 3, then .. 6 before 4 or 5 .., then 7": its refusals
 abbrev pub packetRefusals : List ℕ
 packetRefusals = 1 ∷ 2 ∷ 3 ∷ 4 ∷ 5 ∷ 6 ∷ 7 ∷ []
 
+-- "9 before 2, 4 or 5": the refusals of a sheet
 abbrev pub sheetRefusals : List ℕ
 sheetRefusals = 2 ∷ 4 ∷ 5 ∷ 9 ∷ []

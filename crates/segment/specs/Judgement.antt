@@ -6,13 +6,13 @@ use Rattle.kinds.specs.declared.Item.{Item}
 use Rattle.format.specs.Format.{Read, read, write}
 use Rattle.format.specs.Media.{packet, sheet}
 use Rattle.segment.specs.Segment.{fields, sheetFields}
-use Rattle.segment.specs.Frame.{unframed, framed}
+use Rattle.segment.specs.Frame.{unframed, packetOfBits}
 
 -- "6 on our link"
 abbrev pub segmentNumber : ℕ
 segmentNumber = 6
 
--- the values of a packet, or its refusal
+-- "A packet is judged 1, 2, 3, then field by field in order": the values of a packet, or its refusal
 unfoldable pub fromPacket : ℕ → List ℕ → Read
 unfolding fields
 fromPacket limit s = unframed segmentNumber (fields limit) s
@@ -22,15 +22,17 @@ unfoldable pub fromSheet : ℕ → List ℕ → Read
 unfolding sheetFields
 fromSheet limit s = read sheet (sheetFields limit) s
 
--- the values after the packet number
+-- the values after the packet number, which "comes first"
 abbrev pub afterNumber : List Item → List Item
 afterNumber [] = []
 afterNumber (i ∷ l) = l
 
+-- "When a packet is written": the packet of the values
 unfoldable pub toPacket : ℕ → List Item → List ℕ
 unfolding fields
-toPacket limit l = framed segmentNumber (write packet (fields limit) (afterNumber l))
+toPacket limit l = packetOfBits segmentNumber (write packet (fields limit) (afterNumber l))
 
+-- "numbers one after the other": the sheet of the values
 unfoldable pub toSheet : ℕ → List Item → List ℕ
 unfolding sheetFields
 toSheet limit l = write sheet (sheetFields limit) l

@@ -27,11 +27,11 @@ unfoldable pub changes : (Format → Format) → ℕ → ℕ → ℕ → Format 
 changes start lsp last zero f = f
 changes start lsp last (suc n) f = field (dLocation last lsp) λ x. start (changes start lsp x n f)
 
--- what holds from the segment's start on, a count up to the limit, and that many changes
+-- "N_ITER 5 .., then that many changes": what holds from the segment's start on, a count up to the limit, and that many changes
 abbrev pub part : (Format → Format) → ℕ → ℕ → Format → Format
 part start limit lsp f = start (field (nIter limit) λ n. changes start lsp 0 n f)
 
--- the speed profile with up to 31 changes, the rated voltage and the current limitation with up to the limit
+-- "the three lists of changes": the speed profile with up to 31 changes, the rated voltage and the current limitation with up to the limit
 unfoldable pub lists : ℕ → ℕ → Format
 lists limit lsp = part profile 31 lsp (part voltage limit lsp (part current limit lsp end))
 
@@ -42,7 +42,7 @@ body limit =
     then nidC (then nidSp (then mSpVersion (then mSpVersion
     (field lSp λ lsp. then dEoAOffset (then qUtcOffset (then mSpAltitude (lists limit lsp)))))))
 
--- the header after L_PACKET_ATO, and the body
+-- "Header, 120 bits", after L_PACKET_ATO, and the body
 unfoldable pub fields : ℕ → Format
 unfolding body
 fields limit =

@@ -1,18 +1,19 @@
 -- A field judged at a place of a sheet, from the number that is read there.
 -- Assumes nothing.
-use mathlib.Core.Path.{_≡_, refl, sym, ap}
+use mathlib.Core.Path.{_≡_, refl, sym, ap, subst}
 use mathlib.Core.Bool.{true, false}
 use mathlib.Core.List.{List, [], _∷_}
 use mathlib.Core.Option.{Option, none, some}
 use Prim.Native.Nat.{ℕ, zero, suc, _+_, _/_, _%_, _^_, _≤_, _<_}
 use native.Mathlib.Omega.{arith}
-use borrow.Author.Tests.{le-leb, lt-leb, lt-ltb, le-ltb}
-use lib.Dec.{leb}
+use borrow.Author.Tests.{eqb-true, eqb-false, le-leb, lt-leb, lt-ltb, le-ltb}
+use lib.Dec.{eqb, leb}
 use lib.ListN.{length, drop, length-drop, length-append}
 use Rattle.bits.specs.Bits.{Bytes, bitsOf}
 use Rattle.bits.proofs.Spelling.{length-bits}
 use Rattle.bits.proofs.Tests.{by-cases}
-use Rattle.numbers.specs.Numbers.{numberIn, counted}
+use Rattle.numbers.specs.Numbers.{numberIn}
+use Rattle.numbers.specs.Groups.{counted}
 use Rattle.numbers.proofs.Reading.{counted-value, counted-none, number-only}
 use Rattle.kinds.specs.declared.Item.{Item}
 use Rattle.kinds.specs.Kind.{Kind, range}
@@ -25,9 +26,10 @@ use Rattle.format.specs.Places.{Taken, numberTaken}
 use Rattle.format.proofs.Places.{number-found, number-none}
 use Rattle.format.proofs.Passing.{sheet-seen}
 use Rattle.format.proofs.Ways.{value-on, value-off, over-none, took-is, took-off}
+use Rattle.sheet_fields.specs.declared.Step.{Step}
 use Rattle.sheet_fields.specs.declared.Step.the-variants.{On, Refused}
 use Rattle.sheet_fields.specs.declared.Next.the-variants as Next
-use Rattle.sheet_fields.specs.Judging.{judging, Standing, Over, Took}
+use Rattle.sheet_fields.specs.Judging.{judging, Standing, Over, Took, Lowers}
 
 lowered-some : (k : Kind) (a v : ℕ) → v ≡ lowered k a → (v ≡ 2 ^ k .width → ⊥) → k .lower a ≡ some v
 lowered-some k a v l o = go (k .lower a) l
@@ -88,6 +90,18 @@ module _ (s : List ℕ) {k : Kind} {at n : ℕ} where
 
   pub plain-on : {v to m : ℕ} → Took k s at n (Next.Is v to m) → Over (then k) s at n (On to m)
   plain-on t = value-on (λ v f. f) t (over-none (t .stands))
+
+-- the same from the value that a number lowers to
+pub low-over : (s : List ℕ) {at : ℕ} → Standing s at → {x : ℕ} → x ≡ counted (numberIn (drop at s)) → (k : Kind) (n : ℕ) → LawfulKind k → k .refusal ≡ 4
+    → {a : ℕ} → a ≡ x % 4294967296 → {v : ℕ} → v ≡ lowered k a → {width : ℕ} → k .width ≡ width → {r : Step} → Lowers at n x v (2 ^ width) width r → Over (then k) s at n r
+low-over s {at} h {x} e k n w f y {v} l {width} d t =
+    by-cases (eqb x 0)
+    (λ b. let z : x ≡ 0 = eqb-true x 0 b in rw (t .bad z) (plain-off s (took-bad s h e k n z)))
+    (λ b.
+    let z : x ≡ 0 → ⊥ = eqb-false x 0 b in
+    by-cases (eqb v (2 ^ width))
+    (λ c. let o : v ≡ 2 ^ width = eqb-true v (2 ^ width) c in rw (t .out z o) (subst (λ (m : ℕ). Over (then k) s at n (Refused m)) f (plain-off s (low-out s h e k n z y l w (rw d o)))))
+    (λ c. let o : v ≡ 2 ^ width → ⊥ = eqb-false v (2 ^ width) c in rw (t .on z o) (plain-on s (low-in s h e k n z y l (rw d o) refl (rw d)))))
 
 -- ---- ranges, and locations
 

@@ -1,7 +1,8 @@
 -- A part of the tree judged at a place of a sheet, with the bits of its packet counted. What the code below a promise is held to; no promise names it.
 -- Assumes nothing.
+use mathlib.Core.Path.{_≡_}
 use mathlib.Core.List.{List}
-use Prim.Native.Nat.{ℕ, _^_, _≤_}
+use Prim.Native.Nat.{ℕ, _+_, _/_, _%_, _^_, _≤_}
 use lib.ListN.{length, drop}
 use Rattle.bits.specs.Bits.{Bytes}
 use Rattle.kinds.specs.Kind.{Kind}
@@ -11,16 +12,16 @@ use Rattle.format.specs.Pass.{Task}
 use Rattle.format.specs.Tasks.{countingWithin}
 use Rattle.format.specs.Ways as ways
 use Rattle.format.specs.Ways.{Way, passing, Went, Got}
-use Rattle.judge.specs.declared.Verdict.{Verdict}
-use Rattle.judge.specs.declared.Verdict.the-variants as Verdict
+use Rattle.judge.specs.declared.SheetVerdict.{SheetVerdict}
+use Rattle.judge.specs.declared.SheetVerdict.the-variants as SheetVerdict
 use Rattle.sheet_fields.specs.declared.Step.{Step}
 use Rattle.sheet_fields.specs.declared.Step.the-variants.{On, Refused}
 use Rattle.sheet_fields.specs.declared.Next.{Next}
 use Rattle.sheet_fields.specs.declared.Next.the-variants as Next
 
 -- the packet's bits are counted round 2 to the 32: a sheet's length bounds no count, and an accepted sheet's count is far below
-abbrev pub judging : Task ℕ Verdict
-judging = countingWithin (2 ^ 32) packet Verdict.Accepted Verdict.Refused
+abbrev pub judging : Task ℕ SheetVerdict
+judging = countingWithin (2 ^ 32) packet SheetVerdict.PacketBits SheetVerdict.Refused
 
 -- a place in a sheet
 pub record Standing (s : List ℕ) (at : ℕ) : Type 0 where
@@ -28,7 +29,7 @@ pub record Standing (s : List ℕ) (at : ℕ) : Type 0 where
   pub inside : at ≤ length s
 
 -- judging as a pass seen at places, and the answers of its functions
-abbrev pub judge : List ℕ → Way ℕ Verdict
+abbrev pub judge : List ℕ → Way ℕ SheetVerdict
 judge s = passing sheet judging (λ at. drop at s) (λ at n. Standing s at)
 
 abbrev pub went : Step → Went ℕ
@@ -46,3 +47,9 @@ Over part s at n r = ways.Over (judge s) part at n (went r)
 -- the same of one field, on whose value what follows may depend
 abbrev pub Took : Kind → List ℕ → ℕ → ℕ → Next → Type 0
 Took k s at n r = ways.Took (judge s) k at n (got r)
+
+-- the step over a field of so many bits, from what was read at the place, 0 where there is no number, and the value that it lowers to, or none
+pub record Lowers (at n read value none width : ℕ) (r : Step) : Type 0 where
+  pub bad : read ≡ 0 → r ≡ Refused 9
+  pub out : (read ≡ 0 → ⊥) → value ≡ none → r ≡ Refused 4
+  pub on : (read ≡ 0 → ⊥) → (value ≡ none → ⊥) → r ≡ On (at + read / 4294967296) ((n + width) % 2 ^ 32)

@@ -5,7 +5,7 @@ ghost use Rattle.kinds.specs.Kind.{range};
 ghost use Rattle.kinds.specs.Kinds as kind;
 ghost use Rattle.kinds.specs.Tables.{cantFigures};
 ghost use Rattle.format.specs.Format.{then};
-ghost use Rattle.sheet_fields.specs.Judging.{Standing, Took, Over};
+ghost use Rattle.sheet_fields.specs.Judging.{Standing, Took, Over, Lowers};
 use kinds::LOCATION;
 use kinds::OUT_OF_RANGE;
 use kinds::body;
@@ -36,6 +36,20 @@ fn after(at: usize, a: u64) -> usize
     ensures { λ r. ⌜ r ≡ at + a / 4294967296 ⌝ }
 {
     at + (a / 4294967296) as usize
+}
+
+// The step over a field of width bits, from what counted_at read and the value that it lowers to, which is none where there is no such value.
+fn lowered(at: usize, n: u32, a: u64, v: u32, none: u32, width: u32) -> Step
+    requires { ⌜ at + a / 4294967296 < 2 ^ 64 ⌝ }
+    ensures { λ r. ⌜ Lowers at n a v none width r ⌝ }
+{
+    if a == 0 {
+        return Step::Refused(judge::NO_NUMBER);
+    }
+    if v == none {
+        return Step::Refused(OUT_OF_RANGE);
+    }
+    Step::On(after(at, a), std::num::wrapping_add_u32(n, width))
 }
 
 // A field from least to largest at the byte at, n bits counted before it.
@@ -112,16 +126,8 @@ pub fn speed(s: &[u8], at: usize, n: u32) -> Step
     ensures { λ r. ⌜ Over (then kind.speed) (now (s .entry)) at n r ⌝ }
 {
     let a = numbers::counted_at(s, at);
-    if a == 0 {
-        return Step::Refused(judge::NO_NUMBER);
-    }
-    if lowering::speed_steps(value(a)) == lowering::NO_SPEED {
-        return Step::Refused(OUT_OF_RANGE);
-    }
-    Step::On(
-        after(at, a),
-        std::num::wrapping_add_u32(n, body::VStatic::WIDTH),
-    )
+    let v = lowering::speed_steps(value(a));
+    lowered(at, n, a, v, lowering::NO_SPEED, body::VStatic::WIDTH)
 }
 
 // The class of an entry, by its Q_DIFF.
@@ -130,16 +136,8 @@ pub fn class(s: &[u8], figures: &[u32; 11], at: usize, n: u32, q: u32) -> Step
     ensures { λ r. ⌜ Over (then (kind.class q)) (now (s .entry)) at n r ⌝ }
 {
     let a = numbers::counted_at(s, at);
-    if a == 0 {
-        return Step::Refused(judge::NO_NUMBER);
-    }
-    if lowering::class_place(figures, q, value(a)) == lowering::NO_CLASS {
-        return Step::Refused(OUT_OF_RANGE);
-    }
-    Step::On(
-        after(at, a),
-        std::num::wrapping_add_u32(n, body::NcDiff::WIDTH),
-    )
+    let v = lowering::class_place(figures, q, value(a));
+    lowered(at, n, a, v, lowering::NO_CLASS, body::NcDiff::WIDTH)
 }
 
 // M_VOLTAGE, on which NID_CTRACTION depends.
@@ -168,14 +166,6 @@ pub fn current(s: &[u8], at: usize, n: u32) -> Step
     ensures { λ r. ⌜ Over (then kind.mCurrent) (now (s .entry)) at n r ⌝ }
 {
     let a = numbers::counted_at(s, at);
-    if a == 0 {
-        return Step::Refused(judge::NO_NUMBER);
-    }
-    if lowering::current_steps(value(a)) == lowering::NO_CURRENT {
-        return Step::Refused(OUT_OF_RANGE);
-    }
-    Step::On(
-        after(at, a),
-        std::num::wrapping_add_u32(n, body::MCurrent::WIDTH),
-    )
+    let v = lowering::current_steps(value(a));
+    lowered(at, n, a, v, lowering::NO_CURRENT, body::MCurrent::WIDTH)
 }

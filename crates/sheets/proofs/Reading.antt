@@ -17,14 +17,14 @@ use Rattle.format.specs.Format.{Format, write, sheetNumbers}
 use Rattle.format.specs.Media.{sheet}
 use Rattle.format.specs.Conforming.{Conforming, done, also, InSheet}
 use Rattle.format.proofs.Media.{bytes-drop}
-use Rattle.sheets.specs.Numbers.{before, numbersOf, numbersIn}
+use Rattle.sheets.specs.Numbers.{before, firstNumbers, numbersIn}
 
 -- nothing stands in front of nothing
 none-in : numberIn [] ≡ Bad
 unfolding numberOf
 none-in = refl
 
-numbers-none : (n : ℕ) (s : List ℕ) → length s ≤ 0 → numbersOf n s ≡ []
+numbers-none : (n : ℕ) (s : List ℕ) → length s ≤ 0 → firstNumbers n s ≡ []
 numbers-none zero s h = refl
 numbers-none (suc n) [] h = rw none-in
 numbers-none (suc n) (b ∷ s) h = absurd (omega arith)
@@ -37,7 +37,7 @@ same-before Bad e = refl
 same-before (Value v) e = ap (λ (t : List ℕ). v ∷ t) (e v)
 
 -- it does not matter how many may be read, where no more bytes are left
-enough : (n m : ℕ) (s : List ℕ) → length s ≤ n → length s ≤ m → numbersOf n s ≡ numbersOf m s
+enough : (n m : ℕ) (s : List ℕ) → length s ≤ n → length s ≤ m → firstNumbers n s ≡ firstNumbers m s
 enough zero m s h l = sym (numbers-none m s h)
 enough (suc n) zero s h l = numbers-none (suc n) s l
 enough (suc n) (suc m) s h l =
@@ -48,7 +48,7 @@ module _ (s : List ℕ) where
   unfolding numbersIn
   numbers-bad e = go (length s)
     where
-      go : (n : ℕ) → numbersOf n s ≡ []
+      go : (n : ℕ) → firstNumbers n s ≡ []
       go zero = refl
       go (suc n) = rw e
 
@@ -56,7 +56,7 @@ module _ (s : List ℕ) where
   unfolding numbersIn
   numbers-value v e = enough (length s) (suc (length s)) s (omega arith) (omega arith) ∙ rw e (ap (λ (t : List ℕ). v ∷ t) (rest (drop (length (groupsIn v)) s) (fewer s v (length s) (omega arith))))
     where
-      rest : (t : List ℕ) → length t ≤ length s → numbersOf (length s) t ≡ numbersOf (length t) t
+      rest : (t : List ℕ) → length t ≤ length s → firstNumbers (length s) t ≡ firstNumbers (length t) t
       rest t h = enough (length s) (length t) t h (omega arith)
 
 -- the numbers of a sheet that was written are those that were written

@@ -1,4 +1,4 @@
--- The numbers that stand one after the other in a sheet.
+-- The numbers that stand one after the other in a sheet. What the code below a promise is held to; no promise names it.
 -- Assumes nothing.
 use mathlib.Core.Path.{_≡_}
 use mathlib.Core.List.{List, [], _∷_}
@@ -14,15 +14,15 @@ before (Value v) more = v ∷ more v
 before Bad more = []
 
 -- at most n numbers
-abbrev pub numbersOf : ℕ → List ℕ → List ℕ
-numbersOf zero s = []
-numbersOf (suc n) s = before (numberIn s) λ v. numbersOf n (drop (length (groupsIn v)) s)
+abbrev pub firstNumbers : ℕ → List ℕ → List ℕ
+firstNumbers zero s = []
+firstNumbers (suc n) s = before (numberIn s) λ v. firstNumbers n (drop (length (groupsIn v)) s)
 
 -- a number has a byte at least, so there are no more than bytes
 unfoldable pub numbersIn : List ℕ → List ℕ
-numbersIn s = numbersOf (length s) s
+numbersIn s = firstNumbers (length s) s
 
 -- these numbers stand in the sheet from the place at on
-pub record StandsAt (s : List ℕ) (at : ℕ) (numbers : List ℕ) : Type 0 where
+pub record NumbersAt (s : List ℕ) (at : ℕ) (numbers : List ℕ) : Type 0 where
   pub here : numbersIn (drop at s) ≡ numbers
   pub inside : at ≤ length s

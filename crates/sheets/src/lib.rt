@@ -2,7 +2,7 @@
 ghost use mathlib.Core.Path.{_≡_};
 ghost use Prim.Native.Nat.{_≤_};
 ghost use lib.ListN.{length, drop, getD};
-ghost use Rattle.sheets.specs.Numbers.{numbersIn, StandsAt};
+ghost use Rattle.sheets.specs.Numbers.{numbersIn, NumbersAt};
 use numbers::Number;
 
 // The number at the byte at, and 0 where there is none.
@@ -18,14 +18,14 @@ pub fn number(sheet: &[u8], at: usize) -> u32
 // The place after n numbers from the byte at on.
 pub fn past(sheet: &[u8], at: usize, n: usize) -> usize
     requires { ⌜ at ≤ length (now sheet) ⌝ }
-    ensures { λ r. ⌜ StandsAt (now (sheet .entry)) r (drop n (numbersIn (drop at (now (sheet .entry))))) ⌝ }
+    ensures { λ r. ⌜ NumbersAt (now (sheet .entry)) r (drop n (numbersIn (drop at (now (sheet .entry))))) ⌝ }
 {
     let mut left = n;
     let mut place = at;
     while 0 < left {
         match numbers::number_at(sheet, place) {
             Number::Value(v) => {
-                place += numbers::groups(v) as usize;
+                place += grouping::groups(v) as usize;
                 left -= 1;
             }
             Number::Bad => {

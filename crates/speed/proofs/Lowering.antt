@@ -15,7 +15,7 @@ use Rattle.kinds.specs.Tables.{cantFigures}
 use Rattle.fields.proofs.Lawful.{speed-lowered}
 use Rattle.fields.proofs.Lookup.{place-stands}
 use Rattle.format.specs.Format.{Format, field, then, sheetNumbers}
-use Rattle.format.specs.Conforming.{Conforming, also, InSheet, lowered}
+use Rattle.format.specs.Conforming.{Conforming, also, InSheet, givenBack}
 use Rattle.segment.specs.Segment.{entries, profile, changes, part, lists, body, fields, sheetFields, wireChanges}
 use Rattle.speed.specs.declared.Train.{Train}
 use Rattle.speed.specs.Speed.{entriesOf, afterEntries, elementOf, afterElement, changesFrom, elementsFrom, segmentLength, profileOf, permitted, speedIn, inFives, entryInFives, elementInFives, Element}
@@ -43,9 +43,9 @@ apart C (i ∷ l) (also g c) f = f i l g c
 pub record Entries (n : ℕ) (f : Format) (l : List Item) : Type 0 where
   pub rest : List Item
   pub good : Conforming InSheet f rest
-  pub low : entriesOf n (sheetNumbers (lowered (entries n f) l)) ≡ map entryInFives (entriesOf n (sheetNumbers l))
+  pub low : entriesOf n (sheetNumbers (givenBack (entries n f) l)) ≡ map entryInFives (entriesOf n (sheetNumbers l))
   pub here : afterEntries n (sheetNumbers l) ≡ sheetNumbers rest
-  pub there : afterEntries n (sheetNumbers (lowered (entries n f) l)) ≡ sheetNumbers (lowered f rest)
+  pub there : afterEntries n (sheetNumbers (givenBack (entries n f) l)) ≡ sheetNumbers (givenBack f rest)
 
 entries-lowered : (n : ℕ) (f : Format) (l : List Item) → Conforming InSheet (entries n f) l → Entries n f l
 unfolding entries
@@ -71,9 +71,9 @@ entries-lowered (suc n) f l c =
 pub record Elements (start : ℕ) (f : Format) (l : List Item) : Type 0 where
   pub rest : List Item
   pub good : Conforming InSheet f rest
-  pub low : elementOf start (sheetNumbers (lowered (profile f) l)) ≡ elementInFives (elementOf start (sheetNumbers l))
+  pub low : elementOf start (sheetNumbers (givenBack (profile f) l)) ≡ elementInFives (elementOf start (sheetNumbers l))
   pub here : afterElement (sheetNumbers l) ≡ sheetNumbers rest
-  pub there : afterElement (sheetNumbers (lowered (profile f) l)) ≡ sheetNumbers (lowered f rest)
+  pub there : afterElement (sheetNumbers (givenBack (profile f) l)) ≡ sheetNumbers (givenBack f rest)
 
 element-lowered : (start : ℕ) (f : Format) (l : List Item) → Conforming InSheet (profile f) l → Elements start f l
 element-lowered start f l₀ c₀ =
@@ -97,18 +97,18 @@ element-lowered start f l₀ c₀ =
 
 module _ (from lsp : ℕ) (f : Format) where
   changes-lowered : (n last : ℕ) (l : List Item) → Conforming InSheet (changes profile lsp last n f) l
-      → changesFrom from n (sheetNumbers (lowered (changes profile lsp last n f) l)) ≡ map elementInFives (changesFrom from n (sheetNumbers l))
+      → changesFrom from n (sheetNumbers (givenBack (changes profile lsp last n f) l)) ≡ map elementInFives (changesFrom from n (sheetNumbers l))
   unfolding changes
   changes-lowered zero last l c = refl
   changes-lowered (suc n) last (x ∷ l) (also gx c) =
       let ex : x .packet ≡ x .sheet = same-is x gx in
       let e = element-lowered (from + x .sheet) (changes profile lsp (x .packet) n f) l c in
-      let there = sheetNumbers (lowered (profile (changes profile lsp (x .packet) n f)) l) in
+      let there = sheetNumbers (givenBack (profile (changes profile lsp (x .packet) n f)) l) in
       ap₂ (λ (p : Element) (r : List Element). p ∷ r) (ap (λ (z : ℕ). elementOf (from + z) there) ex ∙ e .low)
       (ap (changesFrom from n) (e .there) ∙ changes-lowered n (x .packet) (e .rest) (e .good) ∙ ap (λ (s : List ℕ). map elementInFives (changesFrom from n s)) (sym (e .here)))
 
   counted : (l : List Item) → Conforming InSheet (field (nIter 31) λ n. changes profile lsp 0 n f) l
-      → let low : List ℕ = sheetNumbers (lowered (field (nIter 31) λ n. changes profile lsp 0 n f) l) in
+      → let low : List ℕ = sheetNumbers (givenBack (field (nIter 31) λ n. changes profile lsp 0 n f) l) in
       let s : List ℕ = sheetNumbers l in
       changesFrom from (getD low 0 0) (drop 1 low) ≡ map elementInFives (changesFrom from (getD s 0 0) (drop 1 s))
   counted (n ∷ l) (also gn c) =
@@ -116,7 +116,7 @@ module _ (from lsp : ℕ) (f : Format) where
       changes-lowered (n .packet) 0 l c ∙ ap (λ (z : ℕ). map elementInFives (changesFrom from z (sheetNumbers l))) en
 
   profile-lowered : (l : List Item) → Conforming InSheet (part profile 31 lsp f) l
-      → elementsFrom from (sheetNumbers (lowered (part profile 31 lsp f) l)) ≡ map elementInFives (elementsFrom from (sheetNumbers l))
+      → elementsFrom from (sheetNumbers (givenBack (part profile 31 lsp f) l)) ≡ map elementInFives (elementsFrom from (sheetNumbers l))
   profile-lowered l c =
       let e = element-lowered (from + 0) (field (nIter 31) λ n. changes profile lsp 0 n f) l c in
       let pick : List ℕ → List Element = λ s. changesFrom from (getD s 0 0) (drop 1 s) in
@@ -129,26 +129,26 @@ pub record Past (whole : Format) (l : List Item) (n : ℕ) (f : Format) : Type 0
   pub rest : List Item
   pub good : Conforming InSheet f rest
   pub here : drop n (sheetNumbers l) ≡ sheetNumbers rest
-  pub there : drop n (sheetNumbers (lowered whole l)) ≡ sheetNumbers (lowered f rest)
+  pub there : drop n (sheetNumbers (givenBack whole l)) ≡ sheetNumbers (givenBack f rest)
 
 one-on : (n : ℕ) (s : List ℕ) (a : ℕ) (m : List ℕ) → drop n s ≡ a ∷ m → drop (n + 1) s ≡ m
 one-on n s a m e = sym (drop-drop 1 n s) ∙ ap (drop 1) e
 
 module _ {whole : Format} {l : List Item} {n : ℕ} {k : Kind} where
   past-field : {next : ℕ → Format} {C : Type 0} → Past whole l n (field k next)
-      → ((i : Item) → InSheet k i → getD (drop n (sheetNumbers l)) 0 0 ≡ i .sheet → getD (drop n (sheetNumbers (lowered whole l))) 0 0 ≡ k .raise (i .packet)
+      → ((i : Item) → InSheet k i → getD (drop n (sheetNumbers l)) 0 0 ≡ i .sheet → getD (drop n (sheetNumbers (givenBack whole l))) 0 0 ≡ k .raise (i .packet)
       → Past whole l (n + 1) (next (i .packet)) → C) → C
   past-field {next} {C} p f = go (p .rest) (p .good) (p .here) (p .there)
     where
       go : (r : List Item) → Conforming InSheet (field k next) r → drop n (sheetNumbers l) ≡ sheetNumbers r
-          → drop n (sheetNumbers (lowered whole l)) ≡ sheetNumbers (lowered (field k next) r) → C
+          → drop n (sheetNumbers (givenBack whole l)) ≡ sheetNumbers (givenBack (field k next) r) → C
       go (i ∷ m) (also g c) here there =
           f i g (ap (λ (s : List ℕ). getD s 0 0) here) (ap (λ (s : List ℕ). getD s 0 0) there)
           (record {
             rest = m;
             good = c;
             here = one-on n (sheetNumbers l) (i .sheet) (sheetNumbers m) here;
-            there = one-on n (sheetNumbers (lowered whole l)) (k .raise (i .packet)) (sheetNumbers (lowered (next (i .packet)) m)) there;
+            there = one-on n (sheetNumbers (givenBack whole l)) (k .raise (i .packet)) (sheetNumbers (givenBack (next (i .packet)) m)) there;
           })
 
   past : {f : Format} → Past whole l n (then k f) → Past whole l (n + 1) f
@@ -156,7 +156,7 @@ module _ {whole : Format} {l : List Item} {n : ℕ} {k : Kind} where
 
 -- past the fields before the lists, L_SP's value among them
 pub at-lists : {C : Type 0} (l : List Item) → Conforming InSheet (sheetFields wireChanges) l
-    → (let low : List ℕ = sheetNumbers (lowered (sheetFields wireChanges) l) in
+    → (let low : List ℕ = sheetNumbers (givenBack (sheetFields wireChanges) l) in
     (i : Item) → InSheet lSp i → getD (drop 10 (sheetNumbers l)) 0 0 ≡ i .sheet → getD (drop 10 low) 0 0 ≡ i .packet
     → Past (sheetFields wireChanges) l 14 (lists wireChanges (i .packet)) → C) → C
 unfolding sheetFields fields body
@@ -167,23 +167,23 @@ at-lists l c k =
 
 -- L_SP and the elements of a sheet's values, as its packet gives them back
 at-profile : {C : Type 0} (l : List Item) → Conforming InSheet (sheetFields wireChanges) l
-    → (let low : List ℕ = sheetNumbers (lowered (sheetFields wireChanges) l) in
+    → (let low : List ℕ = sheetNumbers (givenBack (sheetFields wireChanges) l) in
     segmentLength low ≡ segmentLength (sheetNumbers l) → elementsFrom 0 (profileOf low) ≡ map elementInFives (elementsFrom 0 (profileOf (sheetNumbers l))) → C)
     → C
 unfolding lists
 at-profile l c k =
     let whole = sheetFields wireChanges in
     at-lists l c λ i g here there r.
-    k (sym (getD-drop 10 (sheetNumbers (lowered whole l)) 0 0) ∙ there ∙ same-is i g ∙ sym here ∙ getD-drop 10 (sheetNumbers l) 0 0)
+    k (sym (getD-drop 10 (sheetNumbers (givenBack whole l)) 0 0) ∙ there ∙ same-is i g ∙ sym here ∙ getD-drop 10 (sheetNumbers l) 0 0)
     (ap (elementsFrom 0) (r .there) ∙ profile-lowered 0 (i .packet) _ (r .rest) (r .good) ∙ ap (λ (s : List ℕ). map elementInFives (elementsFrom 0 s)) (sym (r .here)))
 
 pub length-stays : (l : List Item) → Conforming InSheet (sheetFields wireChanges) l
-    → segmentLength (sheetNumbers (lowered (sheetFields wireChanges) l)) ≡ segmentLength (sheetNumbers l)
+    → segmentLength (sheetNumbers (givenBack (sheetFields wireChanges) l)) ≡ segmentLength (sheetNumbers l)
 length-stays l c = at-profile l c λ same es. same
 
 -- the speed from a sheet's values as its packet gives them back
 pub speed-in-fives : (t : Train) (x : ℕ) (l : List Item) → Conforming InSheet (sheetFields wireChanges) l
-    → speedIn t x (sheetNumbers (lowered (sheetFields wireChanges) l)) ≡ inFives (speedIn t x (sheetNumbers l))
+    → speedIn t x (sheetNumbers (givenBack (sheetFields wireChanges) l)) ≡ inFives (speedIn t x (sheetNumbers l))
 speed-in-fives t x l c =
     at-profile l c λ same es.
     ap₂ (λ (n : ℕ) (e : List Element). permitted t n x e) same es ∙ lowered-permitted t (segmentLength (sheetNumbers l)) x (elementsFrom 0 (profileOf (sheetNumbers l)))

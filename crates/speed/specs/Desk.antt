@@ -6,43 +6,44 @@ use Prim.Native.Nat.{ℕ}
 use lib.ListN.{replicate}
 use Rattle.speed.specs.declared.Train.{Train}
 
-pub record Case : Type 0 where
+pub record SpeedCase : Type 0 where
   pub train : Train
   pub x : ℕ
   pub numbers : List ℕ
   pub answer : ℕ
 
--- a train of this length and cant deficiency, freight in P position, freight in G position, passenger
+-- "a length .., a cant deficiency .., and three yes/no memberships": freight in P position, freight in G position, passenger
 abbrev pub trainOf : ℕ → ℕ → Bool → Bool → Bool → Train
 trainOf length cant p g passenger = record { length = length; cant = cant; «freight_p» = p; «freight_g» = g; passenger = passenger }
 
 -- a segment of 1,000 cm with this profile
-abbrev pub sheetOf : List ℕ → List ℕ
-sheetOf profile = 6 ∷ replicate 9 0 ++ 1000 ∷ replicate 3 0 ++ profile ++ replicate 5 0
+abbrev pub segmentWith : List ℕ → List ℕ
+segmentWith profile = 6 ∷ replicate 9 0 ++ 1000 ∷ replicate 3 0 ++ profile ++ replicate 5 0
 
 -- "Length 1,000 cm, 100 km/h with Q_FRONT 0, change at 500 to 140", over the Q_FRONT of each
-abbrev pub change : ℕ → ℕ → List ℕ
-change front next = sheetOf (100 ∷ front ∷ 0 ∷ 1 ∷ 500 ∷ 140 ∷ next ∷ 0 ∷ [])
+abbrev pub changeNumbers : ℕ → ℕ → List ℕ
+changeNumbers front next = segmentWith (100 ∷ front ∷ 0 ∷ 1 ∷ 500 ∷ 140 ∷ next ∷ 0 ∷ [])
 
+-- "a 200 cm train"
 abbrev pub plain : Train
 plain = trainOf 200 80 false false false
 
 -- 100 km/h; 120 for 100 mm; instead 130 in P position, 90 in G position; at most 125 for passengers
 abbrev pub specific : List ℕ
-specific = sheetOf (100 ∷ 0 ∷ 4 ∷ 0 ∷ 100 ∷ 120 ∷ 1 ∷ 0 ∷ 130 ∷ 1 ∷ 1 ∷ 90 ∷ 2 ∷ 2 ∷ 125 ∷ 0 ∷ [])
+specific = segmentWith (100 ∷ 0 ∷ 4 ∷ 0 ∷ 100 ∷ 120 ∷ 1 ∷ 0 ∷ 130 ∷ 1 ∷ 1 ∷ 90 ∷ 2 ∷ 2 ∷ 125 ∷ 0 ∷ [])
 
-abbrev pub speeds : List Case
+abbrev pub speeds : List SpeedCase
 speeds =
     -- "a 200 cm train gets 100 at 699 and 140 at 700. With Q_FRONT 1 it gets 140 at 500"
-    record { train = plain; x = 699; numbers = change 0 0; answer = 100 }
-    ∷ record { train = plain; x = 700; numbers = change 0 0; answer = 140 }
-    ∷ record { train = plain; x = 499; numbers = change 1 1; answer = 100 }
-    ∷ record { train = plain; x = 500; numbers = change 1 1; answer = 140 }
+    record { train = plain; x = 699; numbers = changeNumbers 0 0; answer = 100 }
+    ∷ record { train = plain; x = 700; numbers = changeNumbers 0 0; answer = 140 }
+    ∷ record { train = plain; x = 499; numbers = changeNumbers 1 1; answer = 100 }
+    ∷ record { train = plain; x = 500; numbers = changeNumbers 1 1; answer = 140 }
     -- the delay is that of the element that ends, and not of "the element that follows"
-    ∷ record { train = plain; x = 699; numbers = change 0 1; answer = 100 }
-    ∷ record { train = plain; x = 700; numbers = change 0 1; answer = 140 }
-    ∷ record { train = plain; x = 499; numbers = change 1 0; answer = 100 }
-    ∷ record { train = plain; x = 500; numbers = change 1 0; answer = 140 }
+    ∷ record { train = plain; x = 699; numbers = changeNumbers 0 1; answer = 100 }
+    ∷ record { train = plain; x = 700; numbers = changeNumbers 0 1; answer = 140 }
+    ∷ record { train = plain; x = 499; numbers = changeNumbers 1 0; answer = 100 }
+    ∷ record { train = plain; x = 500; numbers = changeNumbers 1 0; answer = 140 }
     -- each sentence of an element's speed
     ∷ record { train = plain; x = 0; numbers = specific; answer = 100 }
     ∷ record { train = trainOf 200 100 false false false; x = 0; numbers = specific; answer = 120 }

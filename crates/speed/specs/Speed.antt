@@ -11,6 +11,7 @@ use Rattle.speed.specs.declared.Train.{Train}
 
 -- ---- "A train"
 
+-- whether a figure stands in the table: "one of the eleven mm figures"
 abbrev pub found : Option ℕ → Bool
 found none = false
 found (some v) = true
@@ -31,12 +32,13 @@ belongs t (suc (suc c)) = t .passenger
 
 -- ---- "An element's speed for a train"
 
--- a specific entry, and an element, by their sheet's numbers
+-- "Q_DIFF 2 (0 to 2), class 4, V_DIFF 7": a specific entry, by its sheet's numbers
 pub record Entry : Type 0 where
   pub qDiff : ℕ
   pub class : ℕ
   pub vDiff : ℕ
 
+-- "V_STATIC 7, Q_FRONT 1, N_ITER 5 and its specific entries": an element, by its sheet's numbers
 pub record Element : Type 0 where
   pub start : ℕ
   pub vStatic : ℕ
@@ -52,7 +54,7 @@ abbrev pub named : Train → ℕ → ℕ → Bool
 named t zero class = ownCant t class
 named t (suc q) class = belongs t class
 
--- the speeds of the entries with this Q_DIFF that are the train's
+-- "entries with Q_DIFF 0", 1 or 2 that name the train's own: their speeds
 abbrev pub namedSpeeds : Train → ℕ → List Entry → List ℕ
 namedSpeeds t q [] = []
 namedSpeeds t q (e ∷ l) = cond (eqb (e .qDiff) q && named t q (e .class)) (e .vDiff ∷ namedSpeeds t q l) (namedSpeeds t q l)
@@ -86,7 +88,7 @@ heldTo t e stop = cond (eqb (e .qFront) 0) (stop + t .length) stop
 abbrev pub holds : Train → Element → ℕ → ℕ → Bool
 holds t e stop x = leb (e .start) x && ltb x (heldTo t e stop)
 
--- the speeds of the elements that hold at x
+-- "the elements that hold there": the speeds of those at x
 abbrev pub heldSpeeds : Train → ℕ → ℕ → List Element → List ℕ
 heldSpeeds t lsp x [] = []
 heldSpeeds t lsp x (e ∷ l) = cond (holds t e (endBefore lsp l) x) (elementSpeed t e ∷ heldSpeeds t lsp x l) (heldSpeeds t lsp x l)
@@ -102,6 +104,7 @@ abbrev pub entriesOf : ℕ → List ℕ → List Entry
 entriesOf zero s = []
 entriesOf (suc n) s = record { qDiff = getD s 0 0; class = getD s 1 0; vDiff = getD s 2 0 } ∷ entriesOf n (drop 3 s)
 
+-- what comes after "that many specific entries"
 abbrev pub afterEntries : ℕ → List ℕ → List ℕ
 afterEntries zero s = s
 afterEntries (suc n) s = afterEntries n (drop 3 s)
@@ -110,21 +113,24 @@ afterEntries (suc n) s = afterEntries n (drop 3 s)
 abbrev pub elementOf : ℕ → List ℕ → Element
 elementOf start s = record { start = start; vStatic = getD s 0 0; qFront = getD s 1 0; entries = entriesOf (getD s 2 0) (drop 3 s) }
 
+-- what comes after "N_ITER 5 and its specific entries"
 abbrev pub afterElement : List ℕ → List ℕ
 afterElement s = afterEntries (getD s 2 0) (drop 3 s)
 
--- n changes, with every start shifted by where the segment starts
+-- "each change starts the next": n changes, with every start shifted by where the segment starts
 abbrev pub changesFrom : ℕ → ℕ → List ℕ → List Element
 changesFrom from zero s = []
 changesFrom from (suc n) s = elementOf (from + getD s 0 0) (drop 1 s) ∷ changesFrom from n (afterElement (drop 1 s))
 
+-- "Element 0 of the profile starts at 0 and each change starts the next", shifted so
 abbrev pub elementsFrom : ℕ → List ℕ → List Element
 elementsFrom from s = elementOf (from + 0) s ∷ changesFrom from (getD (afterElement s) 0 0) (drop 1 (afterElement s))
 
--- L_SP and the speed profile among a sheet's numbers
+-- "The numbers stand in packet order": L_SP among them
 abbrev pub segmentLength : List ℕ → ℕ
 segmentLength s = getD s 10 0
 
+-- "Start of speed profile", among a sheet's numbers
 abbrev pub profileOf : List ℕ → List ℕ
 profileOf s = drop 14 s
 

@@ -22,11 +22,11 @@ use Rattle.segment.specs.Judgement.{segmentNumber, fromPacket, toSheet}
 use Rattle.segment.proofs.Framing.{framed-only}
 use Rattle.segment.proofs.Ends.{sheetFields-lawful, sheet-most}
 use Rattle.convert.specs.declared.Converted.{Converted}
-use Rattle.convert.specs.Convert.{Outcome, placed, converted, packetToSheet}
+use Rattle.convert.specs.Convert.{Outcome, successWith, converted, packetToSheet}
 use Rattle.speed.specs.Speed.{afterEntries, afterElement}
 use Rattle.sheets.specs.Numbers.{numbersIn}
-use Rattle.lines.specs.Lines.{changesOf}
-use Rattle.text.specs.Listing.{Accepts}
+use Rattle.lines.specs.Changes.{changesOf}
+use Rattle.text.specs.Writers.{PacketAccepted}
 use Rattle.sheets.proofs.Reading.{numbers-written}
 
 -- ---- "N_ITER 5 (0 to 31), then that many changes"
@@ -87,13 +87,13 @@ pub record Made (s cells : List ℕ) (n : ℕ) : Type 0 where
   pub numbers : numbersIn (take n cells) ≡ sheetNumbers (valuesOf (fromPacket wireChanges s))
   pub few : changesOf (numbersIn (take n cells)) ≤ 31
 
-pub made : (s room cells : List ℕ) (answer : Converted) → Bytes s → Accepts s → 5608 ≤ length room
+pub made : (s room cells : List ℕ) (answer : Converted) → Bytes s → PacketAccepted s → 5608 ≤ length room
     → record { answer = answer; room = cells } ≡ packetToSheet s room → Made s cells (answer .length)
 unfolding packetToSheet
 made s room cells answer ok e h o =
     let l = valuesOf (fromPacket wireChanges s) in
     let bytes = toSheet wireChanges l in
-    let p : record { answer = answer; room = cells } ≡ placed bytes room =
+    let p : record { answer = answer; room = cells } ≡ successWith bytes room =
     o ∙ ap (λ (r : Read). converted (toSheet wireChanges) r room) e ∙ rw (le-ltb (length room) (length bytes) (omega (arith, short s l ok e))) in
     let long : answer .length ≡ length bytes = ap (λ (x : Outcome). x .answer .length) p in
     let whole : cells ≡ bytes ++ drop (length bytes) room = ap (λ (x : Outcome). x .room) p in

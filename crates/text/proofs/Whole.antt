@@ -14,10 +14,12 @@ use Rattle.segment.specs.Judgement.{fromPacket}
 use Rattle.segment.proofs.Refusals.{packet-refusal}
 use Rattle.speed.specs.Speed.{afterElement, elementOf, changesFrom, profileOf}
 use Rattle.altitude.specs.declared.Altitude.{Altitude}
-use Rattle.altitude.specs.Altitude.{centimetres, altitudeField, answered, altitudeOf}
+use Rattle.altitude.specs.Altitude.{centimetres, altitudeField, altitudeOfRead, altitudeOf}
 use Rattle.words.specs.Words.{Laid}
-use Rattle.lines.specs.Lines.{segmentLine, elementLine, elementLines, lines, changesOf}
-use Rattle.text.specs.Listing.{refusedLine, listed, listingOf, Listed, listingIn, Accepts}
+use Rattle.lines.specs.Lines.{segmentLine, elementLine, elementLines, lines}
+use Rattle.lines.specs.Changes.{changesOf}
+use Rattle.text.specs.Listing.{refusedLine, listed, listingOf, Listed, listingIn}
+use Rattle.text.specs.Writers.{PacketAccepted}
 use Rattle.words.proofs.Putting.{decimal-short}
 use Rattle.lines.proofs.Laying.{element-short, segment-short}
 use Rattle.text.proofs.Accepted.{few-changes}
@@ -25,9 +27,9 @@ use Rattle.text.proofs.Accepted.{few-changes}
 -- ---- by the altitude's answer
 
 module _ (s : List ℕ) (a : Altitude) (e : a ≡ altitudeOf s) where
-  by-read : (r : Read) → fromPacket wireChanges s ≡ r → a ≡ answered r
+  by-read : (r : Read) → fromPacket wireChanges s ≡ r → a ≡ altitudeOfRead r
   unfolding altitudeOf
-  by-read r d = e ∙ ap answered d
+  by-read r d = e ∙ ap altitudeOfRead d
 
   pub refused-text : (a .refusal ≡ 0 → ⊥) → refusedLine (a .refusal) ≡ listingOf s
   unfolding listingOf
@@ -38,10 +40,10 @@ module _ (s : List ℕ) (a : Altitude) (e : a ≡ altitudeOf s) where
       go (accepted l) d = absurd (n (ap (λ (x : Altitude). x .refusal) (by-read (accepted l) d)))
 
   module _ (z : a .refusal ≡ 0) where
-    pub accepted-packet : Accepts s
+    pub accepted-packet : PacketAccepted s
     accepted-packet = go (fromPacket wireChanges s) refl
       where
-        go : (r : Read) → fromPacket wireChanges s ≡ r → Accepts s
+        go : (r : Read) → fromPacket wireChanges s ≡ r → PacketAccepted s
         go (refused q left) d = absurd (omega (arith, packet-refusal wireChanges s q left d, ap (λ (x : Altitude). x .refusal) (by-read (refused q left) d)))
         go (accepted l) d = rw d
 

@@ -1,3 +1,4 @@
 pub mod Listing
 pub mod Desk
 pub mod Names
+pub mod Writers

@@ -1,10 +1,9 @@
 -- The listing of a packet: the text that the program writes, as a total function of the packet's bytes.
 -- Assumes nothing.
-use mathlib.Core.Path.{_≡_}
 use mathlib.Core.List.{List, _++_}
 use Prim.Native.Nat.{ℕ}
 use lib.ListN.{length, drop}
-use Rattle.format.specs.Format.{Read, accepted, refused, valuesOf, sheetNumbers}
+use Rattle.format.specs.Format.{Read, accepted, refused, sheetNumbers}
 use Rattle.segment.specs.Segment.{wireChanges}
 use Rattle.segment.specs.Judgement.{fromPacket}
 use Rattle.altitude.specs.Altitude.{centimetres, altitudeField}
@@ -15,23 +14,20 @@ use Rattle.lines.specs.Lines.{lines}
 abbrev pub refusedLine : ℕ → List ℕ
 refusedLine r = labelled (ascii "REFUSED ") r ++ ascii "\n"
 
+-- "writes "REFUSED n" or a listing"
 abbrev pub listed : Read → List ℕ
 listed (refused r left) = refusedLine r
 listed (accepted l) = lines (centimetres (altitudeField l)) (sheetNumbers l)
 
+-- "A small program lists a packet"
 unfoldable pub listingOf : List ℕ → List ℕ
 listingOf s = listed (fromPacket wireChanges s)
 
--- the length of the text, and the room that begins with it
+-- "the whole output": the length of the text, and the room that begins with it
 pub record Listed : Type 0 where
   pub length : ℕ
   pub room : List ℕ
 
+-- "the whole output", at the front of a room
 unfoldable pub listingIn : List ℕ → List ℕ → Listed
 listingIn s room = record { length = length (listingOf s); room = listingOf s ++ drop (length (listingOf s)) room }
-
--- ---- what the writers are held to
-
--- the packet was accepted
-abbrev pub Accepts : List ℕ → Type 0
-Accepts s = fromPacket wireChanges s ≡ accepted (valuesOf (fromPacket wireChanges s))

@@ -10,7 +10,7 @@ use Rattle.format.specs.Format.{Format, end, field, then}
 use Rattle.format.specs.Conforming.{Conforming, InPacket}
 use Rattle.format.specs.Grounds.{Front}
 use Rattle.segment.specs.Segment.{profile, voltage, current, changes, part, lists, sheetFields, wireChanges}
-use Rattle.words.specs.Words.{ascii, signed, labelled}
+use Rattle.words.specs.Words.{ascii, signedDecimal, labelled}
 
 -- "its start in cm, V_STATIC in km/h and Q_FRONT": of an element's values, with its entries before the values that follow
 pub record ElementNamed (f : Format) (l rest : List Item) (start : ℕ) (line : List ℕ) : Type 0 where
@@ -60,4 +60,4 @@ pub record Named (l : List Item) (text : List ℕ) : Type 0 where
   pub elements : List ℕ
   pub profiles : ProfileNamed (length .packet) (part voltage wireChanges (length .packet) (part current wireChanges (length .packet) end)) values elements
   pub whole : text ≡ ((labelled (ascii "SEGMENT ") (country .sheet) ++ labelled (ascii " ") (segment .sheet))
-      ++ (labelled (ascii " LENGTH ") (length .sheet) ++ ascii " ALTITUDE " ++ signed (pos (altitude .packet) -ℤ pos 100000) ++ ascii "\n")) ++ elements
+      ++ (labelled (ascii " LENGTH ") (length .sheet) ++ ascii " ALTITUDE " ++ signedDecimal (pos (altitude .packet) -ℤ pos 100000) ++ ascii "\n")) ++ elements

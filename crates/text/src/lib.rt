@@ -7,7 +7,8 @@ ghost use Rattle.segment.specs.Segment.{wireChanges};
 ghost use Rattle.segment.specs.Judgement.{fromPacket};
 ghost use Rattle.words.specs.Words.{Laid};
 ghost use Rattle.lines.specs.Lines.{lines};
-ghost use Rattle.text.specs.Listing.{Accepts, refusedLine, listingIn};
+ghost use Rattle.text.specs.Listing.{refusedLine, listingIn};
+ghost use Rattle.text.specs.Writers.{PacketAccepted};
 
 // The bytes of a room that holds any listing.
 pub const ROOM: usize = 2048;
@@ -26,7 +27,7 @@ fn put_refusal(refusal: u32, room: &mut [u8]) -> usize
 
 // Writes the lines of an accepted packet at the front of the room, by way of its sheet.
 fn put_accepted(packet: &[u8], altitude: i32, room: &mut [u8]) -> usize
-    requires { ⌜ Accepts (now packet) × (1669 ≤ length (now room)) ⌝ }
+    requires { ⌜ PacketAccepted (now packet) × (1669 ≤ length (now room)) ⌝ }
     ensures { λ r. ⌜ Laid (now (room .entry)) 0 (lines altitude (sheetNumbers (valuesOf (fromPacket wireChanges (now (packet .entry)))))) r (now (room .exit)) ⌝ }
 {
     let mut sheet = [0u8; SHEET];

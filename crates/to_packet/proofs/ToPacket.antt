@@ -20,12 +20,12 @@ use Rattle.format.specs.Format.{Format, Read, accepted, read, write, valuesOf}
 use Rattle.format.specs.Media.{packet, sheet}
 use Rattle.format.specs.Place.{after}
 use Rattle.bits.proofs.Tests.{by-cases, and-left, and-right}
-use Rattle.format.specs.Conforming.{Conforming, also, InPacket, InSheet, lowered}
+use Rattle.format.specs.Conforming.{Conforming, also, InPacket, InSheet, givenBack}
 use Rattle.format.proofs.Media.{sheet-again, sheet-only}
 use Rattle.format.proofs.Lawful.{to-packet, lowered-bits}
 use Rattle.segment.proofs.Ends.{fields-lawful, bits-least, bits-most}
 use Rattle.segment.specs.Segment.{body, fields, sheetFields, wireChanges}
-use Rattle.segment.specs.Frame.{frame, framed, numberItem}
+use Rattle.segment.specs.Frame.{frame, packetOfBits, numberItem}
 use Rattle.segment.specs.Judgement.{segmentNumber, fromSheet, toPacket, afterNumber}
 use Rattle.segment.proofs.Framing.{frame-length, framed-length}
 use Rattle.format.specs.Format.{end, refused, answerOf}
@@ -33,12 +33,14 @@ use Rattle.format.specs.Pass.{pass}
 use Rattle.format.specs.Tasks.{Told, recording}
 use Rattle.segment.specs.Parts.{headerPart, bodyPart}
 use Rattle.segment.proofs.Parts.{body-part, header-part}
-use Rattle.write_packet.specs.declared.Spot.{Spot}
-use Rattle.write_packet.specs.Writing.{writer, Ready, Wrote}
-use Rattle.write_packet.proofs.Writing.{run-told}
-use Rattle.judge.specs.declared.Verdict.the-variants.{Accepted, Refused}
+use Rattle.fill_element.specs.declared.Spot.{Spot}
+use Rattle.fill_element.specs.Writing.{writer, Ready, Wrote}
+use Rattle.fill_element.proofs.Writing.{run-told}
+use Rattle.judge.specs.declared.SheetVerdict.the-variants.{PacketBits, Refused}
 use Rattle.judge.specs.Verdict.{sizeFrom, sheetVerdict}
-use Rattle.convert.specs.Convert.{Outcome, refusedWith, fitted, converted, sheetToPacket, bitsOfSheet, Accepts, bodyRead, bodyBitsOf, BodyAt, Headed}
+use Rattle.convert.specs.Convert.{Outcome, refusedWith, fitted, converted, sheetToPacket}
+use Rattle.convert.specs.Writers.{bitsOfSheet, SheetAccepted, bodyRead, bodyBitsOf, BodyAt, Headed}
+use Rattle.judge.proofs.Sizes.{sheet-sorts}
 use Rattle.judge.proofs.Accepted.{verdict-accepted, verdict-refused}
 
 -- ---- the sheet: its first number, and the size of its bits
@@ -79,17 +81,17 @@ numbered s l ok e = go l (sheet-only (sheetFields wireChanges) s l ok e .0) (she
           conforms = c;
         }
 
-module _ (s : List ℕ) (ok : Bytes s) (a : Accepts s) where
+module _ (s : List ℕ) (ok : Bytes s) (a : SheetAccepted s) where
   pub own : Numbered s (valuesOf (fromSheet wireChanges s))
   own = numbered s (valuesOf (fromSheet wireChanges s)) ok a
 
   pub sheet-bits : bitsOfSheet s ≡ write packet (fields wireChanges) (own .values)
   sheet-bits = ap (λ (l : List Item). write packet (fields wireChanges) (afterNumber l)) (own .all)
 
-  good : Conforming InPacket (fields wireChanges) (lowered (fields wireChanges) (own .values))
+  good : Conforming InPacket (fields wireChanges) (givenBack (fields wireChanges) (own .values))
   good = to-packet (fields-lawful wireChanges (lit≤ tt)) (own .conforms)
 
-  bits-again : length (bitsOfSheet s) ≡ length (write packet (fields wireChanges) (lowered (fields wireChanges) (own .values)))
+  bits-again : length (bitsOfSheet s) ≡ length (write packet (fields wireChanges) (givenBack (fields wireChanges) (own .values)))
   bits-again = ap length (sheet-bits ∙ sym (lowered-bits (fields wireChanges) (own .values)))
 
   pub bits-low : 96 + 185 ≤ length (bitsOfSheet s)
@@ -106,7 +108,7 @@ filled-none s = record { count = refl; waits = refl; bytes = λ h. refl }
 cut : (p b r f : List Bool) (n : ℕ) → f ≡ b ++ r → length (p ++ b) ≡ n → take n (p ++ f) ≡ p ++ b
 cut p b r f n e l = ap (λ (x : List Bool). take n (p ++ x)) e ∙ ap (take n) (sym (append-assoc p b r)) ∙ take-at (p ++ b) r n l
 
-module _ (s : List ℕ) (ok : Bytes s) (a : Accepts s) where
+module _ (s : List ℕ) (ok : Bytes s) (a : SheetAccepted s) where
   all-told : (x : List Bool) → writer s .run (headerPart (bodyPart end)) (length (groupsIn 6)) x ≡ Told.told (x ++ bitsOfSheet s)
   all-told x =
       ap (λ (f : Format). writer s .run f (length (groupsIn 6)) x) (sym header-part)
@@ -198,12 +200,12 @@ module _ (s : List ℕ) (ok : Bytes s) (at : ℕ) (h : BodyAt s at) (few : lengt
 module _ (s room : List ℕ) where
   pub packet-refused : (r : ℕ) → Refused r ≡ sheetVerdict s → refusedWith r room ≡ sheetToPacket s room
   unfolding sheetVerdict sheetToPacket
-  packet-refused r e = verdict-refused (sizeFrom packet (sheetFields wireChanges) 0) (fromSheet wireChanges s) r e λ left p. rw p
+  packet-refused r e = verdict-refused sheet-sorts (sizeFrom packet (sheetFields wireChanges) 0) (fromSheet wireChanges s) r e λ left p. rw p
 
-  module _ (ok : Bytes s) (n : ℕ) (e : Accepted n ≡ sheetVerdict s) where
-    pub packet-accepts : Accepts s
+  module _ (ok : Bytes s) (n : ℕ) (e : PacketBits n ≡ sheetVerdict s) where
+    pub packet-accepts : SheetAccepted s
     unfolding sheetVerdict
-    packet-accepts = verdict-accepted (sizeFrom packet (sheetFields wireChanges) 0) (fromSheet wireChanges s) n e λ p q. p
+    packet-accepts = verdict-accepted sheet-sorts (sizeFrom packet (sheetFields wireChanges) 0) (fromSheet wireChanges s) n e λ p q. p
 
     -- the packet number's 8 bits, and the fields'
     pub packet-bits : n ≡ 8 + length (bitsOfSheet s)
@@ -212,7 +214,7 @@ module _ (s room : List ℕ) where
         let o = own s ok packet-accepts in
         let v = o .values in
         let z : n ≡ 0 + length (write packet (sheetFields wireChanges) (valuesOf (fromSheet wireChanges s))) =
-        verdict-accepted (sizeFrom packet (sheetFields wireChanges) 0) (fromSheet wireChanges s) n e λ p q. q in
+        verdict-accepted sheet-sorts (sizeFrom packet (sheetFields wireChanges) 0) (fromSheet wireChanges s) n e λ p q. q in
         omega (
           arith,
           ap (λ (l : List Item). length (write packet (sheetFields wireChanges) l)) (o .all),
@@ -226,15 +228,15 @@ module _ (s room : List ℕ) where
     pub packet-high : n ≤ 104 + 15884
     packet-high = omega (arith, packet-bits, bits-high s ok packet-accepts)
 
-    by-bits : sheetToPacket s room ≡ fitted (framed segmentNumber (bitsOfSheet s)) room
+    by-bits : sheetToPacket s room ≡ fitted (packetOfBits segmentNumber (bitsOfSheet s)) room
     unfolding sheetToPacket toPacket
     by-bits = ap (λ (r : Read). converted (toPacket wireChanges) r room) packet-accepts
 
-    packet-long : length (framed segmentNumber (bitsOfSheet s)) ≡ 15 + (n - 104 + 7) / 8
+    packet-long : length (packetOfBits segmentNumber (bitsOfSheet s)) ≡ 15 + (n - 104 + 7) / 8
     packet-long = framed-length segmentNumber (bitsOfSheet s) ∙ omega (arith, packet-bits, packet-low)
 
     pub packet-too-long : length room < 15 + (n - 104 + 7) / 8 → refusedWith 8 room ≡ sheetToPacket s room
-    packet-too-long h = sym (by-bits ∙ rw (lt-ltb (length room) (length (framed segmentNumber (bitsOfSheet s))) (omega (arith, packet-long))))
+    packet-too-long h = sym (by-bits ∙ rw (lt-ltb (length room) (length (packetOfBits segmentNumber (bitsOfSheet s))) (omega (arith, packet-long))))
 
     module _ (header : List ℕ) (at : ℕ) (h : Headed s header at) where
       pub body-long : length (bodyBitsOf s at) ≡ n - 104
@@ -252,7 +254,7 @@ module _ (s room : List ℕ) where
       front = length-take-le 120 (frame segmentNumber (bitsOfSheet s)) (omega (arith, frame-length segmentNumber (bitsOfSheet s), bits-low s ok packet-accepts))
 
       -- the header's bytes, and the body's
-      packet-parts : framed segmentNumber (bitsOfSheet s) ≡ header ++ bytesOfBits (bodyBitsOf s at)
+      packet-parts : packetOfBits segmentNumber (bitsOfSheet s) ≡ header ++ bytesOfBits (bodyBitsOf s at)
       packet-parts =
           ap bytesOfBits bits-apart ∙ bytes-append (take 120 (frame segmentNumber (bitsOfSheet s))) (bodyBitsOf s at) 15 front
           ∙ ap (λ (x : List ℕ). x ++ bytesOfBits (bodyBitsOf s at)) (sym (h .bytes))
@@ -260,7 +262,7 @@ module _ (s room : List ℕ) where
       pub packet-done : 15 + (n - 104 + 7) / 8 ≤ length room → (rest : List ℕ) → rest ≡ bytesOfBits (bodyBitsOf s at) ++ drop ((length (bodyBitsOf s at) + 7) / 8) (drop 15 room)
           → _≡_ {A = Outcome} (record { answer = record { refusal = 0; length = 15 + (n - 104 + 7) / 8 }; room = header ++ rest }) (sheetToPacket s room)
       packet-done g rest q =
-          let all : List ℕ = framed segmentNumber (bitsOfSheet s) in
+          let all : List ℕ = packetOfBits segmentNumber (bitsOfSheet s) in
           let k : 15 + (length (bodyBitsOf s at) + 7) / 8 ≡ length all = omega (arith, body-long, packet-long) in
           let c : header ++ rest ≡ all ++ drop (length all) room =
           ap (λ (x : List ℕ). header ++ x) (q ∙ ap (λ (x : List ℕ). bytesOfBits (bodyBitsOf s at) ++ x) (drop-drop ((length (bodyBitsOf s at) + 7) / 8) 15 room ∙ ap (λ (m : ℕ). drop m room) k))

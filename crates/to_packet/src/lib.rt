@@ -4,23 +4,24 @@ ghost use mathlib.Core.List.{_++_};
 ghost use Prim.Native.Nat.{_+_, _-_, _/_, _≤_, _<_, _^_};
 ghost use lib.ListN.{length, drop};
 ghost use Rattle.bits.specs.Bits.{bytesOfBits};
-ghost use Rattle.convert.specs.Convert.{sheetToPacket, bitsOfSheet, Accepts, bodyBitsOf, BodyAt, Headed};
+ghost use Rattle.convert.specs.Convert.{sheetToPacket};
+ghost use Rattle.convert.specs.Writers.{bitsOfSheet, SheetAccepted, bodyBitsOf, BodyAt, Headed};
 use convert::Converted;
 use convert::TOO_LONG;
 use convert::done;
 use convert::refused;
+use fill_element::Spot;
 use frame::FIRST_FIELD;
 use frame::HEADER;
-use judge::Verdict;
+use judge::SheetVerdict;
 use kinds::header;
-use write_packet::Spot;
 
 // The bits of a packet before its body, without L_PACKET_ATO.
 const BEFORE_BODY: usize = 104;
 
 // Writes the header of an accepted sheet's packet, and returns the place of the body's first number.
 fn write_header(sheet: &[u8], header: &mut [u8], bits: u32) -> usize
-    requires { ⌜ (length (now header) ≡ 15) × (bits ≡ length (bitsOfSheet (now sheet)) - 96) × Accepts (now sheet) ⌝ }
+    requires { ⌜ (length (now header) ≡ 15) × (bits ≡ length (bitsOfSheet (now sheet)) - 96) × SheetAccepted (now sheet) ⌝ }
     ensures { λ r. ⌜ Headed (now (sheet .entry)) (now (header .exit)) r ⌝ }
 {
     let number = filling::put(
@@ -28,11 +29,11 @@ fn write_header(sheet: &[u8], header: &mut [u8], bits: u32) -> usize
         0,
         0,
         header::NidPacketAto::WIDTH,
-        header::NidPacketAto::LARGEST,
+        header::NidPacketAto::SEGMENT,
     );
     let wait = filling::put(header, 8, number, header::LPacketAto::WIDTH, bits);
     let first = Spot {
-        from: numbers::groups(header::NidPacketAto::LARGEST) as usize,
+        from: grouping::groups(header::NidPacketAto::SEGMENT) as usize,
         at: FIRST_FIELD,
         wait,
     };
@@ -58,8 +59,8 @@ pub fn sheet_to_packet(sheet: &[u8], room: &mut [u8]) -> Converted
     ensures { λ r. ⌜ record { answer = r; room = now (room .exit) } ≡ sheetToPacket (now (sheet .entry)) (now (room .entry)) ⌝ }
 {
     match judge_sheet::judge_sheet(sheet) {
-        Verdict::Refused(r) => refused(r),
-        Verdict::Accepted(n) => {
+        SheetVerdict::Refused(r) => refused(r),
+        SheetVerdict::PacketBits(n) => {
             let bits = n - BEFORE_BODY;
             let bytes = (bits + 7) / 8;
             let length = HEADER + bytes;

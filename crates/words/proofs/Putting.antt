@@ -12,7 +12,7 @@ use lib.ListN.{length, length-append, drop, getD}
 use lib.Seq.{sets, length-sets, drop-cons}
 use Rattle.bits.proofs.Tests.{by-cases}
 use Rattle.bits.proofs.Cells.{sets-append}
-use Rattle.words.specs.Words.{digit, digitsOf, decimal, Laid}
+use Rattle.words.specs.Words.{digitByte, digitsOf, decimal, Laid}
 
 -- ---- text after text
 
@@ -42,7 +42,7 @@ digits-most zero v = omega arith
 digits-most (suc n) v =
     by-cases (ltb v 10)
     (λ e. rw e (omega arith))
-    (λ e. rw (e, length-append (digitsOf n (v / 10)) (digit (v % 10) ∷ [])) (omega (arith, digits-most n (v / 10))))
+    (λ e. rw (e, length-append (digitsOf n (v / 10)) (digitByte (v % 10) ∷ [])) (omega (arith, digits-most n (v / 10))))
 
 pub decimal-short : (v : ℕ) → length (decimal v) ≤ 10
 unfolding decimal
@@ -54,19 +54,19 @@ enough zero v h = rw (lt-ltb v 10 (omega arith))
 enough (suc n) v h =
     by-cases (ltb v 10)
     (λ e. rw e)
-    (λ e. rw e (ap (λ (l : List ℕ). l ++ (digit (v % 10) ∷ [])) (enough n (v / 10) (omega (arith, pow-suc 10 (suc n))))))
+    (λ e. rw e (ap (λ (l : List ℕ). l ++ (digitByte (v % 10) ∷ [])) (enough n (v / 10) (omega (arith, pow-suc 10 (suc n))))))
 
-pub decimal-last : (v : ℕ) → v < 10 → digit v ∷ [] ≡ decimal v
+pub decimal-last : (v : ℕ) → v < 10 → digitByte v ∷ [] ≡ decimal v
 unfolding decimal
 decimal-last v h = rw (lt-ltb v 10 h)
 
-pub decimal-more : (v : ℕ) → 10 ≤ v → v < 2 ^ 32 → decimal (v / 10) ++ (digit (v % 10) ∷ []) ≡ decimal v
+pub decimal-more : (v : ℕ) → 10 ≤ v → v < 2 ^ 32 → decimal (v / 10) ++ (digitByte (v % 10) ∷ []) ≡ decimal v
 unfolding decimal
 decimal-more v h l =
-    rw (le-ltb v 10 h) (ap (λ (l : List ℕ). l ++ (digit (v % 10) ∷ [])) (sym (enough 8 (v / 10) (omega arith))))
+    rw (le-ltb v 10 h) (ap (λ (l : List ℕ). l ++ (digitByte (v % 10) ∷ [])) (sym (enough 8 (v / 10) (omega arith))))
 
 pub last-long : (v : ℕ) → v < 10 → length (decimal v) ≡ 1
 last-long v h = ap length (sym (decimal-last v h))
 
 pub more-long : (v : ℕ) → 10 ≤ v → v < 2 ^ 32 → length (decimal (v / 10)) + 1 ≡ length (decimal v)
-more-long v h l = sym (length-append (decimal (v / 10)) (digit (v % 10) ∷ [])) ∙ ap length (decimal-more v h l)
+more-long v h l = sym (length-append (decimal (v / 10)) (digitByte (v % 10) ∷ [])) ∙ ap length (decimal-more v h l)

@@ -12,7 +12,7 @@ use lib.Signed.{ltZ, nonNeg, natAbs-le}
 use mir.Facts.{toZ-ofZ, sfits-widen, fits-natAbs}
 use mir.Syntax.{w32, w64}
 use mir.Val.{Fits, SFits, toZ, ofZ}
-use Rattle.words.specs.Words.{ascii, decimal, signed}
+use Rattle.words.specs.Words.{ascii, decimal, signedDecimal}
 
 below-zero : (z : ℤ) → ltZ z (pos 0) ≡ true → pos 0 -ℤ z ≡ pos (natAbs z)
 below-zero (pos n) e = absurd (omega (arith, ltb-true n 0 e))
@@ -22,11 +22,11 @@ not-below : (z : ℤ) → ltZ z (pos 0) ≡ false → T (nonNeg z)
 not-below (pos n) e = tt
 not-below (negsuc n) e = absurd (let z : _≡_ {A = ℕ} 0 1 = cc in omega arith)
 
-below-text : (z : ℤ) → ltZ z (pos 0) ≡ true → ascii "-" ++ decimal (natAbs z) ≡ signed z
+below-text : (z : ℤ) → ltZ z (pos 0) ≡ true → ascii "-" ++ decimal (natAbs z) ≡ signedDecimal z
 below-text (pos n) e = absurd (omega (arith, ltb-true n 0 e))
 below-text (negsuc n) e = refl
 
-not-below-text : (z : ℤ) → ltZ z (pos 0) ≡ false → decimal (natAbs z) ≡ signed z
+not-below-text : (z : ℤ) → ltZ z (pos 0) ≡ false → decimal (natAbs z) ≡ signedDecimal z
 not-below-text (pos n) e = refl
 not-below-text (negsuc n) e = absurd (let z : _≡_ {A = ℕ} 0 1 = cc in omega arith)
 
@@ -40,10 +40,10 @@ module _ (z : ℤ) (f : SFits w32 z) where
   wide : toZ w64 (ofZ w64 (toZ w32 (ofZ w32 z))) ≡ z
   wide = toZ-ofZ narrow ∙ same
 
-  pub text-below : (v : ℕ) → v ≡ natAbs (toZ w32 (ofZ w32 z)) → ltZ (toZ w32 (ofZ w32 z)) (pos 0) ≡ true → ascii "-" ++ decimal v ≡ signed z
+  pub text-below : (v : ℕ) → v ≡ natAbs (toZ w32 (ofZ w32 z)) → ltZ (toZ w32 (ofZ w32 z)) (pos 0) ≡ true → ascii "-" ++ decimal v ≡ signedDecimal z
   text-below v e t = rw (e, same) (below-text z (rw same at t))
 
-  pub text-not-below : (v : ℕ) → v ≡ natAbs (toZ w32 (ofZ w32 z)) → ltZ (toZ w32 (ofZ w32 z)) (pos 0) ≡ false → decimal v ≡ signed z
+  pub text-not-below : (v : ℕ) → v ≡ natAbs (toZ w32 (ofZ w32 z)) → ltZ (toZ w32 (ofZ w32 z)) (pos 0) ≡ false → decimal v ≡ signedDecimal z
   text-not-below v e t = rw (e, same) (not-below-text z (rw same at t))
 
   module _ (t : ltZ (toZ w32 (ofZ w32 z)) (pos 0) ≡ true) where

@@ -7,7 +7,7 @@ use native.Mathlib.Nat.{pow-suc}
 use native.Mathlib.Omega.{arith}
 use lib.Dec.{ltb}
 use Rattle.bits.proofs.Tests.{by-cases}
-use Rattle.words.specs.Words.{digit, digitsOf, decimal}
+use Rattle.words.specs.Words.{digitByte, digitsOf, decimal}
 
 -- the number that decimal digits spell, after those that spell n
 abbrev pub spelt : ℕ → List ℕ → ℕ
@@ -23,7 +23,7 @@ digits-spell zero v h = omega arith
 digits-spell (suc n) v h =
     by-cases (ltb v 10)
     (λ e. rw e (omega arith))
-    (λ e. rw (e, spelt-append 0 (digitsOf n (v / 10)) (digit (v % 10) ∷ []), digits-spell n (v / 10) (omega (arith, pow-suc 10 n))) (omega arith))
+    (λ e. rw (e, spelt-append 0 (digitsOf n (v / 10)) (digitByte (v % 10) ∷ []), digits-spell n (v / 10) (omega (arith, pow-suc 10 n))) (omega arith))
 
 pub decimal-spells : (v : ℕ) → v < 2 ^ 32 → spelt 0 (decimal v) ≡ v
 unfolding decimal

@@ -11,34 +11,34 @@ use lib.IntN.{ℤ, pos, negsuc}
 use lib.ListN.{length}
 use lib.Seq.{sets}
 
--- the bytes of a word
+-- the bytes of a word, as of "REFUSED n"
 abbrev pub ascii : String → List ℕ
 ascii none = []
 ascii (c followed s) = code c ∷ ascii s
 
--- the byte of a decimal digit
-abbrev pub digit : ℕ → ℕ
-digit d = 48 + d
+-- the byte of a decimal digit, as in "SPEED 80"
+abbrev pub digitByte : ℕ → ℕ
+digitByte d = 48 + d
 
--- the decimal digits of v, highest first, of which there are at most n
+-- the decimal digits of v, highest first, of which there are at most n, as in "SPEED 80"
 abbrev pub digitsOf : ℕ → ℕ → List ℕ
 digitsOf zero v = []
-digitsOf (suc n) v = let more : List ℕ = digitsOf n (v / 10) ++ (digit (v % 10) ∷ []) in cond (ltb v 10) (digit v ∷ []) more
+digitsOf (suc n) v = let more : List ℕ = digitsOf n (v / 10) ++ (digitByte (v % 10) ∷ []) in cond (ltb v 10) (digitByte v ∷ []) more
 
--- a number below 4,294,967,296 has at most ten digits
+-- "Numbers are below 4,294,967,296": at most ten decimal digits
 unfoldable pub decimal : ℕ → List ℕ
 decimal v = digitsOf 10 v
 
--- a number with its sign
-abbrev pub signed : ℤ → List ℕ
-signed (pos n) = decimal n
-signed (negsuc n) = ascii "-" ++ decimal (suc n)
+-- "signed altitude in cm": a number with its sign
+abbrev pub signedDecimal : ℤ → List ℕ
+signedDecimal (pos n) = decimal n
+signedDecimal (negsuc n) = ascii "-" ++ decimal (suc n)
 
--- a word, and a number after it
+-- "LENGTH 1": a word, and a number after it
 abbrev pub labelled : List ℕ → ℕ → List ℕ
 labelled word v = word ++ decimal v
 
--- the text was put at the place: after is the place after it, and cells what the room then holds
+-- "writes .. a listing": the text was put at the place: after is the place after it, and cells what the room then holds
 pub record Laid (room : List ℕ) (at : ℕ) (text : List ℕ) (after : ℕ) (cells : List ℕ) : Type 0 where
   pub place : after ≡ at + length text
   pub bytes : cells ≡ sets room at text

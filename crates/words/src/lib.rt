@@ -4,7 +4,7 @@ ghost use mathlib.Core.List.{_∷_, []};
 ghost use Prim.Native.Nat.{_+_, _≤_, _<_};
 ghost use lib.IntN.{natAbs};
 ghost use lib.ListN.{length};
-ghost use Rattle.words.specs.Words.{digit, decimal, signed, labelled, Laid};
+ghost use Rattle.words.specs.Words.{digitByte, decimal, signedDecimal, labelled, Laid};
 
 // Puts the word at the byte at, and returns the place after it.
 pub fn put_word(room: &mut [u8], at: usize, word: &[u8]) -> usize
@@ -21,7 +21,7 @@ pub fn put_word(room: &mut [u8], at: usize, word: &[u8]) -> usize
 
 fn put_digit(room: &mut [u8], at: usize, d: u32) -> usize
     requires { ⌜ (at < length (now room)) × (d < 10) ⌝ }
-    ensures { λ r. ⌜ Laid (now (room .entry)) at (digit d ∷ []) r (now (room .exit)) ⌝ }
+    ensures { λ r. ⌜ Laid (now (room .entry)) at (digitByte d ∷ []) r (now (room .exit)) ⌝ }
 {
     room[at] = (48 + d) as u8;
     at + 1
@@ -52,8 +52,8 @@ fn magnitude(z: i32) -> u32
 
 // Puts z with its sign, where it has one.
 pub fn put_signed(room: &mut [u8], at: usize, z: i32) -> usize
-    requires { ⌜ at + length (signed z) ≤ length (now room) ⌝ }
-    ensures { λ r. ⌜ Laid (now (room .entry)) at (signed z) r (now (room .exit)) ⌝ }
+    requires { ⌜ at + length (signedDecimal z) ≤ length (now room) ⌝ }
+    ensures { λ r. ⌜ Laid (now (room .entry)) at (signedDecimal z) r (now (room .exit)) ⌝ }
 {
     let v = magnitude(z);
     if z < 0 {

@@ -10,14 +10,14 @@ use lib.ListN.{length}
 use Rattle.bits.specs.Bits.{fieldAt}
 use Rattle.bits.proofs.Windows.{cut-high, cut-field, cut-low}
 use Rattle.bits.proofs.Fields.{field-small}
-use Rattle.numbers.specs.Numbers.{Put}
+use Rattle.numbers.specs.Groups.{Put}
 use Rattle.kinds.specs.Kind.{Kind}
 use Rattle.format.specs.Format.{Format, field, then}
 use Rattle.kinds.specs.Kinds.{speed, qFront, nIter, qDiff, class}
 use Rattle.segment.specs.Segment.{entries, profile}
 use Rattle.segment.specs.Parts.{entry}
 use Rattle.segment.proofs.Parts.{class-width}
-use Rattle.write_element.specs.Writing.{putting, Writable}
+use Rattle.write_element.specs.Writing.{putting, PartWritable}
 use Rattle.write_element.proofs.Writing.{Puts, Along, along-all, along-here, along-put, field-here}
 
 -- ---- three fields that are read at once, as t; what follows depends on the third
@@ -49,7 +49,7 @@ module _ (s : List ℕ) (stop : ℕ) (k : Kind) (l : ℕ → Kind) (m : Kind) (p
   abbrev third : ℕ → Format → Format
   third w f = field m λ v. part v f
 
-  module _ {at : ℕ} {p : Put} (h : Writable three s stop at p) where
+  module _ {at : ℕ} {p : Put} (h : PartWritable three s stop at p) where
     three-whole : a + (b + d) ≤ stop - at
     three-whole =
         let q = along-put s stop k second a ka (along-all s stop h) h _ refl (at + a) refl refl in
@@ -96,14 +96,14 @@ module _ (s : List ℕ) (stop : ℕ) (k : Kind) (l : ℕ → Kind) (m : Kind) (p
 
 -- an entry, and an element of the speed profile before its entries
 module _ (s : List ℕ) (stop : ℕ) {at : ℕ} {p : Put} where
-  pub entry-read : Writable entry s stop at p → (0 < 13) × (13 ≤ 32) × (at + 13 ≤ 8 * length s) × (8 ≤ length s)
+  pub entry-read : PartWritable entry s stop at p → (0 < 13) × (13 ≤ 32) × (at + 13 ≤ 8 * length s) × (8 ≤ length s)
   entry-read h = three-read s stop qDiff class speed (λ v f. f) 2 4 7 refl class-width refl h (lit< tt) (lit≤ tt)
 
-  pub entry-puts : Writable entry s stop at p → {t : ℕ} → t ≡ fieldAt s at 13 → Three s stop qDiff class speed (λ v f. f) 2 4 7 at p t
+  pub entry-puts : PartWritable entry s stop at p → {t : ℕ} → t ≡ fieldAt s at 13 → Three s stop qDiff class speed (λ v f. f) 2 4 7 at p t
   entry-puts h e = three-puts s stop qDiff class speed (λ v f. f) 2 4 7 refl class-width refl h e
 
-  pub profile-read : Writable profile s stop at p → (0 < 13) × (13 ≤ 32) × (at + 13 ≤ 8 * length s) × (8 ≤ length s)
+  pub profile-read : PartWritable profile s stop at p → (0 < 13) × (13 ≤ 32) × (at + 13 ≤ 8 * length s) × (8 ≤ length s)
   profile-read h = three-read s stop speed (λ u. qFront) (nIter 31) entries 7 1 5 refl (λ u. refl) refl h (lit< tt) (lit≤ tt)
 
-  pub profile-puts : Writable profile s stop at p → {t : ℕ} → t ≡ fieldAt s at 13 → Three s stop speed (λ u. qFront) (nIter 31) entries 7 1 5 at p t
+  pub profile-puts : PartWritable profile s stop at p → {t : ℕ} → t ≡ fieldAt s at 13 → Three s stop speed (λ u. qFront) (nIter 31) entries 7 1 5 at p t
   profile-puts h e = three-puts s stop speed (λ u. qFront) (nIter 31) entries 7 1 5 refl (λ u. refl) refl h e

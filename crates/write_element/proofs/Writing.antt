@@ -11,19 +11,20 @@ use lib.ListN.{length}
 use lib.Seq.{length-sets}
 use Rattle.bits.specs.Bits.{fieldAt}
 use Rattle.bits.proofs.Tests.{by-cases}
-use Rattle.numbers.specs.Numbers.{Put, groupsIn}
+use Rattle.numbers.specs.Numbers.{groupsIn}
+use Rattle.numbers.specs.Groups.{Put}
 use Rattle.kinds.specs.declared.Item.{Item}
 use Rattle.kinds.specs.Kind.{Kind}
-use Rattle.kinds.specs.Judged.{fromPacket}
-use Rattle.format.specs.Format.{Format, end, field, Step, step, stop, Medium}
+use Rattle.kinds.specs.Judged.{valueInPacket}
+use Rattle.format.specs.Format.{Format, end, field, FieldStep, step, stop, Medium}
 use Rattle.format.specs.Places.{Taken, Placed, takenAt, bitsTaken}
-use Rattle.format.specs.Pass.{stepped, pass}
+use Rattle.format.specs.Pass.{ofStep, pass}
 use Rattle.format.specs.Ways.{Got, Took, Left, Ahead}
 use Rattle.format.specs.Tasks.{Told}
 use Rattle.format.proofs.Places.{bits-short, bits-whole}
 use Rattle.format.proofs.Passing.{packet-seen}
 use Rattle.format.proofs.Ways.{over-on, took-is, took-off, left-all, left-none, left-as, left-on, left-value, ahead-first, ahead-value, ahead-left, ahead-never}
-use Rattle.write_element.specs.Writing.{writing, putting, Reads, writer, Fits, Writable, Wrote}
+use Rattle.write_element.specs.Writing.{writing, putting, Reads, writer, Fits, PartWritable, Wrote}
 
 -- ---- a pass that writes never goes back, and its room stays as long as it is
 
@@ -42,7 +43,7 @@ module _ {A : Type 0} (m : Medium A) where
   grows (field k next) p s = go (λ i u. grows (next (i .packet)) (putting p (i .sheet)) u) (m .take k s)
     where
       go : ((i : Item) (u : List A) → Grows (putting p (i .sheet)) (pass m writing (next (i .packet)) (putting p (i .sheet)) u))
-          → (x : Step A) → Grows p (stepped (writing .refusal) x (λ i u. pass m writing (next (i .packet)) (putting p (i .sheet)) u))
+          → (x : FieldStep A) → Grows p (ofStep (writing .refusal) x (λ i u. pass m writing (next (i .packet)) (putting p (i .sheet)) u))
       go more (step i u) = grows-put p (i .sheet) (pass m writing (next (i .packet)) (putting p (i .sheet)) u) (more i u)
       go more (stop r) = tt
 
@@ -78,7 +79,7 @@ module _ (s : List ℕ) (stop : ℕ) where
 
     there : k .width ≤ stop - at → k .allowed value ≡ true → Puts k s stop at p (k .width) value
     there l e =
-        let q : Taken.Is (record { sheet = k .raise value; packet = value }) (at + k .width) ≡ takenAt (fromPacket k value) (at + k .width) = rw e in
+        let q : Taken.Is (record { sheet = k .raise value; packet = value }) (at + k .width) ≡ takenAt (valueInPacket k value) (at + k .width) = rw e in
         let t = took-is (packet-seen s stop) writing (λ at p. Reads s stop at) k {x = p} (reads-placed h) (q ∙ bits-whole k s at stop l) (reads-on (k .width) l h) in
         record {
           whole = l;
@@ -88,7 +89,7 @@ module _ (s : List ℕ) (stop : ℕ) where
         }
 
     not-there : k .width ≤ stop - at → k .allowed value ≡ false → Puts k s stop at p (k .width) value
-    not-there l e = let q : Taken.Refused (k .refusal) ≡ takenAt (fromPacket k value) (at + k .width) = rw e in never (q ∙ bits-whole k s at stop l)
+    not-there l e = let q : Taken.Refused (k .refusal) ≡ takenAt (valueInPacket k value) (at + k .width) = rw e in never (q ∙ bits-whole k s at stop l)
 
     field-puts : Puts k s stop at p (k .width) (fieldAt s at (k .width))
     field-puts =
@@ -102,7 +103,7 @@ module _ (s : List ℕ) (stop : ℕ) where
     pub left : Left (writer s stop) p q at x to y
     pub long : length (y .bytes) ≡ length (x .bytes)
 
-  pub along-all : {p : Format → Format} {at : ℕ} {x : Put} → Writable p s stop at x → Along p p at x at x
+  pub along-all : {p : Format → Format} {at : ℕ} {x : Put} → PartWritable p s stop at x → Along p p at x at x
   along-all h = record { left = left-all (h .reads); long = refl }
 
   module _ {p : Format → Format} {at to : ℕ} {x y : Put} where
@@ -112,11 +113,11 @@ module _ (s : List ℕ) (stop : ℕ) where
     pub along-none : Along p (λ f. f) at x to y → Wrote p s stop at x to y
     along-none l = record { over = left-none (l .left); long = l .long }
 
-    pub along-here : {q : Format → Format} → Along p q at x to y → Writable p s stop at x → Writable q s stop to y
+    pub along-here : {q : Format → Format} → Along p q at x to y → PartWritable p s stop at x → PartWritable q s stop to y
     along-here l h = record { reads = l .left .stands; ahead = ahead-left (l .left) (h .ahead) }
 
     module _ (q r : Format → Format) (l : Along p (λ f. q (r f)) at x to y) where
-      pub along-next : Writable p s stop at x → Writable q s stop to y
+      pub along-next : PartWritable p s stop at x → PartWritable q s stop to y
       along-next h = record { reads = l .left .stands; ahead = ahead-first r (ahead-left (l .left) (h .ahead)) }
 
       pub along-on : {a : ℕ} {z : Put} → Wrote q s stop to y a z → Along p r at x a z
@@ -128,7 +129,7 @@ module _ (s : List ℕ) (stop : ℕ) where
   -- ---- a field where it is the next
 
   module _ (k : Kind) (part : ℕ → Format → Format) (w : ℕ) (e : k .width ≡ w) where
-    module _ {at : ℕ} {p : Put} (h : Writable (λ f. field k (λ u. part u f)) s stop at p) where
+    module _ {at : ℕ} {p : Put} (h : PartWritable (λ f. field k (λ u. part u f)) s stop at p) where
       pub field-here : (v : ℕ) → v ≡ fieldAt s at w → Puts k s stop at p w v
       field-here v q = rw (q, ← e) (field-puts k part (h .reads) (h .ahead))
 
@@ -140,7 +141,7 @@ module _ (s : List ℕ) (stop : ℕ) where
           (a, b, omega (arith, g .inside, g .before), g .long)
 
     -- it is put, and what is left
-    pub along-put : {p : Format → Format} {at to : ℕ} {x y : Put} → Along p (λ f. field k (λ u. part u f)) at x to y → Writable p s stop at x
+    pub along-put : {p : Format → Format} {at to : ℕ} {x y : Put} → Along p (λ f. field k (λ u. part u f)) at x to y → PartWritable p s stop at x
         → (v : ℕ) → v ≡ fieldAt s to w → (a : ℕ) → a ≡ to + w → {z : Put} → z ≡ putting y (k .raise v) → Along p (part v) at x a z
     along-put {y = y} l h v q a d c =
         rw (c, d)

@@ -4,10 +4,10 @@ use mathlib.Core.Path.{_≡_}
 use mathlib.Core.List.{List}
 use Prim.Native.Nat.{ℕ, _*_, _^_, _≤_, _<_}
 use lib.ListN.{length}
-use Rattle.numbers.specs.Numbers.{Put, putNumber}
+use Rattle.numbers.specs.Groups.{Put, putNumber}
 use Rattle.format.specs.Format.{Format}
 use Rattle.format.specs.Media.{packet}
-use Rattle.format.specs.Places.{rest}
+use Rattle.format.specs.Places.{bitsBetween}
 use Rattle.format.specs.Pass.{Task}
 use Rattle.format.specs.Ways.{Way, passing, Went, Over, Ahead}
 use Rattle.format.specs.Tasks.{Told}
@@ -28,7 +28,7 @@ pub record Reads (s : List ℕ) (stop at : ℕ) : Type 0 where
   pub long : 8 ≤ length s
 
 abbrev pub writer : List ℕ → ℕ → Way Put (Told Put)
-writer s stop = passing packet writing (λ at. rest s at stop) (λ at p. Reads s stop at)
+writer s stop = passing packet writing (λ at. bitsBetween s at stop) (λ at p. Reads s stop at)
 
 -- all is written, and nothing past the room's end
 abbrev pub Fits : Told Put → Type 0
@@ -40,7 +40,7 @@ abbrev pub filled : List ℕ → ℕ → Put
 filled room n = record { next = n; bytes = room }
 
 -- A part may be written from here: the packet is accepted with what follows, and all of it fits the room.
-pub record Writable (part : Format → Format) (s : List ℕ) (stop at : ℕ) (p : Put) : Type 0 where
+pub record PartWritable (part : Format → Format) (s : List ℕ) (stop at : ℕ) (p : Put) : Type 0 where
   pub reads : Reads s stop at
   pub ahead : Ahead (writer s stop) Fits part at p
 

@@ -7,7 +7,7 @@ ghost use Rattle.kinds.specs.Tables.{cantFigures};
 ghost use Rattle.segment.specs.Segment.{entries, profile, voltage, current};
 ghost use Rattle.segment.specs.Parts as parts;
 ghost use Rattle.segment.specs.Parts.{startOf};
-ghost use Rattle.write_element.specs.Writing.{filled, Writable, Wrote};
+ghost use Rattle.write_element.specs.Writing.{filled, PartWritable, Wrote};
 use fields::tables;
 use kinds::body;
 use segment::Part;
@@ -32,19 +32,19 @@ fn class_figure(figures: &[u32], q: u32, v: u32) -> u32
 
 // The three numbers of an entry, put from the byte n on; the place after them.
 fn entry(figures: &[u32], packet: &[u8], stop: usize, at: usize, room: &mut [u8], n: usize) -> usize
-    requires { ⌜ (now figures ≡ cantFigures) × Writable parts.entry (now packet) stop at (filled (now room) n) ⌝ }
+    requires { ⌜ (now figures ≡ cantFigures) × PartWritable parts.entry (now packet) stop at (filled (now room) n) ⌝ }
     ensures { λ r. ⌜ Wrote parts.entry (now (packet .entry)) stop at (filled (now (room .entry)) n) (at + 13) (filled (now (room .exit)) r) ⌝ }
 {
     let t = bits::read_window(packet, at, ENTRY as u32);
     let q = t / 2048;
-    let second = numbers::put_short(room, n, q);
-    let third = numbers::put_short(room, second, class_figure(figures, q, t / 128 % 16));
-    numbers::put_short(room, third, t % 128 * body::VStatic::STEP)
+    let second = grouping::put_short(room, n, q);
+    let third = grouping::put_short(room, second, class_figure(figures, q, t / 128 % 16));
+    grouping::put_short(room, third, t % 128 * body::VStatic::STEP)
 }
 
 // The specific entries of an element. The table of figures is lent once for all of them.
 fn specific(packet: &[u8], stop: usize, at: usize, count: u32, room: &mut [u8], n: usize) -> usize
-    requires { ⌜ Writable (entries count) (now packet) stop at (filled (now room) n) ⌝ }
+    requires { ⌜ PartWritable (entries count) (now packet) stop at (filled (now room) n) ⌝ }
     ensures { λ r. ⌜ Wrote (entries count) (now (packet .entry)) stop at (filled (now (room .entry)) n) (at + 13 * count) (filled (now (room .exit)) r) ⌝ }
 {
     let figures = tables::CANT_FIGURES;
@@ -61,14 +61,14 @@ fn specific(packet: &[u8], stop: usize, at: usize, count: u32, room: &mut [u8], 
 
 // V_STATIC, Q_FRONT, and the count of the entries with the entries.
 fn speeds(packet: &[u8], stop: usize, at: usize, room: &mut [u8], n: usize) -> Spot
-    requires { ⌜ Writable profile (now packet) stop at (filled (now room) n) ⌝ }
+    requires { ⌜ PartWritable profile (now packet) stop at (filled (now room) n) ⌝ }
     ensures { λ r. ⌜ Wrote profile (now (packet .entry)) stop at (filled (now (room .entry)) n) (r .at) (filled (now (room .exit)) (r .n)) ⌝ }
 {
     let t = bits::read_window(packet, at, ENTRY as u32);
     let count = t % 32;
-    let second = numbers::put_short(room, n, t / 64 * body::VStatic::STEP);
-    let third = numbers::put_short(room, second, t / 32 % 2);
-    let first = numbers::put_short(room, third, count);
+    let second = grouping::put_short(room, n, t / 64 * body::VStatic::STEP);
+    let third = grouping::put_short(room, second, t / 32 % 2);
+    let first = grouping::put_short(room, third, count);
     let m = specific(packet, stop, at + ENTRY, count, room, first);
     Spot {
         at: at + ENTRY + ENTRY * count as usize,
@@ -86,13 +86,13 @@ fn volts_figure(v: u32) -> u32
 
 // M_VOLTAGE and NID_CTRACTION.
 fn wire(packet: &[u8], stop: usize, at: usize, room: &mut [u8], n: usize) -> Spot
-    requires { ⌜ Writable voltage (now packet) stop at (filled (now room) n) ⌝ }
+    requires { ⌜ PartWritable voltage (now packet) stop at (filled (now room) n) ⌝ }
     ensures { λ r. ⌜ Wrote voltage (now (packet .entry)) stop at (filled (now (room .entry)) n) (r .at) (filled (now (room .exit)) (r .n)) ⌝ }
 {
     let u = bits::read_window(packet, at, body::MVoltage::WIDTH);
-    let second = numbers::put_number(room, n, volts_figure(u));
+    let second = grouping::put_number(room, n, volts_figure(u));
     let v = bits::read_window(packet, at + 4, body::NidCTraction::WIDTH);
-    let m = numbers::put_short(room, second, v);
+    let m = grouping::put_short(room, second, v);
     Spot { at: at + 14, n: m }
 }
 
@@ -108,16 +108,16 @@ fn current_figure(v: u32) -> u32
 
 // M_CURRENT.
 fn amperes(packet: &[u8], stop: usize, at: usize, room: &mut [u8], n: usize) -> Spot
-    requires { ⌜ Writable current (now packet) stop at (filled (now room) n) ⌝ }
+    requires { ⌜ PartWritable current (now packet) stop at (filled (now room) n) ⌝ }
     ensures { λ r. ⌜ Wrote current (now (packet .entry)) stop at (filled (now (room .entry)) n) (r .at) (filled (now (room .exit)) (r .n)) ⌝ }
 {
     let v = bits::read_window(packet, at, body::MCurrent::WIDTH);
-    let m = numbers::put_short(room, n, current_figure(v));
+    let m = grouping::put_short(room, n, current_figure(v));
     Spot { at: at + 10, n: m }
 }
 
 pub fn element(part: Part, packet: &[u8], stop: usize, at: usize, room: &mut [u8], n: usize) -> Spot
-    requires { ⌜ Writable (startOf part) (now packet) stop at (filled (now room) n) ⌝ }
+    requires { ⌜ PartWritable (startOf part) (now packet) stop at (filled (now room) n) ⌝ }
     ensures { λ r. ⌜ Wrote (startOf part) (now (packet .entry)) stop at (filled (now (room .entry)) n) (r .at) (filled (now (room .exit)) (r .n)) ⌝ }
 {
     match part {

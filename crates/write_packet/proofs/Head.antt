@@ -11,7 +11,7 @@ use Rattle.bits.proofs.Tests.{each-at}
 use Rattle.kinds.specs.Kind.{Kind, when}
 use Rattle.fields.proofs.Lawful.{LawfulKind, narrow, range-lawful, upTo-lawful, operational-lawful}
 use Rattle.segment.specs.Parts.{kindAt}
-use Rattle.write_packet.specs.Writing.{widths}
+use Rattle.write_packet.specs.Widths.{widths}
 
 pub record Plain (k : Kind) : Type 0 where
   pub lawful : LawfulKind k

@@ -1,138 +1,14 @@
 // The packet of an accepted sheet, written part by part. What was accepted is not judged again.
 ghost use mathlib.Core.Path.{_≡_};
-ghost use Prim.Native.Nat.{_+_, _-_, _/_, _%_, _^_, _≤_, _<_};
-ghost use Rattle.kinds.specs.Tables.{cantFigures};
+ghost use Prim.Native.Nat.{_+_, _-_, _^_, _≤_, _<_};
 ghost use Rattle.segment.specs.Segment as segment;
-ghost use Rattle.segment.specs.Parts as parts;
 ghost use Rattle.segment.specs.Parts.{startOf, runs, threeLists, headerPart, bodyPart};
-ghost use Rattle.write_packet.specs.Writing.{Takes, Ready, Wrote, widths};
-use fields::tables;
+ghost use Rattle.fill_element.specs.Writing.{Ready, Wrote};
+ghost use Rattle.write_packet.specs.Widths.{widths};
+use fill_element::Spot;
 use kinds::body;
 use kinds::header;
 use segment::Part;
-
-// A place in the sheet, the packet's bit that is next, and the bits that wait for a whole byte.
-pub struct Spot {
-    pub from: usize,
-    pub at: usize,
-    pub wait: u64,
-}
-
-// A number of the sheet, and the place after it.
-pub struct Taken {
-    pub value: u32,
-    pub next: usize,
-}
-
-fn take(sheet: &[u8], from: usize) -> Taken
-    requires { ⌜ from + 2 ^ 32 ≤ 2 ^ 64 ⌝ }
-    ensures { λ r. ⌜ Takes (now (sheet .entry)) from r ⌝ }
-{
-    let a = numbers::counted_at(sheet, from);
-    Taken {
-        value: (a % 4294967296) as u32,
-        next: from + (a / 4294967296) as usize,
-    }
-}
-
-// Q_DIFF, class and V_DIFF, put at once.
-fn entry(sheet: &[u8], figures: &[u32; 11], room: &mut [u8], p: Spot) -> Spot
-    requires { ⌜ Ready parts.entry (now sheet) (now room) p × (now figures ≡ cantFigures) ⌝ }
-    ensures { λ r. ⌜ Wrote parts.entry (now (sheet .entry)) (now (room .entry)) p (now (room .exit)) r ⌝ }
-{
-    let q = take(sheet, p.from);
-    let a = take(sheet, q.next);
-    let v = take(sheet, a.next);
-    let class = lowering::class_place(figures, q.value, a.value);
-    let bits = q.value * 2048 + class * 128 + lowering::speed_steps(v.value);
-    let wait = filling::put(room, p.at, p.wait, 13, bits);
-    Spot {
-        from: v.next,
-        at: p.at + 13,
-        wait,
-    }
-}
-
-// The specific entries of an element.
-fn entries(sheet: &[u8], room: &mut [u8], from: Spot, count: u32) -> Spot
-    requires { ⌜ Ready (segment.entries count) (now sheet) (now room) from ⌝ }
-    ensures { λ r. ⌜ Wrote (segment.entries count) (now (sheet .entry)) (now (room .entry)) from (now (room .exit)) r ⌝ }
-{
-    let figures = tables::CANT_FIGURES;
-    let mut p = from;
-    let mut left = count;
-    while 0 < left {
-        p = entry(sheet, &figures, room, p);
-        left -= 1;
-    }
-    p
-}
-
-// V_STATIC, Q_FRONT and the count of the entries, put at once, and the entries.
-fn profile(sheet: &[u8], room: &mut [u8], p: Spot) -> Spot
-    requires { ⌜ Ready segment.profile (now sheet) (now room) p ⌝ }
-    ensures { λ r. ⌜ Wrote segment.profile (now (sheet .entry)) (now (room .entry)) p (now (room .exit)) r ⌝ }
-{
-    let v = take(sheet, p.from);
-    let q = take(sheet, v.next);
-    let n = take(sheet, q.next);
-    let bits = lowering::speed_steps(v.value) * 64 + q.value * 32 + n.value;
-    let wait = filling::put(room, p.at, p.wait, 13, bits);
-    let first = Spot {
-        from: n.next,
-        at: p.at + 13,
-        wait,
-    };
-    entries(sheet, room, first, n.value)
-}
-
-// M_VOLTAGE and NID_CTRACTION, put at once.
-fn wire(sheet: &[u8], room: &mut [u8], p: Spot) -> Spot
-    requires { ⌜ Ready segment.voltage (now sheet) (now room) p ⌝ }
-    ensures { λ r. ⌜ Wrote segment.voltage (now (sheet .entry)) (now (room .entry)) p (now (room .exit)) r ⌝ }
-{
-    let u = take(sheet, p.from);
-    let n = take(sheet, u.next);
-    let bits = lowering::volts_place(u.value) * 1024 + n.value;
-    let wait = filling::put(room, p.at, p.wait, 14, bits);
-    Spot {
-        from: n.next,
-        at: p.at + 14,
-        wait,
-    }
-}
-
-// M_CURRENT.
-fn amperes(sheet: &[u8], room: &mut [u8], p: Spot) -> Spot
-    requires { ⌜ Ready segment.current (now sheet) (now room) p ⌝ }
-    ensures { λ r. ⌜ Wrote segment.current (now (sheet .entry)) (now (room .entry)) p (now (room .exit)) r ⌝ }
-{
-    let a = take(sheet, p.from);
-    let wait = filling::put(
-        room,
-        p.at,
-        p.wait,
-        body::MCurrent::WIDTH,
-        lowering::current_steps(a.value),
-    );
-    Spot {
-        from: a.next,
-        at: p.at + body::MCurrent::WIDTH as usize,
-        wait,
-    }
-}
-
-// What an element of a part begins with.
-fn element(part: Part, sheet: &[u8], room: &mut [u8], p: Spot) -> Spot
-    requires { ⌜ Ready (startOf part) (now sheet) (now room) p ⌝ }
-    ensures { λ r. ⌜ Wrote (startOf part) (now (sheet .entry)) (now (room .entry)) p (now (room .exit)) r ⌝ }
-{
-    match part {
-        Part::Speeds => profile(sheet, room, p),
-        Part::Volts => wire(sheet, room, p),
-        Part::Amperes => amperes(sheet, room, p),
-    }
-}
 
 // The changes of a part: each a location, and an element. The end of the segment and the last location are for the contract alone.
 fn changes(part: Part, sheet: &[u8], room: &mut [u8], from: Spot, lsp: u32, count: u32) -> Spot
@@ -143,14 +19,14 @@ fn changes(part: Part, sheet: &[u8], room: &mut [u8], from: Spot, lsp: u32, coun
     let mut last: u32 = 0;
     let mut left = count;
     while 0 < left {
-        let x = take(sheet, p.from);
+        let x = fill_element::take(sheet, p.from);
         let wait = filling::put(room, p.at, p.wait, body::DLocation::WIDTH, x.value);
         let next = Spot {
             from: x.next,
             at: p.at + body::DLocation::WIDTH as usize,
             wait,
         };
-        p = element(part, sheet, room, next);
+        p = fill_element::element(part, sheet, room, next);
         last = x.value;
         left -= 1;
     }
@@ -162,8 +38,8 @@ fn list(part: Part, sheet: &[u8], room: &mut [u8], p: Spot, lsp: u32, limit: u32
     requires { ⌜ Ready (segment.part (startOf part) limit lsp) (now sheet) (now room) p × (lsp < 2 ^ 24) × (limit < 32) ⌝ }
     ensures { λ r. ⌜ Wrote (segment.part (startOf part) limit lsp) (now (sheet .entry)) (now (room .entry)) p (now (room .exit)) r ⌝ }
 {
-    let first = element(part, sheet, room, p);
-    let n = take(sheet, first.from);
+    let first = fill_element::element(part, sheet, room, p);
+    let n = fill_element::take(sheet, first.from);
     let wait = filling::put(room, first.at, first.wait, body::NIter::WIDTH, n.value);
     let next = Spot {
         from: n.next,
@@ -209,7 +85,7 @@ fn run(sheet: &[u8], room: &mut [u8], from: Spot, first: u32, end: u32) -> Spot
     let mut p = from;
     let mut i = first;
     while i < end {
-        let a = take(sheet, p.from);
+        let a = fill_element::take(sheet, p.from);
         let width = table[i as usize];
         let wait = filling::put(room, p.at, p.wait, width, a.value);
         p = Spot {
@@ -236,7 +112,7 @@ pub fn body(sheet: &[u8], room: &mut [u8], p: Spot) -> Spot
     ensures { λ r. ⌜ Wrote bodyPart (now (sheet .entry)) (now (room .entry)) p (now (room .exit)) r ⌝ }
 {
     let names = run(sheet, room, p, 5, 9);
-    let l = take(sheet, names.from);
+    let l = fill_element::take(sheet, names.from);
     let wait = filling::put(room, names.at, names.wait, body::LSp::WIDTH, l.value);
     let next = Spot {
         from: l.next,

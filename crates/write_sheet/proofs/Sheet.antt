@@ -9,20 +9,21 @@ use lib.ListN.{length, length-append}
 use lib.Seq.{sets, length-sets}
 use Rattle.bits.specs.Bits.{fieldAt}
 use Rattle.bits.proofs.Cells.{sets-append}
-use Rattle.numbers.specs.Numbers.{Put, groupsIn}
+use Rattle.numbers.specs.Numbers.{groupsIn}
+use Rattle.numbers.specs.Groups.{Put}
 use Rattle.kinds.specs.declared.Item.{Item}
 use Rattle.kinds.specs.Kinds.{lSp}
 use Rattle.format.specs.Format.{Format, end, field, read, write, answerOf, valuesOf}
 use Rattle.format.specs.Media.{packet, sheet}
-use Rattle.format.specs.Places.{rest}
+use Rattle.format.specs.Places.{bitsBetween}
 use Rattle.format.specs.Pass.{pass, made}
 use Rattle.format.specs.Tasks.{Told}
 use Rattle.format.proofs.Passing.{pass-read}
 use Rattle.segment.specs.Segment.{fields, wireChanges}
 use Rattle.segment.specs.Parts.{runs, headerPart, bodyPart, threeLists}
 use Rattle.segment.proofs.Parts.{header-part}
-use Rattle.convert.specs.Convert.{fieldsOf, FieldsWritable}
-use Rattle.write_element.specs.Writing.{writing, putting, filled, Writable, Wrote}
+use Rattle.convert.specs.Writers.{fieldsOf, FieldsWritable}
+use Rattle.write_element.specs.Writing.{writing, putting, filled, PartWritable, Wrote}
 use Rattle.write_element.proofs.Writing.{Along, along-all, along-here, along-next, along-on, along-none, along-put, field-here, field-read}
 
 -- what writing makes is what the sheet's medium writes, at its place
@@ -40,16 +41,16 @@ abbrev pub whole : Format → Format
 whole f = headerPart (bodyPart f)
 
 module _ (s : List ℕ) (stop : ℕ) (room : List ℕ) (start : ℕ) (h : FieldsWritable s stop room start) where
-  all-written : pass packet writing (whole end) (filled room start) (rest s 24 stop)
+  all-written : pass packet writing (whole end) (filled room start) (bitsBetween s 24 stop)
       ≡ Told.told (filled (sets room start (fieldsOf s stop)) (start + length (fieldsOf s stop)))
   all-written =
-      ap (λ (f : Format). pass packet writing f (filled room start) (rest s 24 stop)) (sym header-part)
-      ∙ pass-read packet writing (fields wireChanges) (filled room start) (rest s 24 stop)
+      ap (λ (f : Format). pass packet writing f (filled room start) (bitsBetween s 24 stop)) (sym header-part)
+      ∙ pass-read packet writing (fields wireChanges) (filled room start) (bitsBetween s 24 stop)
       ∙ ap (answerOf Told.not (λ l. Told.told (made writing (fields wireChanges) l (filled room start)))) (h .accepts)
-      ∙ ap Told.told (made-written (fields wireChanges) (valuesOf (read packet (fields wireChanges) (rest s 24 stop))) (filled room start))
+      ∙ ap Told.told (made-written (fields wireChanges) (valuesOf (read packet (fields wireChanges) (bitsBetween s 24 stop))) (filled room start))
 
   -- so all of it may be written
-  pub all-writable : 8 ≤ length s → Writable whole s stop 24 (filled room start)
+  pub all-writable : 8 ≤ length s → PartWritable whole s stop 24 (filled room start)
   all-writable l =
       let p = h .place in
       record {
@@ -59,7 +60,7 @@ module _ (s : List ℕ) (stop : ℕ) (room : List ℕ) (start : ℕ) (h : Fields
 
   -- and once it is, the room holds the sheet
   pub all-held : {at : ℕ} {p : Put} → Wrote whole s stop 24 (filled room start) at p → p .bytes ≡ sets room start (fieldsOf s stop)
-  all-held {at} {p} o = go (rest s at stop) (sym all-written ∙ o .over .goes end)
+  all-held {at} {p} o = go (bitsBetween s at stop) (sym all-written ∙ o .over .goes end)
     where
       go : (t : List _) → Told.told (filled (sets room start (fieldsOf s stop)) (start + length (fieldsOf s stop))) ≡ pass packet writing end p t
           → p .bytes ≡ sets room start (fieldsOf s stop)
@@ -68,18 +69,18 @@ module _ (s : List ℕ) (stop : ℕ) (room : List ℕ) (start : ℕ) (h : Fields
 
 -- ---- part after part
 
-module _ (s : List ℕ) (stop : ℕ) {start : Put} (h : Writable whole s stop 24 start) where
+module _ (s : List ℕ) (stop : ℕ) {start : Put} (h : PartWritable whole s stop 24 start) where
   abbrev lengthPart : ℕ → Format → Format
   lengthPart lsp f = runs 10 3 (threeLists lsp f)
 
-  pub header-writable : Writable (runs 0 5) s stop 24 start
+  pub header-writable : PartWritable (runs 0 5) s stop 24 start
   header-writable = along-next s stop (runs 0 5) bodyPart (along-all s stop h) h
 
   module _ {p : Put} (a : Wrote (runs 0 5) s stop 24 start 120 p) where
     in-body : Along s stop whole bodyPart 24 start 120 p
     in-body = along-on s stop (runs 0 5) bodyPart (along-all s stop h) a
 
-    pub identity-writable : Writable (runs 5 4) s stop 120 p
+    pub identity-writable : PartWritable (runs 5 4) s stop 120 p
     identity-writable = along-next s stop (runs 5 4) (λ f. field lSp λ lsp. lengthPart lsp f) in-body h
 
     module _ {q : Put} (b : Wrote (runs 5 4) s stop 120 p 178 q) where
@@ -97,14 +98,14 @@ module _ (s : List ℕ) (stop : ℕ) {start : Put} (h : Writable whole s stop 24
           after-length : Along s stop whole (lengthPart lsp) 24 start 202 r
           after-length = along-put s stop lSp lengthPart 24 refl at-length h lsp e 202 refl c
 
-          pub offsets-writable : Writable (runs 10 3) s stop 202 r
+          pub offsets-writable : PartWritable (runs 10 3) s stop 202 r
           offsets-writable = along-next s stop (runs 10 3) (threeLists lsp) after-length h
 
           module _ {t : Put} (d : Wrote (runs 10 3) s stop 202 r 253 t) where
             at-lists : Along s stop whole (threeLists lsp) 24 start 253 t
             at-lists = along-on s stop (runs 10 3) (threeLists lsp) after-length d
 
-            pub lists-writable : Writable (threeLists lsp) s stop 253 t
+            pub lists-writable : PartWritable (threeLists lsp) s stop 253 t
             lists-writable = along-here s stop at-lists h
 
             pub all-wrote : {to : ℕ} {u : Put} → Wrote (threeLists lsp) s stop 253 t to u → Wrote whole s stop 24 start to u

@@ -6,14 +6,15 @@ use Prim.Native.Nat.{ℕ, zero, suc, _+_, _*_, _-_, _≤_, _<_}
 use native.Mathlib.Omega.{arith}
 use lib.ListN.{length, getD}
 use Rattle.bits.specs.Bits.{fieldAt}
-use Rattle.numbers.specs.Numbers.{Put, groupsIn}
+use Rattle.numbers.specs.Numbers.{groupsIn}
+use Rattle.numbers.specs.Groups.{Put}
 use Rattle.kinds.specs.Kind.{Kind}
 use Rattle.kinds.specs.Kinds.{mSpAltitude, dLocation}
 use Rattle.format.specs.Format.{Format, field, then}
 use Rattle.segment.specs.Segment.{changes}
 use Rattle.segment.specs.Parts.{headKinds, kindAt, runs}
 use Rattle.segment.proofs.Parts.{changes-more, kind-wide}
-use Rattle.write_element.specs.Writing.{putting, Writable, Wrote}
+use Rattle.write_element.specs.Writing.{putting, PartWritable, Wrote}
 use Rattle.write_element.proofs.Writing.{Along, along-all, along-as, along-here, along-next, along-on, along-none, along-put, wrote-on, field-here, field-read}
 
 -- ---- the fields before the speed profile
@@ -37,7 +38,7 @@ kind-same i v =
     let r : (u : ℕ) → u ≡ u = λ u. refl in
     same-at headKinds mSpAltitude (r, (r, (r, (r, (r, (r, (r, (r, (r, (r, (r, (r, (r, tt))))))))))))) r i v
 
-module _ (s : List ℕ) (stop i : ℕ) {at : ℕ} {p : Put} (h : Writable (then (kindAt i)) s stop at p) (w : ℕ) (e : kindAt i .width ≡ w) where
+module _ (s : List ℕ) (stop i : ℕ) {at : ℕ} {p : Put} (h : PartWritable (then (kindAt i)) s stop at p) (w : ℕ) (e : kindAt i .width ≡ w) where
   pub head-read : i < 13 → (0 < w) × (w ≤ 32) × (at + w ≤ 8 * length s) × (8 ≤ length s)
   head-read b = let g = kind-wide i b in field-read s stop (kindAt i) (λ v f. f) w e h (omega (arith, g .some)) (omega (arith, g .most))
 
@@ -48,12 +49,12 @@ module _ (s : List ℕ) (stop i : ℕ) {at : ℕ} {p : Put} (h : Writable (then 
   head-wrote v q c = along-none s stop (along-put s stop (kindAt i) (λ v f. f) w e (along-all s stop h) h v q (at + w) refl (c ∙ rw (kind-same i v)))
 
 module _ (s : List ℕ) (stop i n : ℕ) {at : ℕ} {p : Put} where
-  pub runs-first : Writable (runs i (suc n)) s stop at p → Writable (then (kindAt i)) s stop at p
+  pub runs-first : PartWritable (runs i (suc n)) s stop at p → PartWritable (then (kindAt i)) s stop at p
   unfolding runs
   runs-first h = along-next s stop (then (kindAt i)) (runs (suc i) n) (along-all s stop h) h
 
   module _ {to : ℕ} {q : Put} (o : Wrote (then (kindAt i)) s stop at p to q) where
-    pub runs-next : Writable (runs i (suc n)) s stop at p → Writable (runs (suc i) n) s stop to q
+    pub runs-next : PartWritable (runs i (suc n)) s stop at p → PartWritable (runs (suc i) n) s stop to q
     unfolding runs
     runs-next h = along-here s stop (along-on s stop (then (kindAt i)) (runs (suc i) n) (along-all s stop h) o) h
 

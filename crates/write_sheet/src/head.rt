@@ -3,7 +3,7 @@ ghost use mathlib.Core.Path.{_≡_};
 ghost use Prim.Native.Nat.{_+_, _<_};
 ghost use Rattle.format.specs.Format.{then};
 ghost use Rattle.segment.specs.Parts.{kindAt, runs};
-ghost use Rattle.write_element.specs.Writing.{filled, Writable, Wrote};
+ghost use Rattle.write_element.specs.Writing.{filled, PartWritable, Wrote};
 use kinds::body;
 use kinds::header;
 
@@ -20,19 +20,19 @@ fn copy(
     room: &mut [u8],
     n: usize,
 ) -> usize
-    requires { ⌜ Writable (then (kindAt i)) (now packet) stop at (filled (now room) n) × (kindAt i .width ≡ width) × (i < 13) ⌝ }
+    requires { ⌜ PartWritable (then (kindAt i)) (now packet) stop at (filled (now room) n) × (kindAt i .width ≡ width) × (i < 13) ⌝ }
     ensures { λ r. ⌜ Wrote (then (kindAt i)) (now (packet .entry)) stop at (filled (now (room .entry)) n) (at + width) (filled (now (room .exit)) r) ⌝ }
 {
     let v = bits::read_window(packet, at, width);
     if width <= SHORT {
-        return numbers::put_short(room, n, v);
+        return grouping::put_short(room, n, v);
     }
-    numbers::put_number(room, n, v)
+    grouping::put_number(room, n, v)
 }
 
 // The header's fields after L_PACKET_ATO.
 pub fn header(packet: &[u8], stop: usize, room: &mut [u8], n: usize) -> usize
-    requires { ⌜ Writable (runs 0 5) (now packet) stop 24 (filled (now room) n) ⌝ }
+    requires { ⌜ PartWritable (runs 0 5) (now packet) stop 24 (filled (now room) n) ⌝ }
     ensures { λ r. ⌜ Wrote (runs 0 5) (now (packet .entry)) stop 24 (filled (now (room .entry)) n) 120 (filled (now (room .exit)) r) ⌝ }
 {
     let n1 = copy(packet, stop, 24, 0, header::NidOperational::WIDTH, room, n);
@@ -60,7 +60,7 @@ pub fn header(packet: &[u8], stop: usize, room: &mut [u8], n: usize) -> usize
 
 // The body's fields before L_SP.
 pub fn identity(packet: &[u8], stop: usize, room: &mut [u8], n: usize) -> usize
-    requires { ⌜ Writable (runs 5 4) (now packet) stop 120 (filled (now room) n) ⌝ }
+    requires { ⌜ PartWritable (runs 5 4) (now packet) stop 120 (filled (now room) n) ⌝ }
     ensures { λ r. ⌜ Wrote (runs 5 4) (now (packet .entry)) stop 120 (filled (now (room .entry)) n) 178 (filled (now (room .exit)) r) ⌝ }
 {
     let n1 = copy(packet, stop, 120, 5, body::NidC::WIDTH, room, n);
@@ -71,7 +71,7 @@ pub fn identity(packet: &[u8], stop: usize, room: &mut [u8], n: usize) -> usize
 
 // The body's fields between L_SP and the speed profile.
 pub fn offsets(packet: &[u8], stop: usize, room: &mut [u8], n: usize) -> usize
-    requires { ⌜ Writable (runs 10 3) (now packet) stop 202 (filled (now room) n) ⌝ }
+    requires { ⌜ PartWritable (runs 10 3) (now packet) stop 202 (filled (now room) n) ⌝ }
     ensures { λ r. ⌜ Wrote (runs 10 3) (now (packet .entry)) stop 202 (filled (now (room .entry)) n) 253 (filled (now (room .exit)) r) ⌝ }
 {
     let n1 = copy(packet, stop, 202, 10, body::DEoAOffset::WIDTH, room, n);

@@ -5,8 +5,8 @@ ghost use lib.ListN.{length};
 ghost use lib.Seq.{sets};
 ghost use Rattle.segment.specs.Segment as segment;
 ghost use Rattle.segment.specs.Parts.{startOf, threeLists};
-ghost use Rattle.convert.specs.Convert.{fieldsOf, FieldsWritable};
-ghost use Rattle.write_element.specs.Writing.{filled, Writable, Wrote};
+ghost use Rattle.convert.specs.Writers.{fieldsOf, FieldsWritable};
+ghost use Rattle.write_element.specs.Writing.{filled, PartWritable, Wrote};
 
 mod head;
 
@@ -26,7 +26,7 @@ fn changes(
     room: &mut [u8],
     n: usize,
 ) -> Spot
-    requires { ⌜ Writable (segment.changes (startOf part) lsp 0 count) (now packet) stop at (filled (now room) n) ⌝ }
+    requires { ⌜ PartWritable (segment.changes (startOf part) lsp 0 count) (now packet) stop at (filled (now room) n) ⌝ }
     ensures { λ r. ⌜ Wrote (segment.changes (startOf part) lsp 0 count) (now (packet .entry)) stop at (filled (now (room .entry)) n) (r .at) (filled (now (room .exit)) (r .n)) ⌝ }
 {
     let mut to = at;
@@ -35,7 +35,7 @@ fn changes(
     let mut left = count;
     while 0 < left {
         let x = bits::read_window(packet, to, body::DLocation::WIDTH);
-        let m2 = numbers::put_number(room, m, x);
+        let m2 = grouping::put_number(room, m, x);
         let spot = element(part, packet, stop, to + 24, room, m2);
         to = spot.at;
         m = spot.n;
@@ -56,19 +56,19 @@ fn list(
     room: &mut [u8],
     n: usize,
 ) -> Spot
-    requires { ⌜ Writable (segment.part (startOf part) limit lsp) (now packet) stop at (filled (now room) n) ⌝ }
+    requires { ⌜ PartWritable (segment.part (startOf part) limit lsp) (now packet) stop at (filled (now room) n) ⌝ }
     ensures { λ r. ⌜ Wrote (segment.part (startOf part) limit lsp) (now (packet .entry)) stop at (filled (now (room .entry)) n) (r .at) (filled (now (room .exit)) (r .n)) ⌝ }
 {
     let first = element(part, packet, stop, at, room, n);
     let to = first.at;
     let count = bits::read_window(packet, to, body::NIter::WIDTH);
-    let m = numbers::put_short(room, first.n, count);
+    let m = grouping::put_short(room, first.n, count);
     changes(part, packet, stop, to + 5, lsp, count, room, m)
 }
 
 // The three parts that have changes.
 fn lists(packet: &[u8], stop: usize, at: usize, lsp: u32, room: &mut [u8], n: usize) -> Spot
-    requires { ⌜ Writable (threeLists lsp) (now packet) stop at (filled (now room) n) ⌝ }
+    requires { ⌜ PartWritable (threeLists lsp) (now packet) stop at (filled (now room) n) ⌝ }
     ensures { λ r. ⌜ Wrote (threeLists lsp) (now (packet .entry)) stop at (filled (now (room .entry)) n) (r .at) (filled (now (room .exit)) (r .n)) ⌝ }
 {
     let one = list(
@@ -111,7 +111,7 @@ pub fn write_fields(packet: &[u8], stop: usize, room: &mut [u8], start: usize)
     let n = head::header(packet, stop, room, start);
     let m = head::identity(packet, stop, room, n);
     let lsp = bits::read_window(packet, 178, body::LSp::WIDTH);
-    let to = numbers::put_number(room, m, lsp);
+    let to = grouping::put_number(room, m, lsp);
     let first = head::offsets(packet, stop, room, to);
     lists(packet, stop, 253, lsp, room, first);
 }

@@ -1,52 +1,54 @@
 -- `ask_packet::changes` meets its contract.
 use mathlib.Core.Path.{refl}
-use Prim.Native.Nat.{_+_, _-_}
+use Prim.Native.Nat.{_+_}
 use native.Mathlib.Omega.{arith}
 use denote.Ref.{now}
 use lib.Dec.{lit≤, lit<}
 use Rattle.kinds.specs.Kinds.{dLocation}
-use Rattle.segment.specs.Segment.{profile, changes}
 use Rattle.ask_packet.proofs.Fields.{field-read, field-inside, field-asked}
-use Rattle.elements.proofs.Reading.{ahead-field, ahead-first, Changed, changed-all, changed-next, changed-ahead, changes-read}
-use Rattle.ask_packet.specs.Asking.{Left}
+use Rattle.elements.proofs.Reading.{Changed, changed-all, changed-next, changed-opens, changed-readable, changed-element, changes-read}
+use Rattle.ask_packet.specs.Asking.{Reads}
 use borrow.Author.Needs.{needs}
 use Rattle.ask_packet.proofs.changes.Statement.{statement}
 use Rattle.ask_packet.proofs.changes.Tie as tie
 
 abbrev Inv-loop : tie.InvT-loop
-Inv-loop s at count figures train lsp x held₀ open₀ to₀ left₀ held «open» to left =
-    Changed (Left s) train lsp x open₀ count at left to held «open»
+Inv-loop s at count train lsp x held₀ open₀ to₀ left₀ held «open» to left =
+    Changed (Reads s) train lsp x open₀ count at left to held «open»
 
 abbrev μ-loop : tie.MeasureT-loop
-μ-loop s at count figures train lsp x held₀ open₀ to₀ left₀ held «open» to left = left
+μ-loop s at count train lsp x held₀ open₀ to₀ left₀ held «open» to left = left
 
 loop-holds : tie.Need-loop-holds Inv-loop μ-loop
-loop-holds c = changed-all (Left (now (c .before .before .args .s))) (c .before .before .pre .1)
+loop-holds c = changed-all (Reads (now (c .before .args .s))) (c .before .pre .0)
 
 read-window-requires : tie.Need-read-window-requires Inv-loop μ-loop
 read-window-requires c κs =
-    let s = now (c .before .before .before .before .args .s) in
+    let b = c .before .before .before in
+    let s = now (b .args .s) in
     let l = c .before .loop in
-    field-asked s (dLocation (l .«open» .start) (c .before .before .before .before .args .lsp)) (changed-ahead (Left s) (l .inv) (c .loop-test .taken) (c .before .before .before .before .pre .2)) 24 refl (lit< tt) (lit≤ tt)
+    field-asked s (dLocation (l .«open» .start) (b .args .lsp)) (changed-readable (Reads s) (l .inv) (b .pre .0) (b .pre .1) (c .loop-test .taken)) 24 refl (lit< tt) (lit≤ tt)
 
 add-element : tie.Need-add-element Inv-loop μ-loop
 add-element c =
-    let s = now (c .before .before .before .before .before .args .s) in
+    let b = c .before .before .before .before in
+    let s = now (b .args .s) in
     let l = c .before .before .loop in
-    let h = changed-ahead (Left s) (l .inv) (c .before .loop-test .taken) (c .before .before .before .before .before .pre .2) in
-    omega (arith, field-inside s (dLocation (l .«open» .start) (c .before .before .before .before .before .args .lsp)) h, h .left .few)
+    let h = changed-readable (Reads s) (l .inv) (b .pre .0) (b .pre .1) (c .before .loop-test .taken) in
+    omega (arith, field-inside s (dLocation (l .«open» .start) (b .args .lsp)) h, h .reads .few)
 
 element-requires : tie.Need-element-requires Inv-loop μ-loop
 element-requires c κs =
-    let a = c .before .before .before .before .before .args in
-    let s = now (a .s) in
+    let b = c .before .before .before .before in
+    let s = now (b .args .s) in
     let l = c .before .before .loop in
-    let r = field-read s (dLocation (l .«open» .start) (a .lsp)) (l .to) 24 (l .to + 24) refl refl (c .read-window .ensures) in
-    let h = ahead-field (Left s) r (λ y i. profile (changes profile (a .lsp) y (l .left - 1) i)) (changed-ahead (Left s) (l .inv) (c .before .loop-test .taken) (c .before .before .before .before .before .pre .2)) in
-    (c .before .before .before .before .before .pre .0, ahead-first (Left s) (changes profile (a .lsp) (c .read-window .result) (l .left - 1)) h)
+    let r = field-read s (dLocation (l .«open» .start) (b .args .lsp)) (l .to) 24 (l .to + 24) refl refl (c .read-window .ensures) in
+    changed-element (Reads s) (l .inv) (b .pre .0) (b .pre .1) (c .before .loop-test .taken) r
 
 ended-requires : tie.Need-ended-requires Inv-loop μ-loop
-ended-requires c κs = tt
+ended-requires c κs =
+    let b = c .before .before .before .before .before in
+    changed-opens (Reads (now (b .args .s))) (c .before .before .before .loop .inv) (b .pre .0) (b .pre .1)
 
 sub-left : tie.Need-sub-left Inv-loop μ-loop
 sub-left c = search needs
@@ -56,20 +58,20 @@ loop-less c = search needs
 
 loop-again : tie.Need-loop-again Inv-loop μ-loop
 loop-again c =
-    let a = c .before .before .before .before .before .before .before .before .args in
+    let a = c .before .before .before .before .before .before .before .args in
     let s = now (a .s) in
     let l = c .before .before .before .before .before .loop in
     let r = field-read s (dLocation (l .«open» .start) (a .lsp)) (l .to) 24 (l .to + 24) refl refl (c .before .before .before .read-window .ensures) in
-    changed-next (Left s) (l .inv) (c .before .before .before .before .loop-test .taken) r (c .before .before .element .ensures) (c .before .ended .ensures)
+    changed-next (Reads s) (l .inv) (c .before .before .before .before .loop-test .taken) r (c .before .before .element .ensures) (c .before .ended .ensures)
 
-ended-requires-2 : tie.Need-ended-requires-2 Inv-loop μ-loop
-ended-requires-2 c κs = tt
-
-permitted-requires : tie.Need-permitted-requires Inv-loop μ-loop
-permitted-requires c κs = tt
+finished-requires : tie.Need-finished-requires Inv-loop μ-loop
+finished-requires c κs =
+    let b = c .before .before .before in
+    changed-opens (Reads (now (b .args .s))) (c .before .loop .inv) (b .pre .0) (b .pre .1)
 
 returns : tie.Need-returns Inv-loop μ-loop
-returns c = changes-read (Left (now (c .before .before .before .before .before .before .args .s))) (c .before .before .before .loop .inv) (omega (arith, c .before .before .loop-test .left)) (c .before .ended2 .ensures) (c .permitted .ensures)
+returns c =
+    changes-read (Reads (now (c .before .before .before .before .args .s))) (c .before .before .loop .inv) (omega (arith, c .before .loop-test .left)) (c .finished .ensures)
 
 pub changes-spec : {M : Type 1} → statement M
 changes-spec =
@@ -85,6 +87,5 @@ changes-spec =
     sub-left
     loop-less
     loop-again
-    ended-requires-2
-    permitted-requires
+    finished-requires
     returns)

@@ -3,59 +3,52 @@ use mathlib.Core.Path.{refl}
 use native.Mathlib.Omega.{arith}
 use denote.Ref.{now}
 use lib.Dec.{lit≤, lit<}
-use Rattle.ask_packet.proofs.Fields.{element-inside, element-at}
+use Rattle.ask_packet.proofs.Fields.{element-inside, element-at, entries-passed}
 use Rattle.elements.proofs.Reading.{element-read}
-use Rattle.ask_packet.specs.Asking.{Left}
+use Rattle.ask_packet.specs.Asking.{Reads}
 use borrow.Author.Needs.{needs}
 use Rattle.ask_packet.proofs.element.Statement.{statement}
 use Rattle.ask_packet.proofs.element.Tie as tie
 
+cast-read-window : tie.Need-cast-read-window
+cast-read-window c = search needs
+
 read-window-requires : tie.Need-read-window-requires
 read-window-requires c κs =
-    let a = c .before .before .args in
-    let h = c .before .before .pre .1 in
-    (lit< tt, lit≤ tt, element-inside (now (a .s)) h, h .left .long)
+    let h = c .before .pre in
+    (lit< tt, lit≤ tt, element-inside (now (c .before .args .s)) h, h .reads .long)
 
 add-entries : tie.Need-add-entries
 add-entries c = search needs
 
-mul-entries : tie.Need-mul-entries
-mul-entries c = search needs
+mul-t8 : tie.Need-mul-t8
+mul-t8 c = search needs
 
-entries-requires : tie.Need-entries-requires
-entries-requires c κs =
-    let a = c .before .before .before .args in
-    let h = c .before .before .before .pre in
-    (h .0, omega arith, element-at (now (a .s)) (h .1) (c .read-window .ensures) .entries-ahead)
+cast-t12 : tie.Need-cast-t12
+cast-t12 c = search needs
 
-add-t9 : tie.Need-add-t9
-add-t9 c = search needs
+mul-t13 : tie.Need-mul-t13
+mul-t13 c = search needs
 
-cast-t13 : tie.Need-cast-t13
-cast-t13 c = search needs
-
-mul-t14 : tie.Need-mul-t14
-mul-t14 c = search needs
-
-add-t15 : tie.Need-add-t15
-add-t15 c = search needs
+add-t14 : tie.Need-add-t14
+add-t14 c = search needs
 
 returns : tie.Need-returns
 returns c =
-    let a = c .before .before .before .before .args in
-    let e = element-at (now (a .s)) (c .before .before .before .before .pre .1) (c .before .read-window .ensures) in
-    (element-read (Left (now (a .s))) (e .first) (e .second) (e .third) (c .entries .ensures) (a .start), refl)
+    let a = c .before .before .args in
+    let s = now (a .s) in
+    let e = element-at s (c .before .before .pre) (c .read-window .ensures) in
+    (element-read (Reads s) (e .first) (e .second) (e .third) (entries-passed s _ _ _ refl) (omega arith) (a .start), refl)
 
 pub element-spec : {M : Type 1} → statement M
 element-spec =
     tie.close
     (tie.spec
+    cast-read-window
     read-window-requires
     add-entries
-    mul-entries
-    entries-requires
-    add-t9
-    cast-t13
-    mul-t14
-    add-t15
+    mul-t8
+    cast-t12
+    mul-t13
+    add-t14
     returns)

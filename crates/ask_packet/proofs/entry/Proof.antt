@@ -3,16 +3,19 @@ use denote.Ref.{now}
 use lib.Dec.{lit≤, lit<}
 use Rattle.ask_packet.proofs.Fields.{entry-inside, entry-at}
 use Rattle.elements.proofs.Reading.{entry-read}
-use Rattle.ask_packet.specs.Asking.{Left}
+use Rattle.ask_packet.specs.Asking.{Reads}
 use borrow.Author.Needs.{needs}
 use Rattle.ask_packet.proofs.entry.Statement.{statement}
 use Rattle.ask_packet.proofs.entry.Tie as tie
+
+cast-read-window : tie.Need-cast-read-window
+cast-read-window c = search needs
 
 read-window-requires : tie.Need-read-window-requires
 read-window-requires c κs =
     let a = c .before .before .args in
     let h = c .before .before .pre .1 in
-    (lit< tt, lit≤ tt, entry-inside (now (a .s)) h, h .left .long)
+    (lit< tt, lit≤ tt, entry-inside (now (a .s)) h, h .reads .long)
 
 class-number-requires : tie.Need-class-number-requires
 class-number-requires c κs =
@@ -31,8 +34,8 @@ returns c =
     let a = c .before .before .before .before .before .args in
     let h = c .before .before .before .before .before .pre .1 in
     let e = entry-at (now (a .s)) h (c .before .before .read-window .ensures) in
-    entry-read (Left (now (a .s))) (e .first) (e .second) (e .third) (rw (c .before .class-number .ensures) at (c .with .ensures))
+    entry-read (Reads (now (a .s))) (e .first) (e .second) (e .third) (rw (c .before .class-number .ensures) at (c .with .ensures))
 
 pub entry-spec : {M : Type 1} → statement M
 entry-spec =
-    tie.close (tie.spec read-window-requires class-number-requires mul-with with-requires returns)
+    tie.close (tie.spec cast-read-window read-window-requires class-number-requires mul-with with-requires returns)

@@ -1,6 +1,6 @@
 -- `ask_packet::permitted` meets its contract.
 use denote.Ref.{now}
-use Rattle.ask_packet.proofs.Head.{profile-ahead, speed-asked}
+use Rattle.ask_packet.proofs.Head.{profile-readable, speed-asked}
 use borrow.Author.Needs.{needs}
 use Rattle.ask_packet.proofs.permitted.Statement.{statement}
 use Rattle.ask_packet.proofs.permitted.Tie as tie
@@ -9,7 +9,7 @@ length-of-requires : tie.Need-length-of-requires
 length-of-requires c κs = search needs
 
 profile-requires : tie.Need-profile-requires
-profile-requires c κs = let a = c .before .before in profile-ahead (now (a .args .packet)) (a .pre) (c .length-of .ensures)
+profile-requires c κs = let a = c .before .before in profile-readable (now (a .args .packet)) (a .pre) (c .length-of .ensures)
 
 returns : tie.Need-returns
 returns c = let a = c .before .before .before in speed-asked (now (a .args .packet)) (a .pre) (c .before .length-of .ensures) (c .profile .ensures)

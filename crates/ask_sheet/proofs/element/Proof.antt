@@ -4,9 +4,9 @@ use denote.Ref.{now}
 use Rattle.kinds.specs.Kinds.{qFront, nIter}
 use Rattle.format.specs.Format.{field, then}
 use Rattle.segment.specs.Segment.{entries}
-use Rattle.ask_sheet.proofs.Parts.{NumberAt, same-read, speed-read, speed-small, entries-ahead}
-use Rattle.elements.proofs.Reading.{element-read}
-use Rattle.ask_sheet.specs.Asking.{Left}
+use Rattle.ask_sheet.proofs.Parts.{NumberAt, same-read, speed-read, speed-small, front-inside, front-at, count-inside, count-at}
+use Rattle.elements.proofs.Reading.{element-entries, element-read}
+use Rattle.ask_sheet.specs.Asking.{Reads}
 use borrow.Author.Needs.{needs}
 use Rattle.ask_sheet.proofs.element.Statement.{statement}
 use Rattle.ask_sheet.proofs.element.Tie as tie
@@ -17,47 +17,49 @@ counted-at-requires c κs = search needs
 after-requires : tie.Need-after-requires
 after-requires c κs = search needs
 
-counted-at-requires-2 : tie.Need-counted-at-requires-2
-counted-at-requires-2 c κs = search needs
+shared-slice-read-wide : tie.Need-shared-slice-read-wide
+shared-slice-read-wide c =
+    let b = c .before .before .before .before in
+    front-inside (now (b .args .s)) (record { reads = c .before .before .counted-at .ensures; next = c .before .after .ensures; value = refl }) (b .pre)
 
-after-requires-2 : tie.Need-after-requires-2
-after-requires-2 c κs = search needs
+wide-requires : tie.Need-wide-requires
+wide-requires c κs = search needs
 
-counted-at-requires-3 : tie.Need-counted-at-requires-3
-counted-at-requires-3 c κs = search needs
+add-wide : tie.Need-add-wide
+add-wide c = search needs
 
-after-requires-3 : tie.Need-after-requires-3
-after-requires-3 c κs = search needs
+shared-slice-read-wide-2 : tie.Need-shared-slice-read-wide-2
+shared-slice-read-wide-2 c =
+    let b = c .before .before .before .before .before .before in
+    count-inside (now (b .args .s)) (record { reads = c .before .before .before .before .counted-at .ensures; next = c .before .before .before .after .ensures; value = refl }) (b .pre)
+
+wide-requires-2 : tie.Need-wide-requires-2
+wide-requires-2 c κs = search needs
+
+add-entries : tie.Need-add-entries
+add-entries c = search needs
+
+entries-end-requires : tie.Need-entries-end-requires
+entries-end-requires c κs =
+    let b = c .before .before .before .before .before .before .before in
+    let s = now (b .args .s) in
+    let n : NumberAt s _ _ _ _ = record { reads = c .before .before .before .before .before .counted-at .ensures; next = c .before .before .before .before .after .ensures; value = refl } in
+    let q = same-read s (front-at s n (b .pre) refl) qFront (λ u. refl) in
+    let m = same-read s (count-at s n (b .pre) (c .wide2 .ensures)) (nIter 31) (λ u. refl) in
+    element-entries (Reads s) (speed-read s n) q m (b .pre)
 
 value-requires : tie.Need-value-requires
 value-requires c κs = search needs
 
-value-requires-2 : tie.Need-value-requires-2
-value-requires-2 c κs = search needs
-
-entries-requires : tie.Need-entries-requires
-entries-requires c κs =
-    let s = now (c .before .before .before .before .before .before .before .before .before .args .s) in
-    let h = c .before .before .before .before .before .before .before .before .before .pre in
-    let x : NumberAt s _ _ _ _ = record { reads = c .before .before .before .before .before .before .before .counted-at .ensures; next = c .before .before .before .before .before .before .after .ensures; value = c .value2 .ensures } in (
-      speed-small s x (λ v f. then qFront (field (nIter 31) λ n. entries n f)) h,
-      entries-ahead s x (record { reads = c .before .before .before .before .before .counted-at2 .ensures; next = c .before .before .before .before .after2 .ensures; value = refl })
-          (record { reads = c .before .before .before .counted-at3 .ensures; next = c .before .before .after3 .ensures; value = c .before .value .ensures }) h,
-    )
-
-value-requires-3 : tie.Need-value-requires-3
-value-requires-3 c κs = search needs
-
 returns : tie.Need-returns
 returns c =
-    let a = c .before .before .before .before .before .before .before .before .before .before .before .args in
-    let s = now (a .s) in (
-      element-read (Left s) (speed-read s (record { reads = c .before .before .before .before .before .before .before .before .before .counted-at .ensures; next = c .before .before .before .before .before .before .before .before .after .ensures; value = c .before .before .value2 .ensures }))
-          (same-read s (record { reads = c .before .before .before .before .before .before .before .counted-at2 .ensures; next = c .before .before .before .before .before .before .after2 .ensures; value = c .value3 .ensures }) qFront (λ u. refl))
-          (same-read s (record { reads = c .before .before .before .before .before .counted-at3 .ensures; next = c .before .before .before .before .after3 .ensures; value = c .before .before .before .value .ensures }) (nIter 31) (λ u. refl))
-          (c .before .entries .ensures) (a .start),
-      refl,
-    )
+    let b = c .before .before .before .before .before .before .before .before .before in
+    let s = now (b .args .s) in
+    let n : NumberAt s _ _ _ _ = record { reads = c .before .before .before .before .before .before .before .counted-at .ensures; next = c .before .before .before .before .before .before .after .ensures; value = c .value .ensures } in
+    let q = same-read s (front-at s n (b .pre) (c .before .before .before .before .wide .ensures)) qFront (λ u. refl) in
+    let m = same-read s (count-at s n (b .pre) (c .before .before .wide2 .ensures)) (nIter 31) (λ u. refl) in
+    let small = speed-small s n (λ v f. then qFront (field (nIter 31) λ k. entries k f)) (b .pre) in
+    (element-read (Reads s) (speed-read s n) q m (c .before .entries-end .ensures) small (b .args .start), refl)
 
 pub element-spec : {M : Type 1} → statement M
 element-spec =
@@ -65,12 +67,12 @@ element-spec =
     (tie.spec
     counted-at-requires
     after-requires
-    counted-at-requires-2
-    after-requires-2
-    counted-at-requires-3
-    after-requires-3
+    shared-slice-read-wide
+    wide-requires
+    add-wide
+    shared-slice-read-wide-2
+    wide-requires-2
+    add-entries
+    entries-end-requires
     value-requires
-    value-requires-2
-    entries-requires
-    value-requires-3
     returns)

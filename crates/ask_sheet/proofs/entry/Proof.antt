@@ -4,7 +4,7 @@ use denote.Ref.{now}
 use Rattle.kinds.specs.Kinds.{qDiff}
 use Rattle.ask_sheet.proofs.Parts.{same-read, class-read, speed-read, entry-small}
 use Rattle.elements.proofs.Reading.{entry-read}
-use Rattle.ask_sheet.specs.Asking.{Left}
+use Rattle.ask_sheet.specs.Asking.{Reads}
 use borrow.Author.Needs.{needs}
 use Rattle.ask_sheet.proofs.entry.Statement.{statement}
 use Rattle.ask_sheet.proofs.entry.Tie as tie
@@ -47,7 +47,7 @@ after-requires-3 c κs = search needs
 returns : tie.Need-returns
 returns c =
     let s = now (c .before .before .before .before .before .before .before .before .before .before .before .args .s) in
-    entry-read (Left s) (same-read s (record { reads = c .before .before .before .before .before .before .before .before .before .counted-at .ensures; next = c .before .before .before .before .before .before .before .before .after .ensures; value = c .before .before .before .before .value .ensures }) qDiff (λ u. refl))
+    entry-read (Reads s) (same-read s (record { reads = c .before .before .before .before .before .before .before .before .before .counted-at .ensures; next = c .before .before .before .before .before .before .before .before .after .ensures; value = c .before .before .before .before .value .ensures }) qDiff (λ u. refl))
     (class-read s (record { reads = c .before .before .before .before .before .before .before .counted-at2 .ensures; next = c .before .before .before .before .before .before .after2 .ensures; value = c .before .before .before .value2 .ensures }) (c .before .before .before .before .value .result))
     (speed-read s (record { reads = c .before .before .before .before .before .counted-at3 .ensures; next = c .after3 .ensures; value = c .before .before .value3 .ensures }))
     (c .before .with .ensures)

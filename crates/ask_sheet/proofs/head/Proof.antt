@@ -6,7 +6,7 @@ use lib.Dec.{lit≤}
 use Rattle.bits.proofs.Padding.{bytes-of}
 use Rattle.kinds.specs.Kinds.{lSp}
 use Rattle.ask_sheet.proofs.Numbers.{number-inside}
-use Rattle.ask_sheet.proofs.Parts.{head-ahead, length-ahead, after-ahead, head-read}
+use Rattle.ask_sheet.proofs.Parts.{head-readable, length-readable, after-readable, head-read}
 use borrow.Author.Needs.{needs}
 use Rattle.ask_sheet.proofs.head.Statement.{statement}
 use Rattle.ask_sheet.proofs.head.Tie as tie
@@ -15,7 +15,7 @@ run-requires : tie.Need-run-requires
 run-requires c κs =
     let s = now (c .before .args .sheet) in
     let ok = bytes-of s (λ i. c .shared-slice-known .given i .fits) in
-    (lit≤ tt, head-ahead s (c .before .pre) ok)
+    (lit≤ tt, head-readable s (c .before .pre) ok)
 
 counted-at-requires : tie.Need-counted-at-requires
 counted-at-requires c κs = search needs
@@ -27,7 +27,7 @@ after-requires : tie.Need-after-requires
 after-requires c κs =
     let s = now (c .before .before .before .before .args .sheet) in
     let ok = bytes-of s (λ i. c .before .before .before .shared-slice-known .given i .fits) in
-    omega (arith, number-inside s lSp (c .before .before .run .result) (c .before .counted-at .ensures) refl refl (length-ahead s (c .before .before .before .before .pre) ok (c .before .before .run .ensures)))
+    omega (arith, number-inside s lSp (c .before .before .run .result) (c .before .counted-at .ensures) refl refl (length-readable s (c .before .before .before .before .pre) ok (c .before .before .run .ensures)))
 
 add-run : tie.Need-add-run
 add-run c = search needs
@@ -36,7 +36,7 @@ run-requires-2 : tie.Need-run-requires-2
 run-requires-2 c κs =
     let s = now (c .before .before .before .before .before .args .sheet) in
     let ok = bytes-of s (λ i. c .before .before .before .before .shared-slice-known .given i .fits) in
-    (lit≤ tt, after-ahead s (c .before .before .before .before .before .pre) ok (c .before .before .before .run .ensures) (record { reads = c .before .before .counted-at .ensures; next = c .after .ensures; value = c .before .value .ensures }))
+    (lit≤ tt, after-readable s (c .before .before .before .before .before .pre) ok (c .before .before .before .run .ensures) (record { reads = c .before .before .counted-at .ensures; next = c .after .ensures; value = c .before .value .ensures }))
 
 returns : tie.Need-returns
 returns c =

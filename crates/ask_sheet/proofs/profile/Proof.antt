@@ -7,8 +7,8 @@ use Rattle.format.specs.Format.{field}
 use Rattle.segment.specs.Segment.{profile, changes}
 use Rattle.ask_sheet.proofs.Numbers.{number-inside}
 use Rattle.ask_sheet.proofs.Parts.{same-read}
-use Rattle.elements.proofs.Reading.{ahead-field, ahead-passed, profile-read}
-use Rattle.ask_sheet.specs.Asking.{Left}
+use Rattle.elements.proofs.Reading.{readable-passed, profile-changes, profile-read}
+use Rattle.ask_sheet.specs.Asking.{Reads}
 use borrow.Author.Needs.{needs}
 use Rattle.ask_sheet.proofs.profile.Statement.{statement}
 use Rattle.ask_sheet.proofs.profile.Tie as tie
@@ -21,9 +21,9 @@ counted-at-requires c κs = search needs
 
 after-requires : tie.Need-after-requires
 after-requires c κs =
-    let a = c .before .before .before .args in
-    let s = now (a .s) in
-    let h = ahead-passed (Left s) (λ f. field (nIter 31) λ n. changes profile (a .lsp) 0 n f) (c .before .element .ensures .0 .passes) (c .before .before .before .pre) in
+    let b = c .before .before .before in
+    let s = now (b .args .s) in
+    let h = readable-passed (Reads s) (λ f. field (nIter 31) λ n. changes profile (b .args .lsp) 0 n f) (c .before .element .ensures .0 .passes) (b .pre) in
     omega (arith, number-inside s (nIter 31) (c .before .element .result .next) (c .counted-at .ensures) refl refl h)
 
 value-requires : tie.Need-value-requires
@@ -31,19 +31,19 @@ value-requires c κs = search needs
 
 changes-requires : tie.Need-changes-requires
 changes-requires c κs =
-    let a = c .before .before .before .before .before .args in
-    let s = now (a .s) in
-    let h = ahead-passed (Left s) (λ f. field (nIter 31) λ n. changes profile (a .lsp) 0 n f) (c .before .before .before .element .ensures .0 .passes) (c .before .before .before .before .before .pre) in
+    let b = c .before .before .before .before .before in
+    let s = now (b .args .s) in
     let e = c .before .before .before .element .ensures in
     let r = same-read s (record { reads = c .before .before .counted-at .ensures; next = c .before .after .ensures; value = c .value .ensures }) (nIter 31) (λ u. refl) in
-    (e .0 .below, rw (e .1) (ahead-field (Left s) r (λ n f. changes profile (a .lsp) 0 n f) h))
+    profile-changes (Reads s) (b .args .lsp) (e .0) (e .1) r (b .pre)
 
 returns : tie.Need-returns
 returns c =
     let a = c .before .before .before .before .before .before .args in
     let s = now (a .s) in
     let e = c .before .before .before .before .element .ensures in
-    profile-read (Left s) (e .0) (e .1) (same-read s (record { reads = c .before .before .before .counted-at .ensures; next = c .before .before .after .ensures; value = c .before .value .ensures }) (nIter 31) (λ u. refl)) (c .changes .ensures)
+    let r = same-read s (record { reads = c .before .before .before .counted-at .ensures; next = c .before .before .after .ensures; value = c .before .value .ensures }) (nIter 31) (λ u. refl) in
+    profile-read (Reads s) (a .lsp) (e .0) (e .1) r (c .changes .ensures)
 
 pub profile-spec : {M : Type 1} → statement M
 profile-spec =

@@ -1,9 +1,9 @@
 -- `judge_packet::judge_packet` meets its contract.
 use mathlib.Core.Path.{sym, _∙_}
 use Rattle.frame.proofs.Framing.{whole, packet-frame, packet-refused, packet-accepted, packet-padding}
-use Rattle.judge.proofs.Sizes.{refused-apart}
-use Rattle.judge.specs.declared.Verdict.{Verdict}
-use Rattle.judge.specs.declared.Verdict.the-variants.{Accepted, Refused}
+use Rattle.judge.proofs.Sizes.{packet-sorts}
+use Rattle.judge.specs.declared.PacketVerdict.{PacketVerdict}
+use Rattle.judge.specs.declared.PacketVerdict.the-variants.{SheetBytes, Refused}
 use Rattle.judge.specs.Verdict.{sizeFrom, packetVerdict}
 use Rattle.segment.specs.Segment.{sheetFields, wireChanges}
 use Rattle.format.specs.Media.{sheet}
@@ -15,11 +15,11 @@ use borrow.Author.Needs.{needs}
 use Rattle.judge_packet.proofs.judge_packet.Statement.{statement}
 use Rattle.judge_packet.proofs.judge_packet.Tie as tie
 
-abbrev size : List Item → Verdict
-size l = Accepted (sizeFrom sheet (sheetFields wireChanges) 0 l)
+abbrev size : List Item → PacketVerdict
+size l = SheetBytes (sizeFrom sheet (sheetFields wireChanges) 0 l)
 
-framed-requires : tie.Need-framed-requires
-framed-requires c κs = search needs
+judge-frame-requires : tie.Need-judge-frame-requires
+judge-frame-requires c κs = search needs
 
 enum-known-r : tie.Need-enum-known-r
 enum-known-r c = search needs
@@ -28,7 +28,7 @@ enum-known-stop : tie.Need-enum-known-stop
 enum-known-stop c = search needs
 
 packet-fields-requires : tie.Need-packet-fields-requires
-packet-fields-requires c κs = let s = now (c .before .before .before .before .before .args .s) in let w = whole s _ (sym (c .before .stop .given .1) ∙ c .before .before .before .framed .ensures) in (w .placed, omega (arith, w .ends, w .inside))
+packet-fields-requires c κs = let s = now (c .before .before .before .before .before .args .s) in let w = whole s _ (sym (c .before .stop .given .1) ∙ c .before .before .before .judge-frame .ensures) in (w .placed, omega (arith, w .ends, w .inside))
 
 enum-known-r-2 : tie.Need-enum-known-r-2
 enum-known-r-2 c = search needs
@@ -37,29 +37,29 @@ enum-known-n : tie.Need-enum-known-n
 enum-known-n c = search needs
 
 zero-from-requires : tie.Need-zero-from-requires
-zero-from-requires c κs = let w = whole (now (c .before .before .before .before .before .before .before .before .before .args .s)) _ (sym (c .before .before .before .before .before .stop .given .1) ∙ c .before .before .before .before .before .before .before .framed .ensures) in (w .inside, w .near, w .placed .few)
+zero-from-requires c κs = let w = whole (now (c .before .before .before .before .before .before .before .before .before .args .s)) _ (sym (c .before .before .before .before .before .stop .given .1) ∙ c .before .before .before .before .before .before .before .judge-frame .ensures) in (w .inside, w .near, w .placed .few)
 
 returns : tie.Need-returns
 unfolding packetVerdict
-returns c = packet-frame Refused size (now (c .before .before .before .before .before .args .s)) _ (sym (c .before .r .given .1) ∙ c .before .before .before .framed .ensures)
+returns c = packet-frame Refused size (now (c .before .before .before .before .before .args .s)) _ (sym (c .before .r .given .1) ∙ c .before .before .before .judge-frame .ensures)
 
 returns-2 : tie.Need-returns-2
 unfolding packetVerdict
-returns-2 c = packet-refused Refused size (now (c .before .before .before .before .before .before .before .before .before .args .s)) _ (sym (c .before .before .before .before .before .stop .given .1) ∙ c .before .before .before .before .before .before .before .framed .ensures) (sym (c .before .r2 .given .1) ∙ c .before .before .before .packet-fields .ensures) (λ l q. refused-apart q)
+returns-2 c = packet-refused Refused size (now (c .before .before .before .before .before .before .before .before .before .args .s)) _ (sym (c .before .before .before .before .before .stop .given .1) ∙ c .before .before .before .before .before .before .before .judge-frame .ensures) (sym (c .before .r2 .given .1) ∙ c .before .before .before .packet-fields .ensures) (λ l q. packet-sorts .apart q)
 
 returns-3 : tie.Need-returns-3
 unfolding packetVerdict
-returns-3 c = packet-accepted Refused size (now (c .before .before .before .before .before .before .before .before .before .before .before .args .s)) _ (sym (c .before .before .before .before .before .before .before .stop .given .1) ∙ c .before .before .before .before .before .before .before .before .before .framed .ensures) (sym (c .before .before .before .n .given .1) ∙ c .before .before .before .before .before .packet-fields .ensures) (sym (c .before .zero-from .ensures) ∙ c .if1 .taken)
+returns-3 c = packet-accepted Refused size (now (c .before .before .before .before .before .before .before .before .before .before .before .args .s)) _ (sym (c .before .before .before .before .before .before .before .stop .given .1) ∙ c .before .before .before .before .before .before .before .before .before .judge-frame .ensures) (sym (c .before .before .before .n .given .1) ∙ c .before .before .before .before .before .packet-fields .ensures) (sym (c .before .zero-from .ensures) ∙ c .if1 .taken)
 
 returns-4 : tie.Need-returns-4
 unfolding packetVerdict
-returns-4 c = packet-padding Refused size (now (c .before .before .before .before .before .before .before .before .before .before .before .args .s)) _ (sym (c .before .before .before .before .before .before .before .stop .given .1) ∙ c .before .before .before .before .before .before .before .before .before .framed .ensures) (sym (c .before .before .before .n .given .1) ∙ c .before .before .before .before .before .packet-fields .ensures) (λ r q. refused-apart q) (sym (c .before .zero-from .ensures) ∙ c .if1 .left)
+returns-4 c = packet-padding Refused size (now (c .before .before .before .before .before .before .before .before .before .before .before .args .s)) _ (sym (c .before .before .before .before .before .before .before .stop .given .1) ∙ c .before .before .before .before .before .before .before .before .before .judge-frame .ensures) (sym (c .before .before .before .n .given .1) ∙ c .before .before .before .before .before .packet-fields .ensures) (λ r q. packet-sorts .apart q) (sym (c .before .zero-from .ensures) ∙ c .if1 .left)
 
 pub judge-packet-spec : {M : Type 1} → statement M
 judge-packet-spec =
     tie.close
     (tie.spec
-    framed-requires
+    judge-frame-requires
     enum-known-r
     enum-known-stop
     packet-fields-requires

@@ -4,7 +4,7 @@ use Prim.Native.Nat.{ℕ, _+_, _*_, _/_}
 use denote.Ref.{now}
 use borrow.Author.Tests.{ltb-true}
 use Rattle.bits.proofs.Cells.{whole-part}
-use Rattle.numbers.specs.Numbers.{counted}
+use Rattle.numbers.specs.Groups.{counted}
 use Rattle.numbers.proofs.Reading.{number-end, short-product, short-value, counted-short}
 use native.Mathlib.Omega.{arith}
 use borrow.Author.Needs.{needs}

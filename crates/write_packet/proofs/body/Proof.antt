@@ -5,7 +5,7 @@ use Rattle.kinds.specs.Kinds.{lSp}
 use Rattle.fields.proofs.Lawful.{narrow, range-lawful}
 use Rattle.format.specs.Format.{field}
 use Rattle.segment.specs.Parts.{runs, threeLists}
-use Rattle.write_packet.proofs.Writing.{along-all, along-next, along-on, along-none, along-small, along-inside, plain-small, along-put}
+use Rattle.fill_element.proofs.Writing.{along-all, along-next, along-on, along-none, along-small, along-inside, plain-small, along-put}
 use native.Mathlib.Omega.{arith}
 use borrow.Author.Needs.{needs}
 use Rattle.write_packet.proofs.body.Statement.{statement}

@@ -8,7 +8,7 @@ use Rattle.format.specs.Format.{field}
 use Rattle.segment.specs.Segment.{changes}
 use Rattle.segment.specs.Parts.{startOf}
 use Rattle.segment.proofs.Parts.{changes-more, changes-none}
-use Rattle.write_packet.proofs.Writing.{Along, along-all, along-as, along-next, along-on, along-none, along-small, along-inside, plain-small, along-put}
+use Rattle.fill_element.proofs.Writing.{Along, along-all, along-as, along-next, along-on, along-none, along-small, along-inside, plain-small, along-put}
 use native.Mathlib.Omega.{arith}
 use Rattle.write_packet.proofs.changes.Statement.{statement}
 use Rattle.write_packet.proofs.changes.Tie as tie

@@ -6,7 +6,7 @@ use Rattle.fields.proofs.Lawful.{narrow, upTo-lawful}
 use Rattle.format.specs.Format.{field}
 use Rattle.segment.specs.Segment.{changes}
 use Rattle.segment.specs.Parts.{startOf}
-use Rattle.write_packet.proofs.Writing.{along-all, along-next, along-on, along-none, along-small, along-inside, plain-small, along-put}
+use Rattle.fill_element.proofs.Writing.{along-all, along-next, along-on, along-none, along-small, along-inside, plain-small, along-put}
 use native.Mathlib.Omega.{arith}
 use borrow.Author.Needs.{needs}
 use Rattle.write_packet.proofs.list.Statement.{statement}

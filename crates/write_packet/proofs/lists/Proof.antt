@@ -1,7 +1,7 @@
 -- `write_packet::lists` meets its contract.
 use lib.Dec.{lit<}
 use Rattle.segment.specs.Segment.{profile, voltage, current, part, wireChanges}
-use Rattle.write_packet.proofs.Writing.{along-all, along-next, along-on, along-none}
+use Rattle.fill_element.proofs.Writing.{along-all, along-next, along-on, along-none}
 use borrow.Author.Needs.{needs}
 use Rattle.write_packet.proofs.lists.Statement.{statement}
 use Rattle.write_packet.proofs.lists.Tie as tie

@@ -4,8 +4,8 @@ use Prim.Native.Nat.{_+_, _-_, _≤_, _<_}
 use Rattle.format.specs.Format.{then}
 use Rattle.segment.specs.Parts.{kindAt, runs}
 use Rattle.segment.proofs.Parts.{runs-more, runs-none}
-use Rattle.write_packet.specs.Writing.{widths}
-use Rattle.write_packet.proofs.Writing.{Along, along-all, along-as, along-none, along-small, along-inside, plain-small, along-put}
+use Rattle.write_packet.specs.Widths.{widths}
+use Rattle.fill_element.proofs.Writing.{Along, along-all, along-as, along-none, along-small, along-inside, plain-small, along-put}
 use Rattle.write_packet.proofs.Head.{head-plain, head-width, widths-more}
 use native.Mathlib.Omega.{arith}
 use Rattle.write_packet.proofs.run.Statement.{statement}

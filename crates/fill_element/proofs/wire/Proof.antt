@@ -1,0 +1,54 @@
+-- `fill_element::wire` meets its contract.
+use Rattle.fill_element.proofs.Writing.{at-small}
+use Rattle.fill_element.proofs.Pieces.{wire-volts, wire-traction, wire-wrote}
+use lib.Dec.{lit<, lit≤}
+use native.Mathlib.Omega.{arith}
+use borrow.Author.Needs.{needs}
+use Rattle.fill_element.proofs.wire.Statement.{statement}
+use Rattle.fill_element.proofs.wire.Tie as tie
+
+take-requires : tie.Need-take-requires
+take-requires c κs = search needs
+
+take-requires-2 : tie.Need-take-requires-2
+take-requires-2 c κs = search needs
+
+volts-place-requires : tie.Need-volts-place-requires
+volts-place-requires c κs = search needs
+
+mul-bits : tie.Need-mul-bits
+mul-bits c =
+    omega (arith, wire-volts (c .before .before .before .before .before .pre) (c .before .before .take .ensures) (c .before .take2 .ensures) (c .volts-place .ensures))
+
+add-bits : tie.Need-add-bits
+add-bits c =
+    omega (arith, wire-volts (c .before .before .before .before .before .before .pre) (c .before .before .before .take .ensures) (c .before .before .take2 .ensures) (c .before .volts-place .ensures), wire-traction (c .before .before .before .before .before .before .pre) (c .before .before .before .take .ensures) (c .before .before .take2 .ensures) (c .before .volts-place .ensures))
+
+put-requires : tie.Need-put-requires
+put-requires c κs =
+    (lit< tt, lit≤ tt, omega (arith, wire-volts (c .before .before .before .before .before .before .before .pre) (c .before .before .before .before .take .ensures) (c .before .before .before .take2 .ensures) (c .before .before .volts-place .ensures), wire-traction (c .before .before .before .before .before .before .before .pre) (c .before .before .before .before .take .ensures) (c .before .before .before .take2 .ensures) (c .before .before .volts-place .ensures)))
+
+add-t12 : tie.Need-add-t12
+add-t12 c =
+    omega (arith, at-small (c .before .before .before .before .before .before .before .before .before .before .before .pre))
+
+same-length : tie.Need-same-length
+same-length c = search needs
+
+returns : tie.Need-returns
+returns c =
+    wire-wrote (c .before .before .before .before .before .before .before .before .before .before .before .pre) (c .before .before .before .before .before .before .before .before .take .ensures) (c .before .before .before .before .before .before .before .take2 .ensures) (c .before .before .before .before .before .before .volts-place .ensures) (c .before .before .before .put .ensures)
+
+pub wire-spec : {M : Type 1} → statement M
+wire-spec =
+    tie.close
+    (tie.spec
+    take-requires
+    take-requires-2
+    volts-place-requires
+    mul-bits
+    add-bits
+    put-requires
+    add-t12
+    same-length
+    returns)

@@ -1,0 +1,135 @@
+// An element of a list of an accepted sheet, put into its packet: a place in both, a number taken, and what an element begins with.
+ghost use mathlib.Core.Path.{_≡_};
+ghost use Prim.Native.Nat.{_+_, _^_, _≤_};
+ghost use Rattle.kinds.specs.Tables.{cantFigures};
+ghost use Rattle.segment.specs.Segment as segment;
+ghost use Rattle.segment.specs.Parts as parts;
+ghost use Rattle.segment.specs.Parts.{startOf};
+ghost use Rattle.fill_element.specs.Writing.{Takes, Ready, Wrote};
+use fields::tables;
+use kinds::body;
+use segment::Part;
+
+// A place in the sheet, the packet's bit that is next, and the bits that wait for a whole byte.
+pub struct Spot {
+    pub from: usize,
+    pub at: usize,
+    pub wait: u64,
+}
+
+// A number of the sheet, and the place after it.
+pub struct TakenNumber {
+    pub value: u32,
+    pub next: usize,
+}
+
+// The number at a place of the sheet.
+pub fn take(sheet: &[u8], from: usize) -> TakenNumber
+    requires { ⌜ from + 2 ^ 32 ≤ 2 ^ 64 ⌝ }
+    ensures { λ r. ⌜ Takes (now (sheet .entry)) from r ⌝ }
+{
+    let a = numbers::counted_at(sheet, from);
+    TakenNumber {
+        value: (a % 4294967296) as u32,
+        next: from + (a / 4294967296) as usize,
+    }
+}
+
+// Q_DIFF, class and V_DIFF, put at once.
+fn entry(sheet: &[u8], figures: &[u32; 11], room: &mut [u8], p: Spot) -> Spot
+    requires { ⌜ Ready parts.entry (now sheet) (now room) p × (now figures ≡ cantFigures) ⌝ }
+    ensures { λ r. ⌜ Wrote parts.entry (now (sheet .entry)) (now (room .entry)) p (now (room .exit)) r ⌝ }
+{
+    let q = take(sheet, p.from);
+    let a = take(sheet, q.next);
+    let v = take(sheet, a.next);
+    let class = lowering::class_place(figures, q.value, a.value);
+    let bits = q.value * 2048 + class * 128 + lowering::speed_steps(v.value);
+    let wait = filling::put(room, p.at, p.wait, 13, bits);
+    Spot {
+        from: v.next,
+        at: p.at + 13,
+        wait,
+    }
+}
+
+// The specific entries of an element.
+fn entries(sheet: &[u8], room: &mut [u8], from: Spot, count: u32) -> Spot
+    requires { ⌜ Ready (segment.entries count) (now sheet) (now room) from ⌝ }
+    ensures { λ r. ⌜ Wrote (segment.entries count) (now (sheet .entry)) (now (room .entry)) from (now (room .exit)) r ⌝ }
+{
+    let figures = tables::CANT_FIGURES;
+    let mut p = from;
+    let mut left = count;
+    while 0 < left {
+        p = entry(sheet, &figures, room, p);
+        left -= 1;
+    }
+    p
+}
+
+// V_STATIC, Q_FRONT and the count of the entries, put at once, and the entries.
+fn profile(sheet: &[u8], room: &mut [u8], p: Spot) -> Spot
+    requires { ⌜ Ready segment.profile (now sheet) (now room) p ⌝ }
+    ensures { λ r. ⌜ Wrote segment.profile (now (sheet .entry)) (now (room .entry)) p (now (room .exit)) r ⌝ }
+{
+    let v = take(sheet, p.from);
+    let q = take(sheet, v.next);
+    let n = take(sheet, q.next);
+    let bits = lowering::speed_steps(v.value) * 64 + q.value * 32 + n.value;
+    let wait = filling::put(room, p.at, p.wait, 13, bits);
+    let first = Spot {
+        from: n.next,
+        at: p.at + 13,
+        wait,
+    };
+    entries(sheet, room, first, n.value)
+}
+
+// M_VOLTAGE and NID_CTRACTION, put at once.
+fn wire(sheet: &[u8], room: &mut [u8], p: Spot) -> Spot
+    requires { ⌜ Ready segment.voltage (now sheet) (now room) p ⌝ }
+    ensures { λ r. ⌜ Wrote segment.voltage (now (sheet .entry)) (now (room .entry)) p (now (room .exit)) r ⌝ }
+{
+    let u = take(sheet, p.from);
+    let n = take(sheet, u.next);
+    let bits = lowering::volts_place(u.value) * 1024 + n.value;
+    let wait = filling::put(room, p.at, p.wait, 14, bits);
+    Spot {
+        from: n.next,
+        at: p.at + 14,
+        wait,
+    }
+}
+
+// M_CURRENT.
+fn amperes(sheet: &[u8], room: &mut [u8], p: Spot) -> Spot
+    requires { ⌜ Ready segment.current (now sheet) (now room) p ⌝ }
+    ensures { λ r. ⌜ Wrote segment.current (now (sheet .entry)) (now (room .entry)) p (now (room .exit)) r ⌝ }
+{
+    let a = take(sheet, p.from);
+    let wait = filling::put(
+        room,
+        p.at,
+        p.wait,
+        body::MCurrent::WIDTH,
+        lowering::current_steps(a.value),
+    );
+    Spot {
+        from: a.next,
+        at: p.at + body::MCurrent::WIDTH as usize,
+        wait,
+    }
+}
+
+// What an element of a part begins with.
+pub fn element(part: Part, sheet: &[u8], room: &mut [u8], p: Spot) -> Spot
+    requires { ⌜ Ready (startOf part) (now sheet) (now room) p ⌝ }
+    ensures { λ r. ⌜ Wrote (startOf part) (now (sheet .entry)) (now (room .entry)) p (now (room .exit)) r ⌝ }
+{
+    match part {
+        Part::Speeds => profile(sheet, room, p),
+        Part::Volts => wire(sheet, room, p),
+        Part::Amperes => amperes(sheet, room, p),
+    }
+}

@@ -1,0 +1,70 @@
+-- The customer's third demand: "Two accepted sheets make the same packet exactly when they agree in every field after that lowering", and the speeds with it.
+-- Assumes nothing.
+use mathlib.Core.Path.{_≡_, sym, ap, _∙_}
+use mathlib.Core.List.{List}
+use mathlib.Core.Logic.{_↔_}
+use Prim.Native.Nat.{ℕ}
+use Rattle.bits.specs.Bits.{Bytes}
+use Rattle.kinds.specs.declared.Item.{Item}
+use Rattle.format.specs.Format.{accepted}
+use Rattle.format.specs.Conforming.{givenBack}
+use Rattle.segment.specs.Segment.{sheetFields, wireChanges}
+use Rattle.segment.specs.Judgement.{fromPacket, toPacket, toSheet}
+use Rattle.speed.specs.declared.Train.{Train}
+use Rattle.question.specs.declared.Speed.{Speed}
+use Rattle.question.specs.Question.{speedFromPacket, speedFromSheet}
+use Rattle.convert.specs.Convert.{successWith, sheetToPacket}
+use Rattle.promises.specs.Promised.{SheetValues, ConvertibleSheet, AnswerableSheet, answerInFives, GreatestFive, Agreeing, Done, result}
+use Rattle.promises.proofs.Agreeing.{packets-agree, agreeing-packets}
+use Rattle.promises.proofs.DemandTwo.{sheet-converted, sheet-result, sheet-speed}
+use Rattle.promises.proofs.Values.{packet-taken, sheet-taken, lowered-packet, lowered-good, in-fives, asked-lowered, placed-result}
+
+-- ==== "Two accepted sheets make the same packet exactly when they agree in every field after that lowering."
+
+-- for any values of accepted sheets: they agree exactly when both are lowered, field by field, to the same numbers
+pub same-packet : (l m : List Item) → SheetValues l → SheetValues m → (toPacket wireChanges l ≡ toPacket wireChanges m) ↔ Agreeing l m
+same-packet l m cl cm = (packets-agree cl cm, agreeing-packets cl cm)
+
+-- in the words of the operation: two sheets that are converted into the same room leave it the same exactly then
+pub same-outcome : (s t room : List ℕ) (c : ConvertibleSheet s room) (d : ConvertibleSheet t room)
+    → (sheetToPacket s room ≡ sheetToPacket t room) ↔ Agreeing (c .values) (d .values)
+same-outcome s t room c d = (there, back)
+  where
+    law : (toPacket wireChanges (c .values) ≡ toPacket wireChanges (d .values)) ↔ Agreeing (c .values) (d .values)
+    law = same-packet (c .values) (d .values) (c .good) (d .good)
+
+    there : sheetToPacket s room ≡ sheetToPacket t room → Agreeing (c .values) (d .values)
+    there e =
+        law .0 (sym (placed-result (toPacket wireChanges (c .values)) room) ∙ ap result (sym (sheet-result s room c) ∙ e ∙ sheet-result t room d)
+        ∙ placed-result (toPacket wireChanges (d .values)) room)
+
+    back : Agreeing (c .values) (d .values) → sheetToPacket s room ≡ sheetToPacket t room
+    back e = sheet-result s room c ∙ ap (λ (x : List ℕ). successWith x room) (law .1 e) ∙ sym (sheet-result t room d)
+
+-- ==== "For every accepted sheet, valid train and centimetre, the speed from its packet is the greatest multiple of 5 not above the speed from the sheet."
+
+-- for any values of an accepted sheet; the refusal is the same too, for any train and any x
+pub lowered-speed : (l : List Item) (t : Train) (x : ℕ) → SheetValues l
+    → speedFromPacket (toPacket wireChanges l) t x ≡ answerInFives (speedFromSheet (toSheet wireChanges l) t x)
+unfolding speedFromPacket speedFromSheet
+lowered-speed l t x c =
+    let m : List Item = givenBack (sheetFields wireChanges) l in
+    let taken : fromPacket wireChanges (toPacket wireChanges l) ≡ accepted m = ap (fromPacket wireChanges) (sym (lowered-packet l)) ∙ packet-taken m (lowered-good c) in
+    rw (taken, sheet-taken l c) (asked-lowered t x l c)
+
+-- in the words of the operations
+pub record Lowered (s packet : List ℕ) (t : Train) (x : ℕ) : Type 0 where
+  pub answered : speedFromPacket packet t x .refusal ≡ 0
+  pub greatest : GreatestFive (speedFromSheet s t x .speed) (speedFromPacket packet t x .speed)
+
+pub speed-again : (s room : List ℕ) (t : Train) (x : ℕ) → Bytes s → Done (sheetToPacket s room) → AnswerableSheet s t x
+    → Lowered s (result (sheetToPacket s room)) t x
+speed-again s room t x ok d a =
+    let c = sheet-converted s room ok .0 d in
+    let p : result (sheetToPacket s room) ≡ toPacket wireChanges (c .values) = ap result (sheet-result s room c) ∙ placed-result (toPacket wireChanges (c .values)) room in
+    let q : speedFromPacket (result (sheetToPacket s room)) t x ≡ answerInFives (speedFromSheet s t x) =
+    ap (λ (b : List ℕ). speedFromPacket b t x) p ∙ lowered-speed (c .values) t x (c .good) ∙ ap (λ (b : List ℕ). answerInFives (speedFromSheet b t x)) (sym (c .whole)) in
+    record {
+      answered = ap (λ (o : Speed). o .refusal) q ∙ ap (λ (o : Speed). o .refusal) (sheet-speed s t x a);
+      greatest = rw q (in-fives (speedFromSheet s t x .speed));
+    }

@@ -1,0 +1,153 @@
+-- The customer's second demand: "Every packet and sheet that keeps the published widths and ranges and the stated rules is converted if the room holds the result, and nothing else is."
+-- Assumes nothing.
+use mathlib.Core.Path.{_≡_, sym, ap, _∙_}
+use mathlib.Core.List.{List, []}
+use mathlib.Core.Logic.{_↔_}
+use Prim.Native.Nat.{ℕ, _*_, _/_, _≤_}
+use native.Mathlib.Omega.{arith}
+use lib.Dec.{lit≤}
+use lib.ListN.{length}
+use Rattle.bits.specs.Bits.{Bytes}
+use Rattle.kinds.specs.declared.Item.{Item}
+use Rattle.format.specs.Format.{Read, sheetNumbers}
+use Rattle.format.specs.Conforming.{InPacket, InSheet, givenBack}
+use Rattle.format.proofs.Lawful.{to-sheet}
+use Rattle.segment.specs.Segment.{fields, sheetFields, wireChanges}
+use Rattle.segment.specs.Frame.{packetOfBits}
+use Rattle.segment.specs.Judgement.{segmentNumber, fromPacket, afterNumber, toPacket, toSheet}
+use Rattle.segment.proofs.Ends.{sheetFields-lawful}
+use Rattle.speed.specs.declared.Train.{Train}
+use Rattle.speed.specs.Speed.{segmentLength, speedIn}
+use Rattle.question.specs.declared.Speed.{Speed}
+use Rattle.question.specs.Question.{speedFromPacket, speedFromSheet}
+use Rattle.altitude.specs.declared.Altitude.{Altitude}
+use Rattle.altitude.specs.Altitude.{centimetres, altitudeOf}
+use Rattle.convert.specs.Convert.{successWith, fitted, converted, packetToSheet, sheetToPacket}
+use Rattle.promises.specs.Promised.{PacketValues, SheetValues, PacketOfValues, AltitudeOf, LengthOf, heldAt, LowestOf, ConvertiblePacket, ConvertibleSheet, AnswerablePacket, AnswerableSheet, Done, result, spelled, spelledBits, spelledPacket, Lowering}
+use Rattle.promises.proofs.Held.{lowest-held}
+use Rattle.promises.proofs.Standing.{length-stands, altitude-stands}
+use Rattle.promises.proofs.Ranges.{packet-speed-fives}
+use Rattle.promises.proofs.Refused.{packets-on, altitude-values, altitude-answered as answered-altitude}
+use Rattle.promises.proofs.Values.{packet-taken, lowered-packet, lowered-good, packets, sheets, side-result, side-converted, side-speed, side-answered, placed-result, numbers-spelled, bits-spelled, lowering}
+
+module _ (s room : List ℕ) where
+  -- a packet is converted exactly when it is the packet of good values and the room holds their sheet
+  pub packet-converted : Bytes s → Done (packetToSheet s room) ↔ ConvertiblePacket s room
+  unfolding packetToSheet
+  packet-converted ok = side-converted packets (toSheet wireChanges) s room ok
+
+  -- and then the room begins with exactly that sheet, and keeps the bytes past it
+  pub packet-result : (c : ConvertiblePacket s room) → packetToSheet s room ≡ successWith (toSheet wireChanges (c .values)) room
+  unfolding packetToSheet
+  packet-result c = side-result packets (toSheet wireChanges) s room c
+
+  -- the same for sheets
+  pub sheet-converted : Bytes s → Done (sheetToPacket s room) ↔ ConvertibleSheet s room
+  unfolding sheetToPacket
+  sheet-converted ok = side-converted sheets (toPacket wireChanges) s room ok
+
+  pub sheet-result : (c : ConvertibleSheet s room) → sheetToPacket s room ≡ successWith (toPacket wireChanges (c .values)) room
+  unfolding sheetToPacket
+  sheet-result c = side-result sheets (toPacket wireChanges) s room c
+
+-- the sheet of a packet is the number of every field of every change, in order, and nothing else
+pub every-field : (l : List Item) → PacketValues l → toSheet wireChanges l ≡ spelled (sheetNumbers l)
+unfolding toSheet
+every-field l c = numbers-spelled c
+
+-- the packet of a sheet is the value of every field of every change in its width, in order, framed and padded, and nothing else
+pub every-bit : (l : List Item) → toPacket wireChanges l ≡ spelledPacket (spelledBits (fields wireChanges) (afterNumber l))
+unfolding toPacket
+every-bit l = ap (packetOfBits segmentNumber) (bits-spelled (fields wireChanges) (afterNumber l))
+
+-- "Packet read and written again: the same packet."
+pub packet-again : (s room back : List ℕ) → Bytes s → Done (packetToSheet s room) → length s ≤ length back
+    → sheetToPacket (result (packetToSheet s room)) back ≡ successWith s back
+packet-again s room back ok d h =
+    let c = packet-converted s room ok .0 d in
+    let l = c .values in
+    let t : result (packetToSheet s room) ≡ toSheet wireChanges l = ap result (packet-result s room c) ∙ placed-result (toSheet wireChanges l) room in
+    let g : SheetValues l = to-sheet (sheetFields-lawful wireChanges (lit≤ tt)) (c .good) in
+    let k : length (toPacket wireChanges l) ≤ length back = omega (arith, ap length (c .whole)) in
+    sheet-result (result (packetToSheet s room)) back (record { values = l; good = g; whole = t; holds = k }) ∙ ap (λ (x : List ℕ). successWith x back) (sym (c .whole))
+
+-- "Sheet written and read again: the same sheet, speeds lowered to multiples of 5 km/h and currents to multiples of 10 A."
+pub record Again (s room back : List ℕ) : Type 0 where
+  -- the sheet's values, and those lowered
+  pub values : List Item
+  pub lower : List Item
+  pub whole : s ≡ toSheet wireChanges values
+  pub good : SheetValues values
+  pub goodLower : PacketValues lower
+  pub lowers : Lowering (sheetFields wireChanges) values lower
+  pub again : packetToSheet (result (sheetToPacket s room)) back ≡ fitted (toSheet wireChanges lower) back
+
+pub sheet-again : (s room back : List ℕ) → Bytes s → Done (sheetToPacket s room) → Again s room back
+unfolding packetToSheet
+sheet-again s room back ok d =
+    let c = sheet-converted s room ok .0 d in
+    let l = c .values in
+    let m : List Item = givenBack (sheetFields wireChanges) l in
+    let t : result (sheetToPacket s room) ≡ toPacket wireChanges m =
+    ap result (sheet-result s room c) ∙ placed-result (toPacket wireChanges l) room ∙ sym (lowered-packet l) in
+    record {
+      values = l;
+      lower = m;
+      whole = c .whole;
+      good = c .good;
+      goodLower = lowered-good (c .good);
+      lowers = lowering (sheetFields-lawful wireChanges (lit≤ tt)) (c .good);
+      again = ap (λ (r : Read). converted (toSheet wireChanges) r back) (ap (fromPacket wireChanges) t ∙ packet-taken m (lowered-good (c .good)));
+    }
+
+-- "Every permitted speed is the one the speed rules give."
+module _ (s : List ℕ) (t : Train) (x : ℕ) where
+  -- a question is answered exactly for a packet of good values, a valid train and an x below L_SP
+  pub packet-answered : Bytes s → (speedFromPacket s t x .refusal ≡ 0) ↔ AnswerablePacket s t x
+  unfolding speedFromPacket
+  packet-answered ok = side-answered packets (toSheet wireChanges) s [] t x ok
+
+  -- and then the answer is the permitted speed of those values
+  pub packet-speed : (c : AnswerablePacket s t x) → speedFromPacket s t x ≡ record { refusal = 0; speed = speedIn t x (sheetNumbers (c .values)) }
+  unfolding speedFromPacket
+  packet-speed c = side-speed packets (toSheet wireChanges) s [] t x c
+
+  -- the same for sheets
+  pub sheet-answered : Bytes s → (speedFromSheet s t x .refusal ≡ 0) ↔ AnswerableSheet s t x
+  unfolding speedFromSheet
+  sheet-answered ok = side-answered sheets (toPacket wireChanges) s [] t x ok
+
+  pub sheet-speed : (c : AnswerableSheet s t x) → speedFromSheet s t x ≡ record { refusal = 0; speed = speedIn t x (sheetNumbers (c .values)) }
+  unfolding speedFromSheet
+  sheet-speed c = side-speed sheets (toPacket wireChanges) s [] t x c
+
+-- and "the lowest speed of the elements that hold there": some element holds, so it is never a speed that no element has
+module _ (s : List ℕ) (t : Train) (x : ℕ) where
+  pub packet-held : (c : AnswerablePacket s t x) → LowestOf (speedFromPacket s t x .speed) (heldAt t x (sheetNumbers (c .values)))
+  packet-held c = rw (packet-speed s t x c) (lowest-held t x (sheetNumbers (c .values)) (c .inside))
+
+  pub sheet-held : (c : AnswerableSheet s t x) → LowestOf (speedFromSheet s t x .speed) (heldAt t x (sheetNumbers (c .values)))
+  sheet-held c = rw (sheet-speed s t x c) (lowest-held t x (sheetNumbers (c .values)) (c .inside))
+
+-- "the packet's speeds times 5": a speed from a packet is a multiple of 5
+pub packet-fives : (s : List ℕ) (t : Train) (x : ℕ) → AnswerablePacket s t x → speedFromPacket s t x .speed ≡ speedFromPacket s t x .speed / 5 * 5
+packet-fives s t x c = rw (packet-speed s t x c) (packet-speed-fives t x (c .values) (c .good))
+
+-- the x of a question is below the number of L_SP
+pub packet-length : (l : List Item) → PacketValues l → LengthOf InPacket l (segmentLength (sheetNumbers l))
+packet-length l c = length-stands l c
+
+pub sheet-length : (l : List Item) → SheetValues l → LengthOf InSheet l (segmentLength (sheetNumbers l))
+sheet-length l c = length-stands l c
+
+-- "the altitude of a packet in signed centimetres": answered exactly for a packet of good values
+pub altitude-answered : (s : List ℕ) → Bytes s → (altitudeOf s .refusal ≡ 0) ↔ PacketOfValues s
+unfolding altitudeOf
+altitude-answered s ok = answered-altitude packets packets-on s ok
+
+-- and then with the value of their M_SP_Altitude, less 100,000
+pub altitude-value : (s : List ℕ) → Bytes s → (c : PacketOfValues s) → AltitudeOf (c .values) (altitudeOf s .altitude)
+unfolding altitudeOf
+altitude-value s ok c =
+    let a = altitude-stands (c .values) (c .good) in
+    record { item = a .0; stands = a .1; signed = ap (λ (o : Altitude). o .altitude) (altitude-values packets packets-on s ok c) ∙ ap centimetres (a .3) }

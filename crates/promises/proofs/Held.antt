@@ -1,0 +1,48 @@
+-- The permitted speed below L_SP is the lowest of the elements that hold, of which there is one.
+-- Assumes nothing.
+use mathlib.Core.Path.{_≡_, sym, subst}
+use mathlib.Core.List.{List, [], _∷_}
+use Prim.Native.Nat.{ℕ, _+_, _≤_, _<_, min}
+use native.Mathlib.Omega.{arith}
+use borrow.Author.Tests.{leb-true, leb-false}
+use lib.Dec.{leb}
+use lib.ListN.{drop, getD}
+use Rattle.bits.proofs.Tests.{by-cases}
+use Rattle.format.specs.Grounds.{Among, first, later}
+use Rattle.speed.specs.declared.Train.{Train}
+use Rattle.speed.specs.Speed.{lowest, instead, elementOf, afterElement, changesFrom, segmentLength, profileOf, speedIn}
+use Rattle.speed.proofs.Laws.{some-holds}
+use Rattle.promises.specs.Promised.{heldAt, LowestOf}
+
+lowest-front : (v : ℕ) (l : List ℕ) → lowest v l ≤ v
+lowest-front v [] = omega arith
+lowest-front v (w ∷ l) = omega (arith, lowest-front (min v w) l)
+
+lowest-under : (v w : ℕ) {l : List ℕ} → Among w l → lowest v l ≤ w
+lowest-under v w (first {l = l}) = omega (arith, lowest-front (min v w) l)
+lowest-under v w (later {b = b} a) = lowest-under (min v b) w a
+
+lowest-among : (v : ℕ) (l : List ℕ) → Among (lowest v l) (v ∷ l)
+lowest-among v [] = first
+lowest-among v (w ∷ l) =
+    by-cases (leb v w)
+    (λ d. let h = leb-true v w d in let e : min v w ≡ v = omega arith in rw e (front (lowest-among v l)))
+    (λ d. let h = leb-false v w d in let e : min v w ≡ w = omega arith in rw e (later (lowest-among w l)))
+  where
+    front : {m : ℕ} → Among m (v ∷ l) → Among m (v ∷ w ∷ l)
+    front first = first
+    front (later a) = later (later a)
+
+lowest-of : (v : ℕ) (l : List ℕ) → LowestOf (lowest v l) (v ∷ l)
+lowest-of v l = record { one = lowest-among v l; lowest = under }
+  where
+    under : (w : ℕ) → Among w (v ∷ l) → lowest v l ≤ w
+    under w first = lowest-front w l
+    under w (later a) = lowest-under v w a
+
+pub lowest-held : (t : Train) (x : ℕ) (s : List ℕ) → x < segmentLength s → LowestOf (speedIn t x s) (heldAt t x s)
+lowest-held t x s h =
+    let p = profileOf s in
+    let changed = changesFrom 0 (getD (afterElement p) 0 0) (drop 1 (afterElement p)) in
+    some-holds t (segmentLength s) x (elementOf (0 + 0) p) changed (omega arith) h λ v m e.
+    subst (λ (l : List ℕ). LowestOf (instead 0 l) l) (sym e) (lowest-of v m)

@@ -1,0 +1,35 @@
+-- Each refusal that an operation lists is given: by one table of inputs for each operation.
+-- Assumes nothing.
+use mathlib.Core.Path.{_≡_, refl}
+use mathlib.Core.List.{[], map}
+use Rattle.bits.specs.Bits.{fieldAt}
+use Rattle.numbers.specs.Numbers.{numberOf, groupsIn}
+use Rattle.kinds.specs.Kinds.{digits}
+use Rattle.kinds.specs.Tables.{place}
+use Rattle.segment.specs.Segment.{entries, changes, lists, body, fields, sheetFields}
+use Rattle.segment.specs.Judgement.{fromPacket, fromSheet, toPacket, toSheet}
+use Rattle.question.specs.Question.{speedFromPacket, speedFromSheet}
+use Rattle.altitude.specs.Altitude.{altitudeOf}
+use Rattle.convert.specs.Convert.{packetToSheet, sheetToPacket}
+use Rattle.promises.specs.Refused.{packetToSheetRefusals, sheetToPacketRefusals, speedFromPacketRefusals, speedFromSheetRefusals, altitudeRefusals}
+use Rattle.promises.specs.Samples.{refusedPackets, convertedPackets, convertedSheets, askedPackets, askedSheets}
+
+pub packet-to-sheet-reached : map (λ s. packetToSheet s [] .answer .refusal) convertedPackets ≡ packetToSheetRefusals
+unfolding fieldAt numberOf groupsIn digits place entries changes lists body fields sheetFields fromPacket toPacket toSheet packetToSheet
+packet-to-sheet-reached = refl
+
+pub sheet-to-packet-reached : map (λ s. sheetToPacket s [] .answer .refusal) convertedSheets ≡ sheetToPacketRefusals
+unfolding fieldAt numberOf groupsIn digits place entries changes lists body fields sheetFields fromSheet toPacket toSheet sheetToPacket
+sheet-to-packet-reached = refl
+
+pub speed-from-packet-reached : map (λ q. speedFromPacket (q .bytes) (q .of) (q .x) .refusal) askedPackets ≡ speedFromPacketRefusals
+unfolding fieldAt numberOf groupsIn digits place entries changes lists body fields sheetFields fromPacket toPacket speedFromPacket
+speed-from-packet-reached = refl
+
+pub speed-from-sheet-reached : map (λ q. speedFromSheet (q .bytes) (q .of) (q .x) .refusal) askedSheets ≡ speedFromSheetRefusals
+unfolding fieldAt numberOf groupsIn digits place entries changes lists body fields sheetFields fromSheet toSheet speedFromSheet
+speed-from-sheet-reached = refl
+
+pub altitude-of-packet-reached : map (λ s. altitudeOf s .refusal) refusedPackets ≡ altitudeRefusals
+unfolding fieldAt numberOf groupsIn digits place entries changes lists body fields sheetFields fromPacket toPacket altitudeOf
+altitude-of-packet-reached = refl

@@ -1,0 +1,217 @@
+-- What the promises rest on: packets and sheets of good values, a conversion's outcomes, and the lowering of any tree's numbers.
+-- Assumes nothing.
+use mathlib.Core.Path.{_≡_, refl, sym, ap, ap₂, _∙_}
+use mathlib.Core.Bool.{Bool, true, _&&_}
+use mathlib.Core.List.{List, [], _∷_, _++_}
+use mathlib.Core.Option.{some}
+use mathlib.Core.Logic.{_↔_}
+use Prim.Native.Nat.{ℕ, _/_, _≤_}
+use lib.IntN.{pos}
+use native.Mathlib.Omega.{arith}
+use borrow.Author.Tests.{leb-true, ltb-true, ltb-false, le-ltb, lt-ltb}
+use lib.Dec.{leb, ltb, lit<, lit≤}
+use lib.ListN.{length, drop}
+use lib.Seq.{take-at}
+use Rattle.bits.specs.Bits.{Bytes, bitsOf}
+use Rattle.bits.proofs.Tests.{by-cases, and-left, and-right}
+use Rattle.numbers.specs.Numbers.{groupsIn}
+use Rattle.kinds.specs.declared.Item.{Item}
+use Rattle.kinds.specs.Kind.{Kind}
+use Rattle.kinds.specs.Kinds.{speed, mCurrent}
+use Rattle.fields.proofs.Lawful.{LawfulKind, speed-lowered, current-lowered}
+use Rattle.format.specs.Format.{Format, end, field, Read, accepted, refused, write, answerOf, sheetNumbers}
+use Rattle.format.specs.Media.{packet, sheet}
+use Rattle.format.specs.Conforming.{Conforming, done, also, InSheet, givenBack}
+use Rattle.format.proofs.Lawful.{Lawful, goes, to-packet, lowered-bits}
+use Rattle.format.proofs.Media.{sheet-again, sheet-only}
+use Rattle.segment.specs.Segment.{fields, sheetFields, wireChanges}
+use Rattle.segment.specs.Frame.{packetOfBits, numberItem}
+use Rattle.segment.specs.Judgement.{segmentNumber, fromPacket, fromSheet, toPacket, toSheet}
+use Rattle.segment.proofs.Framing.{framed-again, framed-only}
+use Rattle.segment.proofs.Ends.{sheetFields-lawful, bits-least, bits-most}
+use Rattle.segment.proofs.Refusals.{packet-refusal, sheet-refusal}
+use Rattle.speed.specs.declared.Train.{Train}
+use Rattle.speed.specs.Speed.{validTrain, segmentLength, speedIn, inFives}
+use Rattle.speed.proofs.Lowering.{length-stays, speed-in-fives}
+use Rattle.question.specs.declared.Speed.{Speed}
+use Rattle.question.specs.Question.{noSpeed, judgedSpeed, speedOfValues}
+use Rattle.altitude.specs.Altitude.{altitudeOfRead}
+use Rattle.convert.specs.Convert.{Outcome, refusedWith, successWith, fitted, converted}
+use Rattle.promises.specs.Promised.{PacketValues, SheetValues, Convertible, Answerable, answerInFives, GreatestFive, Done, result, spelled, spelledBits, LoweredTo, Lowering, over, one}
+
+-- ---- packets and sheets of good values
+
+-- the packet number's item
+number-is : (i : Item) → (leb 6 (i .packet) && leb (i .packet) 6) ≡ true → i .sheet ≡ i .packet → i ≡ numberItem 6
+number-is i a r =
+    let l : 6 ≤ i .packet = leb-true 6 (i .packet) (and-left (leb 6 (i .packet)) (leb (i .packet) 6) a) in
+    let h : i .packet ≤ 6 = leb-true (i .packet) 6 (and-right (leb 6 (i .packet)) (leb (i .packet) 6) a) in
+    let p : i .packet ≡ 6 = omega arith in
+    let q : i .sheet ≡ 6 = omega arith in
+    λ j. record { sheet = q j; packet = p j }
+
+pub packet-values : (s : List ℕ) (l : List Item) → Bytes s → fromPacket wireChanges s ≡ accepted l → PacketValues l × (s ≡ toPacket wireChanges l)
+unfolding fromPacket toPacket sheetFields
+packet-values s l ok e =
+    let r = framed-only segmentNumber (fields wireChanges) s l ok e in
+    let c : PacketValues (numberItem 6 ∷ r .values) = also {i = numberItem 6} (record { allowed = refl; fits = lit< tt; raised = refl }) (r .good) in
+    rw (r .all) (c, r .bytes)
+
+pub packet-taken : (l : List Item) → PacketValues l → fromPacket wireChanges (toPacket wireChanges l) ≡ accepted l
+unfolding fromPacket toPacket sheetFields
+packet-taken (i ∷ l) (also g c) =
+    let q : i ≡ numberItem 6 = number-is i (g .allowed) (g .raised) in
+    let low = bits-least wireChanges (lit≤ tt) c in
+    let high = bits-most wireChanges (lit≤ tt) c in
+    framed-again segmentNumber (fields wireChanges) l (lit< tt) c (omega arith) (omega arith) ∙ ap (λ (j : Item). accepted (j ∷ l)) (sym q)
+
+pub sheet-values : (s : List ℕ) (l : List Item) → Bytes s → fromSheet wireChanges s ≡ accepted l → SheetValues l × (s ≡ toSheet wireChanges l)
+unfolding fromSheet toSheet
+sheet-values s l ok e = sheet-only (sheetFields wireChanges) s l ok e
+
+pub sheet-taken : (l : List Item) → SheetValues l → fromSheet wireChanges (toSheet wireChanges l) ≡ accepted l
+unfolding fromSheet toSheet
+sheet-taken l c = sheet-again c
+
+-- lowering leaves the packet
+pub lowered-packet : (l : List Item) → toPacket wireChanges (givenBack (sheetFields wireChanges) l) ≡ toPacket wireChanges l
+unfolding toPacket sheetFields
+lowered-packet [] = refl
+lowered-packet (i ∷ l) = ap (packetOfBits segmentNumber) (lowered-bits (fields wireChanges) l)
+
+pub lowered-good : {l : List Item} → SheetValues l → PacketValues (givenBack (sheetFields wireChanges) l)
+lowered-good c = to-packet (sheetFields-lawful wireChanges (lit≤ tt)) c
+
+-- ---- a conversion's outcomes, whatever judges and writes
+
+module _ (write : List Item → List ℕ) (r : Read) (room : List ℕ) where
+  pub written : (l : List Item) → r ≡ accepted l → length (write l) ≤ length room → converted write r room ≡ successWith (write l) room
+  written l e h = ap (λ (t : Read). converted write t room) e ∙ rw (le-ltb (length room) (length (write l)) h)
+
+  -- "A refusal returns its number and writes nothing"
+  pub kept : (Done (converted write r room) → ⊥) → converted write r room ≡ refusedWith (converted write r room .answer .refusal) room
+  kept n = go r n
+    where
+      short : (l : List Item) → (Done (fitted (write l) room) → ⊥) → fitted (write l) room ≡ refusedWith (fitted (write l) room .answer .refusal) room
+      short l m = by-cases (ltb (length room) (length (write l))) (λ d. rw d) (λ d. absurd (m (rw d)))
+
+      go : (t : Read) → (Done (converted write t room) → ⊥) → converted write t room ≡ refusedWith (converted write t room .answer .refusal) room
+      go (refused q left) m = refl
+      go (accepted l) m = short l m
+
+  -- what is done was accepted, and fits
+  pub done-only : {C : Type 0} → ((q left : ℕ) → r ≡ refused q left → 1 ≤ q) → Done (converted write r room)
+      → ((l : List Item) → r ≡ accepted l → length (write l) ≤ length room → C) → C
+  done-only {C} least d k = go r refl
+    where
+      go : (t : Read) → r ≡ t → C
+      go (refused q left) e = absurd (let z : q ≡ 0 = rw e at d in omega (arith, least q left e))
+      go (accepted l) e =
+          let f : Done (fitted (write l) room) = rw e at d in
+          by-cases (ltb (length room) (length (write l)))
+          (λ x. let z : _≡_ {A = ℕ} 8 0 = rw x at f in absurd (omega arith))
+          (λ x. k l e (ltb-false (length room) (length (write l)) x))
+
+-- ---- one side: what judges it, and what it is written of
+
+pub record Side (judge : List ℕ → Read) (Good : List Item → Type 0) (input : List Item → List ℕ) : Type 0 where
+  pub only : (s : List ℕ) (l : List Item) → Bytes s → judge s ≡ accepted l → Good l × (s ≡ input l)
+  pub again : (l : List Item) → Good l → judge (input l) ≡ accepted l
+  pub refuses : (s : List ℕ) → Bytes s → (q left : ℕ) → judge s ≡ refused q left → 1 ≤ q
+
+pub packets : Side (fromPacket wireChanges) PacketValues (toPacket wireChanges)
+packets = record { only = packet-values; again = packet-taken; refuses = λ s ok q left e. packet-refusal wireChanges s q left e }
+
+pub sheets : Side (fromSheet wireChanges) SheetValues (toSheet wireChanges)
+sheets = record { only = sheet-values; again = sheet-taken; refuses = λ s ok q left e. sheet-refusal wireChanges s q left ok e }
+
+module _ {judge : List ℕ → Read} {Good : List Item → Type 0} {input : List Item → List ℕ} (side : Side judge Good input) (write : List Item → List ℕ) (s room : List ℕ) where
+  pub side-result : (c : Convertible Good input write s room) → converted write (judge s) room ≡ successWith (write (c .values)) room
+  side-result c = written write (judge s) room (c .values) (ap judge (c .whole) ∙ side .again (c .values) (c .good)) (c .holds)
+
+  pub side-converted : Bytes s → Done (converted write (judge s) room) ↔ Convertible Good input write s room
+  side-converted ok = (only, λ c. ap (λ (o : Outcome). o .answer .refusal) (side-result c))
+    where
+      only : Done (converted write (judge s) room) → Convertible Good input write s room
+      only d =
+          done-only write (judge s) room (side .refuses s ok) d λ l e h.
+          let p = side .only s l ok e in
+          record { values = l; good = p .0; whole = p .1; holds = h }
+
+  -- a question on speed is answered exactly where the input is written of good values, the train is valid and x below L_SP
+  module _ (t : Train) (x : ℕ) where
+    pub side-speed : (c : Answerable Good input s t x) → answerOf noSpeed (speedOfValues t x) (judge s) ≡ record { refusal = 0; speed = speedIn t x (sheetNumbers (c .values)) }
+    side-speed c =
+        let l = c .values in
+        ap (answerOf noSpeed (speedOfValues t x)) (ap judge (c .whole) ∙ side .again l (c .good)) ∙ rw (c .valid, lt-ltb x (segmentLength (sheetNumbers l)) (c .inside))
+
+    pub side-answered : Bytes s → (answerOf noSpeed (speedOfValues t x) (judge s) .refusal ≡ 0) ↔ Answerable Good input s t x
+    side-answered ok = (λ d. go (judge s) refl d, λ c. ap (λ (o : Speed). o .refusal) (side-speed c))
+      where
+        inside : (l : List Item) → judge s ≡ accepted l → speedOfValues t x l .refusal ≡ 0 → Answerable Good input s t x
+        inside l e d =
+            let p = side .only s l ok e in
+            by-cases (validTrain t)
+            (λ v. by-cases (ltb x (segmentLength (sheetNumbers l)))
+            (λ b. record { values = l; good = p .0; whole = p .1; valid = v; inside = ltb-true x (segmentLength (sheetNumbers l)) b })
+            (λ b. let z : _≡_ {A = ℕ} 11 0 = rw (v, b) at d in absurd (omega arith)))
+            (λ v. let z : _≡_ {A = ℕ} 10 0 = rw v at d in absurd (omega arith))
+
+        go : (r : Read) → judge s ≡ r → answerOf noSpeed (speedOfValues t x) r .refusal ≡ 0 → Answerable Good input s t x
+        go (accepted l) e d = inside l e d
+        go (refused q left) e d = absurd (omega (arith, side .refuses s ok q left e))
+
+-- "a refusal .. returns its number with length, speed or altitude 0"
+pub speed-none : (t : Train) (x : ℕ) (r : Read) → (answerOf noSpeed (speedOfValues t x) r .refusal ≡ 0 → ⊥) → answerOf noSpeed (speedOfValues t x) r .speed ≡ 0
+speed-none t x (refused q left) n = refl
+speed-none t x (accepted l) n =
+    by-cases (validTrain t)
+    (λ v. by-cases (ltb x (segmentLength (sheetNumbers l))) (λ b. absurd (n (rw (v, b)))) (λ b. rw (v, b)))
+    (λ v. rw v)
+
+pub altitude-none : (r : Read) → (altitudeOfRead r .refusal ≡ 0 → ⊥) → altitudeOfRead r .altitude ≡ pos 0
+altitude-none (refused q left) n = refl
+altitude-none (accepted l) n = absurd (n refl)
+
+-- ---- the greatest multiple of 5
+
+pub in-fives : (v : ℕ) → GreatestFive v (inFives v)
+in-fives v = record { fives = v / 5; multiple = refl; notAbove = omega arith; greatest = λ n h. omega arith }
+
+-- the answer from lowered values
+answered-lowered : (t : Train) (x lsp v : ℕ) → judgedSpeed t x lsp (inFives v) ≡ answerInFives (judgedSpeed t x lsp v)
+answered-lowered t x lsp v = by-cases (validTrain t) (λ e. by-cases (ltb x lsp) (λ b. rw (e, b)) (λ b. rw (e, b))) (λ e. rw e)
+
+pub asked-lowered : (t : Train) (x : ℕ) (l : List Item) → SheetValues l
+    → speedOfValues t x (givenBack (sheetFields wireChanges) l) ≡ answerInFives (speedOfValues t x l)
+asked-lowered t x l c =
+    ap₂ (judgedSpeed t x) (length-stays l c) (speed-in-fives t x l c) ∙ answered-lowered t x (segmentLength (sheetNumbers l)) (speedIn t x (sheetNumbers l))
+
+-- the result of what is placed
+pub placed-result : (bytes room : List ℕ) → result (successWith bytes room) ≡ bytes
+placed-result bytes room = take-at bytes (drop (length bytes) room) (length bytes) refl
+
+-- ---- the numbers of any tree's fields
+
+-- what a sheet says: every field's number, and nothing else
+pub numbers-spelled : {f : Format} {l : List Item} {Good : Kind → Item → Type 0} → Conforming Good f l → write sheet f l ≡ spelled (sheetNumbers l)
+numbers-spelled done = refl
+numbers-spelled (also {i = i} g c) = ap (λ (s : List ℕ). groupsIn (i .sheet) ++ s) (numbers-spelled c)
+
+-- what a packet's fields say: every field's value in its width, and nothing else
+pub bits-spelled : (f : Format) (l : List Item) → write packet f l ≡ spelledBits f l
+bits-spelled end l = refl
+bits-spelled (field k next) [] = refl
+bits-spelled (field k next) (i ∷ l) = ap (λ (b : List Bool). bitsOf (k .width) (i .packet) ++ b) (bits-spelled (next (i .packet)) l)
+
+pub lowered-to : (k : Kind) → LawfulKind k → (a v : ℕ) → k .lower a ≡ some v → LoweredTo k a (k .raise v)
+lowered-to k w a v e = record {
+  speeds = λ q. let d : speed .lower a ≡ some v = rw q at e in rw q (speed-lowered a v d);
+  currents = λ q. let d : mCurrent .lower a ≡ some v = rw q at e in rw q (current-lowered a v d);
+  others = λ m n. w .stays m n a v e;
+}
+
+pub lowering : {f : Format} {l : List Item} → Lawful f → Conforming InSheet f l → Lowering f l (givenBack f l)
+lowering w done = over
+lowering (goes {k = k} lawful rest) (also {i = i} g c) =
+    one {i = i} (lowered-to k lawful (i .sheet) (i .packet) (g .lowered)) (lowering (rest (i .packet) (lawful .into (i .sheet) (i .packet) (g .lowered))) c)

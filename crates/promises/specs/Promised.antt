@@ -1,0 +1,159 @@
+-- The words of the promises: what is converted, what is answered, and what lowering makes of a sheet's numbers.
+-- Assumes nothing.
+use mathlib.Core.Path.{_≡_}
+use mathlib.Core.Bool.{Bool, true, cond}
+use mathlib.Core.List.{List, [], _∷_, _++_}
+use Prim.Native.Nat.{ℕ, _+_, _*_, _-_, _/_, _≤_, _<_}
+use lib.Dec.{eqb}
+use lib.IntN.{ℤ, pos, _-ℤ_}
+use lib.ListN.{length, take}
+use Rattle.bits.specs.Bits.{bitsOf, bytesOfBits}
+use Rattle.numbers.specs.Numbers.{groupsIn}
+use Rattle.kinds.specs.declared.Item.{Item}
+use Rattle.kinds.specs.Kind.{Kind}
+use Rattle.kinds.specs.Kinds.{lSp, mSpAltitude, speed, mCurrent}
+use Rattle.format.specs.Format.{Format, end, field, sheetNumbers}
+use Rattle.format.specs.Conforming.{Conforming, InPacket, InSheet}
+use Rattle.format.specs.Grounds.{Front, Among}
+use Rattle.segment.specs.Segment.{sheetFields, wireChanges}
+use Rattle.segment.specs.Judgement.{toPacket, toSheet}
+use Rattle.speed.specs.declared.Train.{Train}
+use Rattle.speed.specs.Speed.{validTrain, heldSpeeds, elementsFrom, segmentLength, profileOf, inFives}
+use Rattle.question.specs.declared.Speed.{Speed}
+use Rattle.convert.specs.Convert.{Outcome}
+
+-- "keeps the published widths and ranges and the stated rules": one good value for each field of the tree, and no more
+abbrev pub PacketValues : List Item → Type 0
+PacketValues l = Conforming InPacket (sheetFields wireChanges) l
+
+-- "keeps the published widths and ranges and the stated rules": the same of a sheet
+abbrev pub SheetValues : List Item → Type 0
+SheetValues l = Conforming InSheet (sheetFields wireChanges) l
+
+-- the input is written of good values, as "When a packet is written"
+pub record OfValues (Good : List Item → Type 0) (input : List Item → List ℕ) (s : List ℕ) : Type 0 where
+  pub values : List Item
+  pub good : Good values
+  pub whole : s ≡ input values
+
+-- a packet that "keeps the published widths and ranges and the stated rules"
+abbrev pub PacketOfValues : List ℕ → Type 0
+PacketOfValues s = OfValues PacketValues (toPacket wireChanges) s
+
+-- "is converted if the room holds the result": the input is written of good values, and the room holds what is written of them
+pub record Convertible (Good : List Item → Type 0) (input result : List Item → List ℕ) (s room : List ℕ) : Type 0 where
+  pub values : List Item
+  pub good : Good values
+  pub whole : s ≡ input values
+  pub holds : length (result values) ≤ length room
+
+-- "Every packet .. is converted if the room holds the result"
+abbrev pub ConvertiblePacket : List ℕ → List ℕ → Type 0
+ConvertiblePacket s room = Convertible PacketValues (toPacket wireChanges) (toSheet wireChanges) s room
+
+-- "Every .. sheet .. is converted if the room holds the result"
+abbrev pub ConvertibleSheet : List ℕ → List ℕ → Type 0
+ConvertibleSheet s room = Convertible SheetValues (toSheet wireChanges) (toPacket wireChanges) s room
+
+-- the input is written of good values, the train is valid, and x is "from 0 to L_SP - 1"
+pub record Answerable (Good : List Item → Type 0) (input : List Item → List ℕ) (s : List ℕ) (t : Train) (x : ℕ) : Type 0 where
+  pub values : List Item
+  pub good : Good values
+  pub whole : s ≡ input values
+  pub valid : validTrain t ≡ true
+  pub inside : x < segmentLength (sheetNumbers values)
+
+-- "speed from a packet": when it is answered
+abbrev pub AnswerablePacket : List ℕ → Train → ℕ → Type 0
+AnswerablePacket s t x = Answerable PacketValues (toPacket wireChanges) s t x
+
+-- "speed from a sheet": when it is answered
+abbrev pub AnswerableSheet : List ℕ → Train → ℕ → Type 0
+AnswerableSheet s t x = Answerable SheetValues (toSheet wireChanges) s t x
+
+-- "the greatest multiple of 5 not above the speed from the sheet": the same answer with its speed lowered so
+abbrev pub answerInFives : Speed → Speed
+answerInFives o = record { refusal = o .refusal; speed = inFives (o .speed) }
+
+-- w is "the greatest multiple of 5 not above" v
+pub record GreatestFive (v w : ℕ) : Type 0 where
+  pub fives : ℕ
+  pub multiple : w ≡ fives * 5
+  pub notAbove : w ≤ v
+  pub greatest : (n : ℕ) → n * 5 ≤ v → n * 5 ≤ w
+
+-- "converted": the answer is no refusal
+abbrev pub Done : Outcome → Type 0
+Done o = o .answer .refusal ≡ 0
+
+-- "Success returns the length": as many of the room's bytes
+abbrev pub result : Outcome → List ℕ
+result o = take (o .answer .length) (o .room)
+
+-- "numbers one after the other, each in groups of seven bits"
+abbrev pub spelled : List ℕ → List ℕ
+spelled [] = []
+spelled (a ∷ l) = groupsIn a ++ spelled l
+
+-- "each field most significant bit first": every value in its own width, one after the other
+abbrev pub spelledBits : Format → List Item → List Bool
+spelledBits end l = []
+spelledBits (field k next) [] = []
+spelledBits (field k next) (i ∷ l) = bitsOf (k .width) (i .packet) ++ spelledBits (next (i .packet)) l
+
+-- "Header, 120 bits: NID_PACKET_ATO 8 (6 on our link), L_PACKET_ATO 16", then every field after the packet number; "Zero bits pad it to a whole byte"
+abbrev pub spelledPacket : List Bool → List ℕ
+spelledPacket bits = bytesOfBits (bitsOf 8 6 ++ (bitsOf 16 (length bits - 96) ++ bits))
+
+-- "amperes + 1", lowered "to multiples of 10 A"; 0, for no limit, stays
+abbrev pub loweredCurrent : ℕ → ℕ
+loweredCurrent a = cond (eqb a 0) 0 ((a - 1) / 10 * 10 + 1)
+
+-- "speeds lowered to multiples of 5 km/h and currents to multiples of 10 A", and every other number the same
+pub record LoweredTo (k : Kind) (a b : ℕ) : Type 0 where
+  pub speeds : k ≡ speed → b ≡ a / 5 * 5
+  pub currents : k ≡ mCurrent → b ≡ loweredCurrent a
+  pub others : (k ≡ speed → ⊥) → (k ≡ mCurrent → ⊥) → b ≡ a
+
+-- "in every field after that lowering": field by field
+pub data Lowering : Format → List Item → List Item → Type 0 where
+  over : Lowering end [] []
+  one : {k : Kind} {next : ℕ → Format} {i j : Item} {l m : List Item} → LoweredTo k (i .sheet) (j .sheet) → Lowering (next (i .packet)) l m
+      → Lowering (field k next) (i ∷ l) (j ∷ m)
+
+-- "they agree in every field after that lowering": both are lowered, field by field, to the same numbers
+pub record Agreeing (l m : List Item) : Type 0 where
+  pub lower : List Item
+  pub first : Lowering (sheetFields wireChanges) l lower
+  pub second : Lowering (sheetFields wireChanges) m lower
+
+-- ---- the values that a question is about
+
+-- "field order on our link": the item stands where the tree has a field of this kind, after values that conform to the front of the tree
+pub record StandsAt (Good : Kind → Item → Type 0) (f : Format) (k : Kind) (l : List Item) (i : Item) : Type 0 where
+  pub before : List Item
+  pub after : List Item
+  pub next : ℕ → Format
+  pub front : Front Good f before (field k next)
+  pub split : l ≡ before ++ i ∷ after
+
+-- "the altitude of a packet in signed centimetres": the value of M_SP_Altitude, less the 100,000 that is added when it is sent
+pub record AltitudeOf (l : List Item) (a : ℤ) : Type 0 where
+  pub item : Item
+  pub stands : StandsAt InPacket (sheetFields wireChanges) mSpAltitude l item
+  pub signed : a ≡ pos (item .packet) -ℤ pos 100000
+
+-- "L_SP 24 (1 to 16,777,215 cm)": its number
+pub record LengthOf (Good : Kind → Item → Type 0) (l : List Item) (n : ℕ) : Type 0 where
+  pub item : Item
+  pub stands : StandsAt Good (sheetFields wireChanges) lSp l item
+  pub number : n ≡ item .sheet
+
+-- "the elements that hold there": the speeds of those at x
+abbrev pub heldAt : Train → ℕ → List ℕ → List ℕ
+heldAt t x s = heldSpeeds t (segmentLength s) x (elementsFrom 0 (profileOf s))
+
+-- "the lowest speed of the elements that hold there", of which there is one
+pub record LowestOf (v : ℕ) (l : List ℕ) : Type 0 where
+  pub one : Among v l
+  pub lowest : (w : ℕ) → Among w l → v ≤ w

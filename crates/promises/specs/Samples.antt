@@ -1,0 +1,64 @@
+-- An input for each refusal that an operation lists, in the order of the list.
+-- Assumes nothing.
+use mathlib.Core.Bool.{false}
+use mathlib.Core.List.{List, [], _∷_, _++_}
+use Prim.Native.Nat.{ℕ}
+use lib.ListN.{replicate}
+use Rattle.kinds.specs.declared.Item.{Item}
+use Rattle.segment.specs.Segment.{wireChanges}
+use Rattle.segment.specs.Judgement.{toPacket, toSheet}
+use Rattle.segment.specs.Desk.{packetWith, firstPacket, firstSheet}
+use Rattle.speed.specs.declared.Train.{Train}
+
+-- "They equal the packet fields": a value that is the same number in both
+abbrev item : ℕ → Item
+item v = record { sheet = v; packet = v }
+
+-- "a change's location that .. is 0": values up to that location
+abbrev fallen : List Item
+fallen = item 6 ∷ replicate 9 (item 0) ++ item 1 ∷ replicate 6 (item 0) ++ item 1 ∷ item 0 ∷ []
+
+-- 1: no byte. 2: the number 7. 3: a body of 1 bit in no byte. 4: the digit A. 5: a change at 0. 6: a body of no bit. 7: the document's, "Last byte 01"
+abbrev pub refusedPackets : List (List ℕ)
+refusedPackets =
+    [] ∷ (7 ∷ replicate 14 0) ∷ (6 ∷ 0 ∷ 1 ∷ replicate 12 0) ∷ (6 ∷ 0 ∷ 0 ∷ 0xA0 ∷ replicate 11 0) ∷ toPacket wireChanges fallen
+    ∷ (6 ∷ replicate 14 0) ∷ packetWith 0x01 0x00 0x3F 0xF0 0x01 ∷ []
+
+-- 2, "packet number is not 6": the number 7. 4, "a field outside its .. set": the digit A. 5, "is 0": a change at 0
+abbrev pub refusedSheets : List (List ℕ)
+refusedSheets = (7 ∷ []) ∷ (6 ∷ 10 ∷ []) ∷ toSheet wireChanges fallen ∷ []
+
+-- "A train has a length (1 to 150,000 cm)": one of this length
+abbrev train : ℕ → Train
+train length = record { length = length; cant = 80; «freight_p» = false; «freight_g» = false; passenger = false }
+
+-- "x at or past L_SP": a question of a train at x
+pub record Sample : Type 0 where
+  pub bytes : List ℕ
+  pub of : Train
+  pub x : ℕ
+
+-- "A packet is judged" before the train: a question with a valid train
+abbrev pub questions : List (List ℕ) → List Sample
+questions [] = []
+questions (s ∷ l) = record { bytes = s; of = train 1; x = 0 } ∷ questions l
+
+-- 10, "train length .. not allowed": a train of no length. 11, "x at or past L_SP": L_SP is 1
+abbrev pub lateQuestions : List ℕ → List Sample
+lateQuestions s = record { bytes = s; of = train 0; x = 1 } ∷ record { bytes = s; of = train 1; x = 1 } ∷ []
+
+-- 8, "result longer than the lent room": a result in no room
+abbrev pub convertedPackets : List (List ℕ)
+convertedPackets = refusedPackets ++ firstPacket ∷ []
+
+-- 9, "sheet ends too soon": no byte
+abbrev pub convertedSheets : List (List ℕ)
+convertedSheets = refusedSheets ++ firstSheet ∷ [] ∷ []
+
+-- "speed from a packet"
+abbrev pub askedPackets : List Sample
+askedPackets = questions refusedPackets ++ lateQuestions firstPacket
+
+-- "speed from a sheet"
+abbrev pub askedSheets : List Sample
+askedSheets = questions (refusedSheets ++ [] ∷ []) ++ lateQuestions firstSheet
