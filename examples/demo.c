@@ -1,4 +1,4 @@
-// Reads a packet from standard input, converts it to its sheet and back, and answers the permitted speed of three trains at two places.
+// Reads a packet from standard input and converts it to its sheet and back; of a segment, answers the permitted speed of three trains at two places.
 #include <stdio.h>
 #include <string.h>
 
@@ -13,6 +13,7 @@ static const struct {
     {"freight G, 40 m,  80 mm", {.length = 4000, .cant = 80, .freight_g = true}},
 };
 static const uint32_t PLACES[] = {6000, 11800};
+enum { JOURNEY = 4 };
 
 static void print_bytes(const char *what, const uint8_t *bytes, size_t count)
 {
@@ -33,7 +34,7 @@ static void print_speed(seglink_speed answer)
 // Back from the sheet: whether it is the packet again.
 static void print_back(const uint8_t *packet, size_t packet_len, const uint8_t *sheet, size_t sheet_len)
 {
-    uint8_t again[SEGLINK_LARGEST_PACKET];
+    uint8_t again[SEGLINK_LARGEST_JOURNEY_PACKET];
     seglink_converted back = seglink_sheet_to_packet(sheet, sheet_len, again, sizeof again);
     bool same = back.length == packet_len && memcmp(packet, again, packet_len) == 0;
     printf("Back from the sheet, %u bytes: %s.\n", (unsigned)back.length, same ? "the same packet" : "ANOTHER PACKET");
@@ -54,7 +55,7 @@ static void print_speeds(const uint8_t *packet, size_t packet_len)
 int main(void)
 {
     // a byte more than the largest packet, so that a longer input is refused and not cut
-    uint8_t packet[SEGLINK_LARGEST_PACKET + 1], sheet[SEGLINK_LARGEST_SHEET];
+    uint8_t packet[SEGLINK_LARGEST_JOURNEY_PACKET + 1], sheet[SEGLINK_LARGEST_JOURNEY_SHEET];
     size_t length = fread(packet, 1, sizeof packet, stdin);
     print_bytes("The packet", packet, length);
     seglink_converted there = seglink_packet_to_sheet(packet, length, sheet, sizeof sheet);
@@ -64,6 +65,7 @@ int main(void)
     }
     print_bytes("Its sheet", sheet, there.length);
     print_back(packet, length, sheet, there.length);
-    print_speeds(packet, length);
+    if (packet[0] != JOURNEY)
+        print_speeds(packet, length);
     return 0;
 }

@@ -1,4 +1,5 @@
-// Reads a sheet as text, a number at the start of each line, and writes its packet: examples/sample.numbers makes examples/sample.packet.
+// Reads a sheet as text, a number at the start of each line, and writes its packet: examples/sample.numbers makes examples/sample.packet,
+// a segment's, and examples/journey.numbers examples/journey.packet.
 #include <stdio.h>
 #include <stdlib.h>
 
@@ -29,12 +30,12 @@ static bool number_of(const char *line, uint32_t *number)
 }
 
 // The sheet of the numbers on standard input, and its length; a line that starts with no number is passed over.
-static size_t read_sheet(uint8_t sheet[SEGLINK_LARGEST_SHEET + LONGEST_NUMBER])
+static size_t read_sheet(uint8_t sheet[SEGLINK_LARGEST_JOURNEY_SHEET + LONGEST_NUMBER])
 {
     char line[LINE];
     uint32_t number;
     size_t length = 0;
-    while (length <= SEGLINK_LARGEST_SHEET && fgets(line, sizeof line, stdin) != NULL)
+    while (length <= SEGLINK_LARGEST_JOURNEY_SHEET && fgets(line, sizeof line, stdin) != NULL)
         if (number_of(line, &number))
             length = put_number(sheet, length, number);
     return length;
@@ -42,7 +43,7 @@ static size_t read_sheet(uint8_t sheet[SEGLINK_LARGEST_SHEET + LONGEST_NUMBER])
 
 int main(void)
 {
-    uint8_t sheet[SEGLINK_LARGEST_SHEET + LONGEST_NUMBER], packet[SEGLINK_LARGEST_PACKET];
+    uint8_t sheet[SEGLINK_LARGEST_JOURNEY_SHEET + LONGEST_NUMBER], packet[SEGLINK_LARGEST_JOURNEY_PACKET];
     size_t length = read_sheet(sheet);
     seglink_converted made = seglink_sheet_to_packet(sheet, length, packet, sizeof packet);
     if (made.refusal != SEGLINK_SUCCESS) {

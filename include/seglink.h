@@ -1,4 +1,5 @@
 // The five operations of the segment link, for C11 and C++: link with libseglink.a, which `rt staticlib seglink` writes for x86-64.
+// Packets and sheets are a segment's (packet number 6) or a journey's (4): the conversions take both, the questions a segment's alone.
 //
 // Any bytes may be handed over, in any number. A pointer is never null, also where the count is 0, and the room shares no byte with what is read.
 // No operation keeps a pointer, has a state or stops the program, so any number of threads may call them.
@@ -17,23 +18,27 @@ extern "C" {
 enum {
     SEGLINK_SUCCESS = 0,
     SEGLINK_SHORT_PACKET = 1,    // a packet has fewer than 15 bytes
-    SEGLINK_PACKET_NUMBER = 2,   // the packet number is not 6
+    SEGLINK_PACKET_NUMBER = 2,   // the packet number is neither 4 nor 6, or is 4 where a segment is needed
     SEGLINK_PACKET_LENGTH = 3,   // the packet's bytes are not 15 + L_PACKET_ATO / 8, rounded up
-    SEGLINK_FIELD_VALUE = 4,     // a field is outside its range or set, or NID_CTRACTION is not 0 at voltage 0
+    SEGLINK_FIELD_VALUE = 4,     // a field is outside its range or set, or not 0: NID_CTRACTION at voltage 0, the last eight fields at a passing point
     SEGLINK_CHANGE_LOCATION = 5, // a change's location does not rise, is 0, or is at or past L_SP
     SEGLINK_BODY_BITS = 6,       // a field does not fit in the body's remaining bits, or bits remain after the last field
     SEGLINK_PADDING_BIT = 7,     // a padding bit is 1
     SEGLINK_SHORT_ROOM = 8,      // the result is longer than the lent room
     SEGLINK_SHEET_FORM = 9,      // a sheet ends too soon, has bytes left, or a number is not in its shortest form or not below 4,294,967,296
     SEGLINK_TRAIN_VALUE = 10,    // the train's length or cant deficiency is not allowed
-    SEGLINK_PAST_END = 11        // x is at or past L_SP
+    SEGLINK_PAST_END = 11,       // x is at or past L_SP
+    SEGLINK_LONG_BODY = 12       // a sheet's body would exceed 65,535 bits
 };
 
-// Counts of bytes. A room of the largest is never refused as too short.
+// Counts of bytes: a segment's, then a journey's, whose sheet is never longer than the last. A room of a journey's largest is never refused
+// as too short, nor is one of a segment's largest for a segment.
 enum {
     SEGLINK_SMALLEST_PACKET = 39,
     SEGLINK_LARGEST_PACKET = 2001,
-    SEGLINK_LARGEST_SHEET = 5608
+    SEGLINK_LARGEST_SHEET = 5608,
+    SEGLINK_LARGEST_JOURNEY_PACKET = 8207,
+    SEGLINK_LARGEST_JOURNEY_SHEET = 15226
 };
 
 // What a conversion answers: 0 and the count of bytes that it wrote, or a refusal and 0.
@@ -59,12 +64,12 @@ typedef struct {
     bool freight_p, freight_g, passenger;
 } seglink_train;
 
-// Writes the sheet of a packet to the start of the room and returns its length; the room's bytes past it stay.
+// Writes the sheet of a packet, of a segment or a journey, to the start of the room and returns its length; the room's bytes past it stay.
 // Any bytes may be handed over; a refusal (1 to 8) leaves the room as it was.
 seglink_converted seglink_packet_to_sheet(const uint8_t *packet, size_t packet_len, uint8_t *room, size_t room_len);
 
-// Writes the packet of a sheet to the start of the room and returns its length; the room's bytes past it stay.
-// Any bytes may be handed over; a refusal (2, 4, 5, 8 or 9) leaves the room as it was.
+// Writes the packet of a sheet, of a segment or a journey, to the start of the room and returns its length; the room's bytes past it stay.
+// Any bytes may be handed over; a refusal (2, 4, 5, 8, 9 or 12) leaves the room as it was.
 seglink_converted seglink_sheet_to_packet(const uint8_t *sheet, size_t sheet_len, uint8_t *room, size_t room_len);
 
 // Returns the permitted speed of a train at x cm from the segment's start, by the packet's speeds: multiples of 5 km/h.

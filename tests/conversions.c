@@ -1,4 +1,4 @@
-// Both conversions and the altitude of the static library, called from C and held to packets and sheets that are written here from the build definition; timed with 'time'.
+// Both conversions of the static library, of segments and journeys, and the altitude, called from C and held to packets and sheets that are written here from the build definition; timed with 'time'.
 #define _POSIX_C_SOURCE 200809L
 #include <stdio.h>
 #include <stdlib.h>
@@ -7,12 +7,12 @@
 
 #include "../include/seglink.h"
 
-// ---- A segment: its fields in packet order, without L_PACKET_ATO
+// ---- A segment or a journey: its fields in packet order, without L_PACKET_ATO
 
 // A field's width and value in the packet, its number in the sheet, and the number that comes back from the packet.
 struct field { uint32_t width, value, number, raised; };
-struct segment { size_t count; struct field field[4096]; };
-struct bytes { size_t length; uint8_t byte[8192]; };
+struct fields { size_t count; struct field field[8192]; };
+struct bytes { size_t length; uint8_t byte[16384]; };
 
 // Where the fields of a segment without entries and changes stand.
 enum {
@@ -21,46 +21,54 @@ enum {
     SPEED, FRONT, ENTRIES, SPEEDS, VOLTAGE, TRACTION, VOLTAGES, CURRENT, CURRENTS
 };
 
+// Where those of a journey's body stand, of its first segment and of its first timing point.
+enum {
+    JP_STATUS = NID_C, SEGMENTS, FIRST_NID_C, FIRST_NID_SP, FIRST_VERSION_X, FIRST_VERSION_Y, SP_DIR, POINTS,
+    NID_TP, ARRIVAL_DATE, ARRIVAL_SECONDS, ARRIVAL_WINDOW, TP_ALIGNMENT, STOP_SKIP_PASSES, TP_INFORMATION, DAY_LIGHT_SAVING,
+    DOOR_SIDE, CENTRALISED_OPENING, RELAXED_COUPLER, TRAIN_HOLD, DEPARTURE_DATE, DEPARTURE_SECONDS, DWELL_TIME, AUTOMATIC_CLOSING,
+    CONSTRAINTS
+};
+
 static const uint32_t CANT[] = {80, 100, 130, 150, 165, 180, 210, 225, 245, 275, 300};
 static const uint32_t VOLTS[] = {0, 25000, 15000, 3000, 1500, 750};
 
-static void put(struct segment *s, uint32_t width, uint32_t value, uint32_t number, uint32_t raised)
+static void put(struct fields *s, uint32_t width, uint32_t value, uint32_t number, uint32_t raised)
 {
     s->field[s->count++] = (struct field){width, value, number, raised};
 }
 
-static void same(struct segment *s, uint32_t width, uint32_t value)
+static void same(struct fields *s, uint32_t width, uint32_t value)
 {
     put(s, width, value, value, value);
 }
 
-static void speed(struct segment *s, uint32_t kmh)
+static void speed(struct fields *s, uint32_t kmh)
 {
     put(s, 7, kmh / 5, kmh, kmh / 5 * 5);
 }
 
-static void cant_class(struct segment *s, uint32_t place)
+static void cant_class(struct fields *s, uint32_t place)
 {
     put(s, 4, place, CANT[place], CANT[place]);
 }
 
-static void voltage(struct segment *s, uint32_t place, uint32_t traction)
+static void voltage(struct fields *s, uint32_t place, uint32_t traction)
 {
     put(s, 4, place, VOLTS[place], VOLTS[place]);
     same(s, 10, traction);
 }
 
 // Amperes + 1, or 0 for no limit.
-static void current(struct segment *s, uint32_t number)
+static void current(struct fields *s, uint32_t number)
 {
     uint32_t tens = number == 0 ? 1023 : (number - 1) / 10;
     put(s, 10, tens, number, number == 0 ? 0 : tens * 10 + 1);
 }
 
-static void header(struct segment *s, uint32_t operational, uint32_t engine, uint32_t date, uint32_t seconds, uint32_t counter)
+static void header(struct fields *s, uint32_t number, uint32_t operational, uint32_t engine, uint32_t date, uint32_t seconds, uint32_t counter)
 {
     s->count = 0;
-    same(s, 8, 6);
+    same(s, 8, number);
     same(s, 32, operational);
     same(s, 24, engine);
     same(s, 15, date);
@@ -68,17 +76,17 @@ static void header(struct segment *s, uint32_t operational, uint32_t engine, uin
     same(s, 8, counter);
 }
 
-static void identity(struct segment *s, uint32_t nid_c, uint32_t nid_sp, uint32_t x, uint32_t y, uint32_t l_sp)
+static void identity(struct fields *s, uint32_t nid_c, uint32_t nid_sp, uint32_t x, uint32_t y)
 {
     same(s, 10, nid_c);
     same(s, 32, nid_sp);
     same(s, 8, x);
     same(s, 8, y);
-    same(s, 24, l_sp);
 }
 
-static void offsets(struct segment *s, uint32_t eoa, uint32_t utc, uint32_t altitude)
+static void measures(struct fields *s, uint32_t l_sp, uint32_t eoa, uint32_t utc, uint32_t altitude)
 {
+    same(s, 24, l_sp);
     same(s, 24, eoa);
     same(s, 7, utc);
     same(s, 20, altitude);
@@ -102,7 +110,7 @@ static void put_groups(struct bytes *b, uint32_t number)
     b->byte[b->length++] = (uint8_t)number;
 }
 
-static uint32_t body_bits(const struct segment *s)
+static uint32_t body_bits(const struct fields *s)
 {
     uint32_t bits = 0;
     for (size_t i = NID_C; i < s->count; ++i)
@@ -110,7 +118,7 @@ static uint32_t body_bits(const struct segment *s)
     return bits;
 }
 
-static struct bytes packet_of(const struct segment *s)
+static struct bytes packet_of(const struct fields *s)
 {
     struct bytes b = {0};
     size_t at = 0;
@@ -123,7 +131,7 @@ static struct bytes packet_of(const struct segment *s)
 }
 
 // The sheet as the office gives it, or as it comes back from the packet.
-static struct bytes sheet_of(const struct segment *s, bool back)
+static struct bytes sheet_of(const struct fields *s, bool back)
 {
     struct bytes b = {0};
     for (size_t i = 0; i < s->count; ++i)
@@ -146,7 +154,7 @@ static void check(const char *name, const char *what, size_t got, size_t wanted)
 }
 
 typedef seglink_converted conversion(const uint8_t *, size_t, uint8_t *, size_t);
-enum { GUARD = 64, ROOM = 8192 };
+enum { GUARD = 64, ROOM = 16384 };
 static uint8_t store[GUARD + ROOM + GUARD];
 
 static size_t differing(const uint8_t *a, const uint8_t *b, size_t count)
@@ -203,8 +211,8 @@ static void refuses(const char *name, conversion *convert, const struct bytes *i
     run(name, convert, in, 0, 0xA5, refusal, &nothing);
 }
 
-// A segment both ways: converted where the refusal is 0, else refused with it.
-static void both(const char *name, const struct segment *s, uint32_t refusal)
+// A segment or a journey both ways: converted where the refusal is 0, else refused with it.
+static void both(const char *name, const struct fields *s, uint32_t refusal)
 {
     struct bytes packet = packet_of(s), given = sheet_of(s, false), back = sheet_of(s, true);
     if (refusal == 0) {
@@ -216,7 +224,7 @@ static void both(const char *name, const struct segment *s, uint32_t refusal)
     }
 }
 
-static void sizes(const char *name, const struct segment *s, size_t bits, size_t packet, size_t sheet)
+static void sizes(const char *name, const struct fields *s, size_t bits, size_t packet, size_t sheet)
 {
     check(name, "the body's count of bits", body_bits(s), bits);
     check(name, "the packet's count of bytes", packet_of(s).length, packet);
@@ -226,7 +234,7 @@ static void sizes(const char *name, const struct segment *s, size_t bits, size_t
 
 // ---- Segments
 
-static void no_changes(struct segment *s, uint32_t kmh)
+static void no_changes(struct fields *s, uint32_t kmh)
 {
     speed(s, kmh);
     same(s, 1, 0);
@@ -239,23 +247,23 @@ static void no_changes(struct segment *s, uint32_t kmh)
 }
 
 // Every number in one group: no smaller sheet.
-static void smallest(struct segment *s)
+static void smallest(struct fields *s)
 {
-    header(s, 0, 0, 0, 0, 0);
-    identity(s, 0, 0, 0, 0, 1);
-    offsets(s, 0, 0, 0);
+    header(s, 6, 0, 0, 0, 0, 0);
+    identity(s, 0, 0, 0, 0);
+    measures(s, 1, 0, 0, 0);
     no_changes(s, 0);
 }
 
-static void desk(struct segment *s, uint32_t kmh)
+static void desk(struct fields *s, uint32_t kmh)
 {
-    header(s, 0x00012345, 1, 0, 0, 7);
-    identity(s, 0, 0, 0, 0, 1);
-    offsets(s, 0, 0, 0);
+    header(s, 6, 0x00012345, 1, 0, 0, 7);
+    identity(s, 0, 0, 0, 0);
+    measures(s, 1, 0, 0, 0);
     no_changes(s, kmh);
 }
 
-static void largest_element(struct segment *s)
+static void largest_element(struct fields *s)
 {
     speed(s, 604);
     same(s, 1, 1);
@@ -268,11 +276,11 @@ static void largest_element(struct segment *s)
 }
 
 // Every list full, and every number in as many groups as its field allows.
-static void largest(struct segment *s)
+static void largest(struct fields *s)
 {
-    header(s, 0xFFFFFFFF, 16777215, 32767, 86399, 255);
-    identity(s, 1023, 0xFFFFFFFF, 255, 255, 16777215);
-    offsets(s, 16777215, 112, 1048575);
+    header(s, 6, 0xFFFFFFFF, 16777215, 32767, 86399, 255);
+    identity(s, 1023, 0xFFFFFFFF, 255, 255);
+    measures(s, 16777215, 16777215, 112, 1048575);
     largest_element(s);
     same(s, 5, 31);
     for (uint32_t i = 0; i < 31; ++i) {
@@ -294,7 +302,7 @@ static void largest(struct segment *s)
 }
 
 // An element whose entries go through every class of every Q_DIFF, with speeds of their own.
-static void mixed_element(struct segment *s, uint32_t entries, uint32_t seed)
+static void mixed_element(struct fields *s, uint32_t entries, uint32_t seed)
 {
     speed(s, (seed * 83 + 84) % 605);
     same(s, 1, seed % 2);
@@ -310,11 +318,11 @@ static void mixed_element(struct segment *s, uint32_t entries, uint32_t seed)
 }
 
 // Neighbouring fields differ, so that one written in another's place is seen.
-static void mixed(struct segment *s)
+static void mixed(struct fields *s)
 {
-    header(s, 0x12F45678, 0xABCDEF, 12345, 54321, 200);
-    identity(s, 345, 0x89ABCDEF, 17, 130, 1000000);
-    offsets(s, 7654321, 52, 123456);
+    header(s, 6, 0x12F45678, 0xABCDEF, 12345, 54321, 200);
+    identity(s, 345, 0x89ABCDEF, 17, 130);
+    measures(s, 1000000, 7654321, 52, 123456);
     mixed_element(s, 31, 2);
     same(s, 5, 9);
     for (uint32_t i = 0; i < 9; ++i) {
@@ -336,9 +344,9 @@ static void mixed(struct segment *s)
 }
 
 // One list (SPEEDS, VOLTAGES or CURRENTS) with this many changes from a location on, a step apart; the others have none.
-static void list(struct segment *s, int which, uint32_t l_sp, uint32_t count, uint32_t first, uint32_t step)
+static void list(struct fields *s, int which, uint32_t l_sp, uint32_t count, uint32_t first, uint32_t step)
 {
-    struct segment plain;
+    struct fields plain;
     int start = which == SPEEDS ? SPEED : which == VOLTAGES ? VOLTAGE : CURRENT;
     desk(&plain, 80);
     s->count = 0;
@@ -356,6 +364,140 @@ static void list(struct segment *s, int which, uint32_t l_sp, uint32_t count, ui
     s->field[L_SP] = (struct field){24, l_sp, l_sp, l_sp};
 }
 
+// ---- Journeys
+
+// So many segments and timing points, 31 a segment as long as there are any.
+static void journey(struct fields *s, uint32_t segments, uint32_t points, void (*segment)(struct fields *, uint32_t), void (*point)(struct fields *, uint32_t))
+{
+    uint32_t left = points;
+    same(s, 8, segments);
+    for (uint32_t i = 0; i < segments; ++i) {
+        uint32_t here = left < 31 ? left : 31;
+        segment(s, i);
+        same(s, 5, here);
+        for (; here > 0; --here, --left)
+            point(s, points - left);
+        same(s, 5, 0);
+    }
+}
+
+// From NID_TP to Q_TP_Alignment.
+static void arrival(struct fields *s, uint32_t nid_tp, uint32_t date, uint32_t seconds, uint32_t window, uint32_t alignment)
+{
+    same(s, 32, nid_tp);
+    same(s, 15, date);
+    same(s, 17, seconds);
+    same(s, 10, window);
+    same(s, 2, alignment);
+}
+
+// From Q_Stop_Skip_Passes to Q_Train_Hold.
+static void stop(struct fields *s, uint32_t kind, uint32_t information, uint32_t saving, uint32_t side, uint32_t opening, uint32_t coupler, uint32_t hold)
+{
+    same(s, 2, kind);
+    same(s, 2, information);
+    same(s, 1, saving);
+    same(s, 2, side);
+    same(s, 1, opening);
+    same(s, 1, coupler);
+    same(s, 1, hold);
+}
+
+// From T_Departure_Date to Q_Automatic_Closing.
+static void departure(struct fields *s, uint32_t date, uint32_t seconds, uint32_t dwell, uint32_t closing)
+{
+    same(s, 15, date);
+    same(s, 17, seconds);
+    same(s, 10, dwell);
+    same(s, 1, closing);
+}
+
+// Every number in as many groups as its field allows.
+static void full_segment(struct fields *s, uint32_t i)
+{
+    (void)i;
+    identity(s, 1023, 0xFFFFFFFF, 255, 255);
+    same(s, 1, 1);
+}
+
+static void full_point(struct fields *s, uint32_t i)
+{
+    arrival(s, 0xFFFFFFFF, 32767, 86400, 1023, 2);
+    stop(s, i % 2, 1, 1, 3, 1, 1, 1);
+    departure(s, 32767, 86399, 1023, 1);
+}
+
+static void full_journey(struct fields *s, uint32_t segments, uint32_t points)
+{
+    header(s, 4, 0xFFFFFFFF, 16777215, 32767, 86399, 255);
+    same(s, 3, 4);
+    journey(s, segments, points, full_segment, full_point);
+}
+
+// Neighbouring fields differ, and every kind of stop comes, so that a field written in another's place is seen.
+static void mixed_segment(struct fields *s, uint32_t i)
+{
+    identity(s, i * 97 % 1024, 0x89ABCDEF + i * 12345, i * 17 % 256, 255 - i * 13 % 256);
+    same(s, 1, i % 2);
+}
+
+static void mixed_point(struct fields *s, uint32_t i)
+{
+    arrival(s, i * 87654321, i * 1234 % 32768, i * 5432 % 86401, i * 37 % 1024, i % 3);
+    if (i % 5 == 0) {
+        stop(s, 2, i % 2, i / 2 % 2, 0, 0, 0, 0);
+        departure(s, 0, 0, 0, 0);
+    } else {
+        stop(s, i / 3 % 2, i % 2, i / 2 % 2, i % 4, i / 4 % 2, i / 3 % 2, i / 5 % 2);
+        departure(s, i * 4321 % 32768, i * 2345 % 86400, i * 73 % 1024, i / 7 % 2);
+    }
+}
+
+static void mixed_journey(struct fields *s)
+{
+    header(s, 4, 0x12F45678, 0xABCDEF, 12345, 54321, 200);
+    same(s, 3, 3);
+    journey(s, 9, 200, mixed_segment, mixed_point);
+}
+
+// One segment and one timing point, as journey_packet below; or the same point passed.
+static void one_segment(struct fields *s, uint32_t i)
+{
+    (void)i;
+    identity(s, 345, 0x89ABCDEF, 17, 130);
+    same(s, 1, 1);
+}
+
+static void one_point(struct fields *s, uint32_t i)
+{
+    (void)i;
+    arrival(s, 0x76543210, 12345, 86400, 601, 1);
+    stop(s, 0, 1, 1, 2, 1, 0, 1);
+    departure(s, 23456, 86399, 777, 1);
+}
+
+static void passed_point(struct fields *s, uint32_t i)
+{
+    (void)i;
+    arrival(s, 0x76543210, 12345, 86400, 601, 1);
+    stop(s, 2, 1, 1, 0, 0, 0, 0);
+    departure(s, 0, 0, 0, 0);
+}
+
+static void one_journey(struct fields *s, bool passed)
+{
+    header(s, 4, 0x00012345, 1, 0, 0, 7);
+    same(s, 3, 1);
+    journey(s, 1, 1, one_segment, passed ? passed_point : one_point);
+}
+
+static void smallest_journey(struct fields *s)
+{
+    header(s, 4, 0, 0, 0, 0, 0);
+    same(s, 3, 0);
+    journey(s, 0, 0, one_segment, one_point);
+}
+
 // ---- The desk cases, and others like them
 
 static const struct bytes desk_packet = {
@@ -364,7 +506,7 @@ static const struct bytes desk_packet = {
 static const struct bytes desk_sheet = {
     25, {0x06, 0xC5, 0xC6, 0x04, 0x01, 0x00, 0x00, 0x07, 0, 0, 0, 0, 0x01, 0, 0, 0, 0x50, 0, 0, 0, 0, 0, 0, 0, 0}};
 
-static void desk_cases(struct segment *s)
+static void desk_cases(struct fields *s)
 {
     struct bytes with84 = desk_sheet, with85 = desk_sheet;
     converts("the desk packet", seglink_packet_to_sheet, &desk_packet, &desk_sheet);
@@ -379,7 +521,7 @@ static void desk_cases(struct segment *s)
 }
 
 // The altitude of the desk segment with this field for it, and of a packet that is refused.
-static void altitude(struct segment *s, const char *name, uint32_t sent, int32_t centimetres)
+static void altitude(struct fields *s, const char *name, uint32_t sent, int32_t centimetres)
 {
     desk(s, 80);
     s->field[ALTITUDE].value = sent;
@@ -392,7 +534,7 @@ static void altitude(struct segment *s, const char *name, uint32_t sent, int32_t
     check(name, "the altitude of the packet cut", (size_t)got.altitude, 0);
 }
 
-static void altitudes(struct segment *s)
+static void altitudes(struct fields *s)
 {
     altitude(s, "altitude sent as 0", 0, -100000);
     altitude(s, "altitude sent as 99,999", 99999, -1);
@@ -422,7 +564,7 @@ static const struct { const char *name; size_t place; uint32_t value, number, ra
     {"a count of changes, and no changes", CURRENTS, 24, 24, 24, 4},
 };
 
-static void single_fields(struct segment *s)
+static void single_fields(struct fields *s)
 {
     for (size_t i = 0; i < sizeof ONE / sizeof *ONE; ++i) {
         desk(s, 80);
@@ -453,7 +595,7 @@ static const struct { const char *name; int which; uint32_t l_sp, count, first, 
     {"24 current changes", CURRENTS, 1000, 24, 1, 40, 4},
 };
 
-static void lists(struct segment *s)
+static void lists(struct fields *s)
 {
     for (size_t i = 0; i < sizeof LISTS / sizeof *LISTS; ++i) {
         list(s, LISTS[i].which, LISTS[i].l_sp, LISTS[i].count, LISTS[i].first, LISTS[i].step);
@@ -508,7 +650,215 @@ static void damaged_sheets(void)
     damaged_sheet("packet number 7 and no more", 0, "\x07", 1, 2);
 }
 
-static int all_checks(struct segment *s)
+// ---- The cases of journeys
+
+static const struct bytes smallest_journey_packet = {17, {0x04, 0x00, 0x0B}};
+static const struct bytes smallest_journey_sheet = {8, {0x04}};
+static const struct bytes journey_packet = {
+    42, {0x04, 0x00, 0xD1, 0x00, 0x01, 0x23, 0x45, 0x00, 0x00, 0x01, 0x00, 0x00, 0x00, 0x00, 0x07,
+         0x20, 0x2A, 0xCC, 0x4D, 0x5E, 0x6F, 0x78, 0x8C, 0x14, 0x2E, 0xCA, 0x86, 0x42, 0x0C, 0x0E, 0x6A, 0x30, 0x12, 0xCA, 0x3A, 0xDB,
+         0xA0, 0xA8, 0xBF, 0xE1, 0x30, 0x00}};
+static const struct bytes journey_sheet = {
+    52, {0x04, 0xC5, 0xC6, 0x04, 0x01, 0x00, 0x00, 0x07, 0x01, 0x01, 0xD9, 0x02, 0xEF, 0x9B, 0xAF, 0xCD, 0x08, 0x11, 0x82, 0x01, 0x01, 0x01,
+         0x90, 0xE4, 0xD0, 0xB2, 0x07, 0xB9, 0x60, 0x80, 0xA3, 0x05, 0xD9, 0x04, 0x01, 0x00, 0x01, 0x01,
+         0x02, 0x01, 0x00, 0x01, 0xA0, 0xB7, 0x01, 0xFF, 0xA2, 0x05, 0x89, 0x06, 0x01, 0x00}};
+
+// One field of the journey of one timing point changed.
+static const struct { const char *name; size_t place; uint32_t value, refusal; } STOPPED[] = {
+    {"a journey with packet number 5", NUMBER, 5, 2},
+    {"a journey with packet number 7", NUMBER, 7, 2},
+    {"a journey with packet number 0", NUMBER, 0, 2},
+    {"a journey with a digit A in NID_OPERATIONAL", OPERATIONAL, 0x0001A345, 4},
+    {"a journey with seconds 86,399", SECONDS, 86399, 0},
+    {"a journey with seconds 86,400", SECONDS, 86400, 4},
+    {"Q_JP_Status 4", JP_STATUS, 4, 0},
+    {"Q_JP_Status 5", JP_STATUS, 5, 4},
+    {"Q_SP_DIR 0", SP_DIR, 0, 0},
+    {"NID_TP 4,294,967,295", NID_TP, 0xFFFFFFFF, 0},
+    {"arrival date 32,767", ARRIVAL_DATE, 32767, 0},
+    {"arrival seconds 86,400", ARRIVAL_SECONDS, 86400, 0},
+    {"arrival seconds 86,401", ARRIVAL_SECONDS, 86401, 4},
+    {"arrival window 1,023", ARRIVAL_WINDOW, 1023, 0},
+    {"alignment 2", TP_ALIGNMENT, 2, 0},
+    {"alignment 3", TP_ALIGNMENT, 3, 4},
+    {"a skipped stopping point", STOP_SKIP_PASSES, 1, 0},
+    {"a passing point with all eight fields", STOP_SKIP_PASSES, 2, 4},
+    {"stop kind 3", STOP_SKIP_PASSES, 3, 4},
+    {"information 0", TP_INFORMATION, 0, 0},
+    {"information 2", TP_INFORMATION, 2, 4},
+    {"door side 3", DOOR_SIDE, 3, 0},
+    {"departure seconds 86,399", DEPARTURE_SECONDS, 86399, 0},
+    {"departure seconds 86,400", DEPARTURE_SECONDS, 86400, 4},
+    {"minimum dwell time 1,023", DWELL_TIME, 1023, 0},
+    {"one temporary constraint", CONSTRAINTS, 1, 4},
+    {"31 temporary constraints", CONSTRAINTS, 31, 4},
+};
+
+// The same, of the journey whose point is passed: each of the last eight fields.
+static const struct { const char *name; size_t place; uint32_t value, refusal; } PASSED[] = {
+    {"a passing point", STOP_SKIP_PASSES, 2, 0},
+    {"a door side at a passing point", DOOR_SIDE, 1, 4},
+    {"centralised opening at a passing point", CENTRALISED_OPENING, 1, 4},
+    {"a relaxed coupler at a passing point", RELAXED_COUPLER, 1, 4},
+    {"train hold at a passing point", TRAIN_HOLD, 1, 4},
+    {"a departure date at a passing point", DEPARTURE_DATE, 16384, 4},
+    {"departure seconds at a passing point", DEPARTURE_SECONDS, 1, 4},
+    {"minimum dwell time at a passing point", DWELL_TIME, 512, 4},
+    {"automatic closing at a passing point", AUTOMATIC_CLOSING, 1, 4},
+};
+
+static void one_changed(struct fields *s, bool passed, const char *name, size_t place, uint32_t value, uint32_t refusal)
+{
+    one_journey(s, passed);
+    s->field[place] = (struct field){s->field[place].width, value, value, value};
+    both(name, s, refusal);
+}
+
+// Numbers that a sheet can have and the packet's field cannot hold.
+static const struct { const char *name; size_t place; uint32_t number; } WIDE[] = {
+    {"packet number 260", NUMBER, 260},
+    {"256 segments", SEGMENTS, 256},
+    {"NID_C 1,024", FIRST_NID_C, 1024},
+    {"version 256", FIRST_VERSION_Y, 256},
+    {"Q_SP_DIR 2", SP_DIR, 2},
+    {"32 timing points", POINTS, 32},
+    {"arrival date 32,768", ARRIVAL_DATE, 32768},
+    {"arrival window 1,024", ARRIVAL_WINDOW, 1024},
+    {"daylight saving 2", DAY_LIGHT_SAVING, 2},
+    {"door side 4", DOOR_SIDE, 4},
+    {"departure date 32,768", DEPARTURE_DATE, 32768},
+    {"minimum dwell time 1,024", DWELL_TIME, 1024},
+    {"automatic closing 2", AUTOMATIC_CLOSING, 2},
+    {"32 temporary constraints", CONSTRAINTS, 32},
+};
+
+static void journey_fields(struct fields *s)
+{
+    for (size_t i = 0; i < sizeof STOPPED / sizeof *STOPPED; ++i)
+        one_changed(s, false, STOPPED[i].name, STOPPED[i].place, STOPPED[i].value, STOPPED[i].refusal);
+    for (size_t i = 0; i < sizeof PASSED / sizeof *PASSED; ++i)
+        one_changed(s, true, PASSED[i].name, PASSED[i].place, PASSED[i].value, PASSED[i].refusal);
+    for (size_t i = 0; i < sizeof WIDE / sizeof *WIDE; ++i) {
+        one_journey(s, false);
+        s->field[WIDE[i].place].number = WIDE[i].number;
+        struct bytes sheet = sheet_of(s, false);
+        refuses(WIDE[i].name, seglink_sheet_to_packet, &sheet, WIDE[i].place == NUMBER ? 2 : 4);
+    }
+}
+
+// A segment that calls itself a journey has no segments and then bits or bytes left; a journey that calls itself a segment ends too soon.
+static void crossed(void)
+{
+    struct bytes b = desk_packet;
+    b.byte[0] = 4;
+    refuses("a segment's packet with packet number 4", seglink_packet_to_sheet, &b, 6);
+    b = desk_sheet;
+    b.byte[0] = 4;
+    refuses("a segment's sheet with packet number 4", seglink_sheet_to_packet, &b, 9);
+    b = smallest_journey_packet;
+    b.byte[0] = 6;
+    refuses("a journey's packet with packet number 6", seglink_packet_to_sheet, &b, 6);
+    b = smallest_journey_sheet;
+    b.byte[0] = 6;
+    refuses("a journey's sheet with packet number 6", seglink_sheet_to_packet, &b, 9);
+}
+
+// The journey's packet cut or lengthened to a count of bytes, L_PACKET_ATO changed, and its last byte changed.
+static void damaged_journey(const char *name, size_t length, uint8_t bits, uint8_t last, uint32_t refusal)
+{
+    struct bytes b = journey_packet;
+    b.length = length;
+    b.byte[2] = bits;
+    b.byte[41] = last;
+    refuses(name, seglink_packet_to_sheet, &b, refusal);
+}
+
+static void damaged_journeys(void)
+{
+    damaged_journey("a journey of 14 bytes", 14, 209, 0, 1);
+    damaged_journey("a journey of 15 bytes", 15, 209, 0, 3);
+    damaged_journey("a journey without its last byte", 41, 209, 0, 3);
+    damaged_journey("a journey with a byte more", 43, 209, 0, 3);
+    damaged_journey("a journey with a body of no bits", 15, 0, 0, 6);
+    damaged_journey("a journey whose last count does not fit", 41, 208, 0, 6);
+    damaged_journey("a journey with a bit that remains", 42, 210, 0, 6);
+    damaged_journey("a journey with a padding bit", 42, 209, 0x01, 7);
+    damaged_journey("a journey with the first padding bit", 42, 209, 0x40, 7);
+    for (size_t length = 0; length < journey_sheet.length; ++length) {
+        struct bytes b = journey_sheet;
+        b.length = length;
+        refuses("a journey's sheet cut", seglink_sheet_to_packet, &b, 9);
+    }
+}
+
+// A sheet whose body would be too long: 12 in every room; 9 and 4 come before it.
+static void too_long(const char *name, struct fields *s, uint32_t segments, uint32_t points, size_t bits)
+{
+    full_journey(s, segments, points);
+    check(name, "the body's count of bits", body_bits(s), bits);
+    struct bytes b = sheet_of(s, false);
+    refuses(name, seglink_sheet_to_packet, &b, 12);
+    b.length += 1;
+    refuses(name, seglink_sheet_to_packet, &b, 9);
+    b.length -= 2;
+    refuses(name, seglink_sheet_to_packet, &b, 9);
+    b.length += 1;
+    b.byte[b.length - 1] = 1;
+    refuses(name, seglink_sheet_to_packet, &b, 4);
+}
+
+// The questions take a segment: 2, whatever the train and the place.
+static void asks(const char *name, const struct bytes *packet, const struct bytes *sheet)
+{
+    seglink_train train = {.length = 0, .cant = 0};
+    seglink_altitude altitude = seglink_altitude_of_packet(packet->byte, packet->length);
+    check(name, "the refusal of its altitude", altitude.refusal, 2);
+    check(name, "its altitude", (size_t)altitude.altitude, 0);
+    seglink_speed from_packet = seglink_speed_from_packet(packet->byte, packet->length, train, 0);
+    check(name, "the refusal of a speed from its packet", from_packet.refusal, 2);
+    check(name, "its speed from its packet", from_packet.speed, 0);
+    seglink_speed from_sheet = seglink_speed_from_sheet(sheet->byte, sheet->length, train, 0);
+    check(name, "the refusal of a speed from its sheet", from_sheet.refusal, 2);
+    check(name, "its speed from its sheet", from_sheet.speed, 0);
+}
+
+static void journeys(struct fields *s)
+{
+    converts("the smallest journey, byte by byte", seglink_packet_to_sheet, &smallest_journey_packet, &smallest_journey_sheet);
+    converts("the smallest journey, byte by byte", seglink_sheet_to_packet, &smallest_journey_sheet, &smallest_journey_packet);
+    converts("a journey, byte by byte", seglink_packet_to_sheet, &journey_packet, &journey_sheet);
+    converts("a journey, byte by byte", seglink_sheet_to_packet, &journey_sheet, &journey_packet);
+    smallest_journey(s);
+    sizes("the smallest journey", s, 11, 17, 8);
+    both("the smallest journey", s, 0);
+    one_journey(s, false);
+    sizes("a journey of one timing point", s, 209, 42, 52);
+    both("a journey of one timing point", s, 0);
+    mixed_journey(s);
+    both("a mixed journey", s, 0);
+    full_journey(s, 41, 486);
+    sizes("the largest packet of a journey", s, 65534, SEGLINK_LARGEST_JOURNEY_PACKET, 15174);
+    both("the largest packet of a journey", s, 0);
+    full_journey(s, 18, 498);
+    sizes("the largest sheet of a journey", s, 65495, 8202, 15212);
+    both("the largest sheet of a journey", s, 0);
+    full_journey(s, 255, 371);
+    both("a journey over 255 segments", s, 0);
+    too_long("a journey of 65,537 bits", s, 56, 478, 65537);
+    too_long("the largest journey and a segment", s, 42, 486, 65603);
+    too_long("the largest journey and a timing point", s, 41, 487, 65663);
+    asks("the smallest journey", &smallest_journey_packet, &smallest_journey_sheet);
+    asks("a journey of one timing point", &journey_packet, &journey_sheet);
+    struct bytes packet = journey_packet, sheet = journey_sheet;
+    packet.length = 15;
+    sheet.length = 1;
+    asks("a journey cut after its header, and after its packet number", &packet, &sheet);
+    journey_fields(s);
+    crossed();
+    damaged_journeys();
+}
+
+static int all_checks(struct fields *s)
 {
     smallest(s);
     sizes("the smallest segment", s, 185, 39, 23);
@@ -524,6 +874,7 @@ static int all_checks(struct segment *s)
     lists(s);
     damaged_packets();
     damaged_sheets();
+    journeys(s);
     printf("%u passed, %u failed\n", passed, failed);
     return failed == 0 ? 0 : 1;
 }
@@ -565,7 +916,7 @@ static void timed(const char *name, conversion *convert, const struct bytes *in,
            in->length, (unsigned)c.length, took[ROUNDS / 2], ROUNDS, repeats, took[0], took[ROUNDS - 1]);
 }
 
-static int all_times(struct segment *s)
+static int all_times(struct fields *s)
 {
     printf("The fields are those of the sheet, so L_PACKET_ATO is not counted. The room of %d bytes is not cleared between conversions.\n", ROOM);
     smallest(s);
@@ -577,12 +928,22 @@ static int all_times(struct segment *s)
     sheet = sheet_of(s, false);
     timed("largest, packet to sheet", seglink_packet_to_sheet, &packet, s->count);
     timed("largest, sheet to packet", seglink_sheet_to_packet, &sheet, s->count);
+    one_journey(s, false);
+    packet = packet_of(s);
+    sheet = sheet_of(s, false);
+    timed("journey of one timing point, packet to sheet", seglink_packet_to_sheet, &packet, s->count);
+    timed("journey of one timing point, sheet to packet", seglink_sheet_to_packet, &sheet, s->count);
+    full_journey(s, 41, 486);
+    packet = packet_of(s);
+    sheet = sheet_of(s, false);
+    timed("largest journey, packet to sheet", seglink_packet_to_sheet, &packet, s->count);
+    timed("largest journey, sheet to packet", seglink_sheet_to_packet, &sheet, s->count);
     return 0;
 }
 
 int main(int argc, char **argv)
 {
-    static struct segment s;
+    static struct fields s;
     if (argc == 1)
         return all_checks(&s);
     if (argc == 2 && strcmp(argv[1], "time") == 0)

@@ -67,6 +67,8 @@ def refused():
     yield "empty input", b"", 1
     yield "fourteen bytes", SAMPLE[:14], 1
     yield "packet number 7", packet(body(), number=7), 2
+    yield "a journey of no segments", packet(field(3, 1) + field(8, 0), number=4), 2
+    yield "the sample journey", (ROOT / "examples" / "journey.packet").read_bytes(), 2
     yield "without its last byte", SAMPLE[:-1], 3
     yield "a byte more", SAMPLE + b"\0", 3
     yield "V_STATIC 121", packet(body(first=(121, 0))), 4

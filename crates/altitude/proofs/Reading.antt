@@ -26,6 +26,8 @@ use Rattle.judge.specs.declared.PacketVerdict.the-variants.{SheetBytes, Refused
 use Rattle.frame.specs.declared.Frame.{Frame}
 use Rattle.frame.specs.declared.Frame.the-variants as Frame
 use Rattle.judge.specs.Verdict.{sizeFrom, packetVerdict}
+use Rattle.link.specs.declared.Tree.the-variants.{Segment}
+use Rattle.link.specs.Trees.{treeSheetFields}
 use Rattle.frame.specs.Framed.{frameOf}
 use Rattle.frame.proofs.Framing.{whole}
 use Rattle.judge.proofs.Sizes.{packet-sorts}
@@ -55,12 +57,12 @@ module _ (s : List ℕ) where
       rw (drop-take 209 (stop - 24) (drop 24 (bitsOfBytes s)), take-take 20 (stop - 24 - 209) (drop 209 (drop 24 (bitsOfBytes s))) (omega arith), drop-drop)
 
   module _ (a : fromPacket wireChanges s ≡ accepted (valuesOf (fromPacket wireChanges s))) where
-    in-frame : (stop : ℕ) → Frame.End stop ≡ frameOf s → Field
-    unfolding altitudeOf
+    in-frame : (stop : ℕ) → Frame.End stop ≡ frameOf 6 s → Field
+    unfolding altitudeOf fromPacket fields
     in-frame stop e =
         let l = valuesOf (fromPacket wireChanges s) in
-        let w = whole s stop e in
-        let o = parts s stop l e a in
+        let w = whole 6 s stop e in
+        let o = parts Segment s stop l e a in
         let c = packet-only (fields wireChanges) (bitsBetween s 24 stop) (o .values) (o .reads) in
         let d = twelfth (bitsBetween s 24 stop) (o .values) (record { good = c .0; bits = c .1 }) in
         let long : length (bitsBetween s 24 stop) ≡ stop - 24 = rest-length s stop 24 (w .placed) in
@@ -73,24 +75,25 @@ module _ (s : List ℕ) where
         }
 
     pub accepted-field : Field
-    accepted-field = go (frameOf s) refl
+    unfolding fromPacket fields
+    accepted-field = go (frameOf 6 s) refl
       where
-        go : (f : Frame) → f ≡ frameOf s → Field
-        go (Frame.Refused r) d = accepted-frame s r a d
+        go : (f : Frame) → f ≡ frameOf 6 s → Field
+        go (Frame.Refused r) d = accepted-frame Segment s r a d
         go (Frame.End stop) d = in-frame stop d
 
   -- ---- by the verdict
 
-  pub altitude-accepted : (n : ℕ) → SheetBytes n ≡ packetVerdict s → Field
-  unfolding packetVerdict
-  altitude-accepted n e = verdict-accepted packet-sorts (sizeFrom sheet (sheetFields wireChanges) 0) (fromPacket wireChanges s) n e λ p q. accepted-field p
+  pub altitude-accepted : (n : ℕ) → SheetBytes n ≡ packetVerdict Segment s → Field
+  unfolding packetVerdict fromPacket fields sheetFields
+  altitude-accepted n e = verdict-accepted packet-sorts (sizeFrom sheet (treeSheetFields Segment) 0) (fromPacket wireChanges s) n e λ p q. accepted-field p
 
-  pub altitude-refused : (r : ℕ) → Refused r ≡ packetVerdict s → altitudeOfRead (refused r 0) ≡ altitudeOf s
-  unfolding packetVerdict altitudeOf
-  altitude-refused r e = verdict-refused packet-sorts (sizeFrom sheet (sheetFields wireChanges) 0) (fromPacket wireChanges s) r e λ left p. rw p
+  pub altitude-refused : (r : ℕ) → Refused r ≡ packetVerdict Segment s → altitudeOfRead (refused r 0) ≡ altitudeOf s
+  unfolding packetVerdict altitudeOf fromPacket fields sheetFields
+  altitude-refused r e = verdict-refused packet-sorts (sizeFrom sheet (treeSheetFields Segment) 0) (fromPacket wireChanges s) r e λ left p. rw p
 
   -- the signed number made of the field, as it is returned
-  pub altitude-done : (n : ℕ) → SheetBytes n ≡ packetVerdict s → (v : ℕ) (z : ℤ) → v ≡ fieldAt s 233 20 → z ≡ centimetres v
+  pub altitude-done : (n : ℕ) → SheetBytes n ≡ packetVerdict Segment s → (v : ℕ) (z : ℤ) → v ≡ fieldAt s 233 20 → z ≡ centimetres v
       → _≡_ {A = Altitude} (record { refusal = 0; altitude = toZ w32 (ofZ w32 z) }) (altitudeOf s)
   altitude-done n e v z p q =
       let f : v < 2 ^ 20 = rw p (field-small s 233 20 20 (lit≤ tt)) in

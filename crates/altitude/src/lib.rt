@@ -4,6 +4,7 @@ ghost use Prim.Native.Nat.{_<_, _^_};
 ghost use Rattle.altitude.specs.Altitude.{centimetres, altitudeOf};
 use judge::PacketVerdict;
 use kinds::body;
+use link::Tree;
 
 // A refusal's number, or 0 and the altitude.
 #[repr(C)]
@@ -36,7 +37,7 @@ fn signed(v: u32) -> i32
 pub fn altitude_of_packet(packet: &[u8]) -> Altitude
     ensures { λ r. ⌜ r ≡ altitudeOf (now (packet .entry)) ⌝ }
 {
-    match judge_packet::judge_packet(packet) {
+    match judge_packet::judge_packet(Tree::Segment, packet) {
         PacketVerdict::Refused(r) => Altitude {
             refusal: r,
             altitude: 0,

@@ -7,8 +7,7 @@ use lib.Dec.{ltb}
 use lib.ListN.{length, drop}
 use Rattle.kinds.specs.declared.Item.{Item}
 use Rattle.format.specs.Format.{Read, accepted, refused}
-use Rattle.segment.specs.Segment.{wireChanges}
-use Rattle.segment.specs.Judgement.{fromPacket, fromSheet, toPacket, toSheet}
+use Rattle.link.specs.Link.{fromEitherPacket, fromEitherSheet, toEitherPacket, toEitherSheet}
 use Rattle.convert.specs.declared.Converted.{Converted}
 
 -- "answer, length and all bytes of the room"
@@ -33,10 +32,10 @@ abbrev pub converted : (List Item → List ℕ) → Read → List ℕ → Outcom
 converted write (refused r left) room = refusedWith r room
 converted write (accepted l) room = fitted (write l) room
 
--- "packet to sheet"
+-- "packet to sheet", a segment's or a journey's
 unfoldable pub packetToSheet : List ℕ → List ℕ → Outcome
-packetToSheet s room = converted (toSheet wireChanges) (fromPacket wireChanges s) room
+packetToSheet s room = converted toEitherSheet (fromEitherPacket s) room
 
--- "sheet to packet"
+-- "sheet to packet", a segment's or a journey's
 unfoldable pub sheetToPacket : List ℕ → List ℕ → Outcome
-sheetToPacket s room = converted (toPacket wireChanges) (fromSheet wireChanges s) room
+sheetToPacket s room = converted toEitherPacket (fromEitherSheet s) room

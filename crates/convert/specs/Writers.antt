@@ -1,4 +1,4 @@
--- What the writers of a conversion are held to, once everything is judged; no promise names it.
+-- What the conversions of one tree and their writers are held to, once everything is judged; no promise names it.
 -- Assumes nothing.
 use mathlib.Core.Path.{_≡_}
 use mathlib.Core.Bool.{Bool}
@@ -8,50 +8,66 @@ use lib.ListN.{length, take, drop}
 use Rattle.bits.specs.Bits.{bytesOfBits}
 use Rattle.format.specs.Format.{Read, accepted, read, write, valuesOf}
 use Rattle.format.specs.Media.{packet, sheet}
-use Rattle.segment.specs.Segment.{body, fields, wireChanges}
-use Rattle.segment.specs.Frame.{frame}
-use Rattle.segment.specs.Judgement.{segmentNumber, fromPacket, fromSheet, afterNumber, toSheet}
 use Rattle.format.specs.Places.{bitsBetween, Placed}
+use Rattle.segment.specs.Frame.{frame}
+use Rattle.segment.specs.Judgement.{afterNumber}
+use Rattle.link.specs.declared.Tree.{Tree}
+use Rattle.link.specs.Link.{treeNumber, treeBody, treeFields, withinCount, toEitherPacket, toEitherSheet}
+use Rattle.link.specs.Trees.{treePacket, treeSheet}
+use Rattle.convert.specs.Convert.{Outcome, converted}
 
-abbrev pub sheetOf : List ℕ → List ℕ
-sheetOf s = toSheet wireChanges (valuesOf (fromPacket wireChanges s))
+-- the conversions where the tree is known
+unfoldable pub treeToSheet : Tree → List ℕ → List ℕ → Outcome
+treeToSheet t s room = converted toEitherSheet (treePacket t s) room
+
+-- a sheet's values, or its refusal, 12 among them
+abbrev pub sheetJudged : Tree → List ℕ → Read
+sheetJudged t s = withinCount (treeSheet t s)
+
+unfoldable pub treeToPacket : Tree → List ℕ → List ℕ → Outcome
+treeToPacket t s room = converted toEitherPacket (sheetJudged t s) room
+
+-- ---- the writers
+
+abbrev pub sheetOf : Tree → List ℕ → List ℕ
+sheetOf t s = toEitherSheet (valuesOf (treePacket t s))
 
 -- the packet was accepted, and the room holds its sheet
-pub record SheetWritable (s room : List ℕ) : Type 0 where
-  pub accepts : fromPacket wireChanges s ≡ accepted (valuesOf (fromPacket wireChanges s))
-  pub holds : length (sheetOf s) ≤ length room
+pub record SheetWritable (t : Tree) (s room : List ℕ) : Type 0 where
+  pub accepts : treePacket t s ≡ accepted (valuesOf (treePacket t s))
+  pub holds : length (sheetOf t s) ≤ length room
 
 -- the numbers of the fields after the packet number, where the fields end at the bit stop
-abbrev pub fieldsOf : List ℕ → ℕ → List ℕ
-fieldsOf s stop = write sheet (fields wireChanges) (valuesOf (read packet (fields wireChanges) (bitsBetween s 24 stop)))
+abbrev pub fieldsOf : Tree → List ℕ → ℕ → List ℕ
+fieldsOf t s stop = write sheet (treeFields t) (valuesOf (read packet (treeFields t) (bitsBetween s 24 stop)))
 
-pub record FieldsWritable (s : List ℕ) (stop : ℕ) (room : List ℕ) (start : ℕ) : Type 0 where
+pub record FieldsWritable (t : Tree) (s : List ℕ) (stop : ℕ) (room : List ℕ) (start : ℕ) : Type 0 where
   pub place : Placed s 24 stop
-  pub accepts : read packet (fields wireChanges) (bitsBetween s 24 stop) ≡ accepted (valuesOf (read packet (fields wireChanges) (bitsBetween s 24 stop)))
-  pub holds : start + length (fieldsOf s stop) ≤ length room
+  pub accepts : read packet (treeFields t) (bitsBetween s 24 stop) ≡ accepted (valuesOf (read packet (treeFields t) (bitsBetween s 24 stop)))
+  pub holds : start + length (fieldsOf t s stop) ≤ length room
 
 -- the bits of a sheet's fields after the packet number
-abbrev pub bitsOfSheet : List ℕ → List Bool
-bitsOfSheet s = write packet (fields wireChanges) (afterNumber (valuesOf (fromSheet wireChanges s)))
+abbrev pub bitsOfSheet : Tree → List ℕ → List Bool
+bitsOfSheet t s = write packet (treeFields t) (afterNumber (valuesOf (sheetJudged t s)))
 
 -- the sheet was accepted
-abbrev pub SheetAccepted : List ℕ → Type 0
-SheetAccepted s = fromSheet wireChanges s ≡ accepted (valuesOf (fromSheet wireChanges s))
+abbrev pub SheetAccepted : Tree → List ℕ → Type 0
+SheetAccepted t s = sheetJudged t s ≡ accepted (valuesOf (sheetJudged t s))
 
 -- the body's values, from its place in the sheet on
-abbrev pub bodyRead : List ℕ → ℕ → Read
-bodyRead s at = read sheet (body wireChanges) (drop at s)
+abbrev pub bodyRead : Tree → List ℕ → ℕ → Read
+bodyRead t s at = read sheet (treeBody t) (drop at s)
 
-abbrev pub bodyBitsOf : List ℕ → ℕ → List Bool
-bodyBitsOf s at = write packet (body wireChanges) (valuesOf (bodyRead s at))
+abbrev pub bodyBitsOf : Tree → List ℕ → ℕ → List Bool
+bodyBitsOf t s at = write packet (treeBody t) (valuesOf (bodyRead t s at))
 
 -- the body's place in an accepted sheet
-pub record BodyAt (s : List ℕ) (at : ℕ) : Type 0 where
+pub record BodyAt (t : Tree) (s : List ℕ) (at : ℕ) : Type 0 where
   pub inside : at ≤ length s
-  pub accepts : bodyRead s at ≡ accepted (valuesOf (bodyRead s at))
+  pub accepts : bodyRead t s at ≡ accepted (valuesOf (bodyRead t s at))
 
 -- the first fifteen bytes, and the place of the body's first number
-pub record Headed (s header : List ℕ) (at : ℕ) : Type 0 where
-  pub bytes : header ≡ bytesOfBits (take 120 (frame segmentNumber (bitsOfSheet s)))
-  pub place : BodyAt s at
-  pub rest : drop 96 (bitsOfSheet s) ≡ bodyBitsOf s at
+pub record Headed (t : Tree) (s header : List ℕ) (at : ℕ) : Type 0 where
+  pub bytes : header ≡ bytesOfBits (take 120 (frame (treeNumber t) (bitsOfSheet t s)))
+  pub place : BodyAt t s at
+  pub rest : drop 96 (bitsOfSheet t s) ≡ bodyBitsOf t s at

@@ -2,7 +2,7 @@
 -- Assumes nothing.
 use mathlib.Core.List.{List, [], _∷_, _++_, map}
 use Prim.Native.Nat.{ℕ}
-use lib.IntN.{negsuc}
+use lib.IntN.{pos, negsuc}
 use lib.ListN.{length, replicate}
 use Rattle.segment.specs.Desk.{Question, askSheetOf, askPacketOf, Reply, bytes, refusal, firstPacket, conversions}
 use Rattle.speed.specs.Desk.{plain}
@@ -57,6 +57,44 @@ getsFromSheet front next x v = record { said = speedSaid (speedFromSheet (change
 abbrev pub getsFromPacket : ℕ → ℕ → ℕ → ℕ → Case
 getsFromPacket front next x v = record { said = speedSaid (speedFromPacket (changePacket front next) plain x); due = speedSaid (record { refusal = 0; speed = v }) }
 
+-- ---- A1: "the journey on the same link, as packet number 4"
+
+-- no segment: a body of 11 bits, and 8 numbers
+abbrev pub journeyPacket : List ℕ
+journeyPacket = 0x04 ∷ 0x00 ∷ 0x0B ∷ replicate 14 0
+
+abbrev pub journeySheetBytes : List ℕ
+journeySheetBytes = 0x04 ∷ replicate 7 0
+
+-- one segment with one timing point: its latest arrival's seconds in three groups, its kind of stop, and what follows the daylight saving
+abbrev pub pointSheet : List ℕ → ℕ → List ℕ → List ℕ
+pointSheet seconds stop rest = 0x04 ∷ replicate 6 0 ++ 0x01 ∷ replicate 5 0 ++ 0x01 ∷ 0x00 ∷ 0x00 ∷ seconds ++ 0x00 ∷ 0x00 ∷ stop ∷ 0x00 ∷ 0x00 ∷ rest
+
+-- the refusal of a sheet
+abbrev pub refusedSheet : List ℕ → ℕ → Case
+refusedSheet s r = converts (askPacketOf s) (refusal r)
+
+-- what of a sheet is refused for want of room is accepted
+abbrev pub journeys : List Case
+journeys =
+    converts (askSheetOf journeyPacket) (bytes journeySheetBytes) ∷ converts (askPacketOf journeySheetBytes) (bytes journeyPacket)
+    -- "2 now means neither 4 nor 6, or 4 where a segment is needed (the conversions take both)"
+    ∷ refusedSheet (0x05 ∷ replicate 7 0) 2
+    ∷ record { said = speedSaid (speedFromPacket journeyPacket plain 0); due = speedSaid (record { refusal = 2; speed = 0 }) }
+    ∷ record { said = speedSaid (speedFromSheet journeySheetBytes plain 0); due = speedSaid (record { refusal = 2; speed = 0 }) }
+    ∷ record { said = altitudeSaid (altitudeOf journeyPacket); due = altitudeSaid (record { refusal = 2; altitude = pos 0 }) }
+    -- "Latest arrival seconds reach 86,400"
+    ∷ refusedSheet (pointSheet (0x80 ∷ 0xA3 ∷ 0x05 ∷ []) 0 (replicate 9 0)) 8 ∷ refusedSheet (pointSheet (0x81 ∷ 0xA3 ∷ 0x05 ∷ []) 0 (replicate 9 0)) 4
+    -- "departure seconds 86,399"
+    ∷ refusedSheet (pointSheet (0x00 ∷ []) 0 (replicate 5 0 ++ 0xFF ∷ 0xA2 ∷ 0x05 ∷ replicate 3 0)) 8
+    ∷ refusedSheet (pointSheet (0x00 ∷ []) 0 (replicate 5 0 ++ 0x80 ∷ 0xA3 ∷ 0x05 ∷ replicate 3 0)) 4
+    -- "At a passing point the last eight fields .. are 0", and at a skipped stopping point they need not be
+    ∷ refusedSheet (pointSheet (0x00 ∷ []) 2 (replicate 9 0)) 8 ∷ refusedSheet (pointSheet (0x00 ∷ []) 2 (0x01 ∷ replicate 8 0)) 4
+    ∷ refusedSheet (pointSheet (0x00 ∷ []) 2 (replicate 7 0 ++ 0x01 ∷ 0x00 ∷ [])) 4 ∷ refusedSheet (pointSheet (0x00 ∷ []) 1 (replicate 7 0 ++ 0x01 ∷ 0x00 ∷ [])) 8
+    -- "a 5-bit count of temporary constraints that must be 0 for now"
+    ∷ refusedSheet (pointSheet (0x00 ∷ []) 0 (replicate 8 0 ++ 0x01 ∷ [])) 4
+    ∷ []
+
 -- "The (P) cases form a single table proved by a single statement"
 abbrev pub desk : List Case
 desk =
@@ -70,4 +108,4 @@ desk =
     ∷ getsFromPacket 0 0 699 100 ∷ getsFromPacket 0 0 700 140 ∷ getsFromPacket 1 1 500 140
     -- wire 4: "Q_FRONT's delay tied to the element that follows instead of the one that ends"
     ∷ getsFromSheet 0 1 699 100 ∷ getsFromSheet 1 0 500 140 ∷ getsFromPacket 0 1 699 100 ∷ getsFromPacket 1 0 500 140
-    ∷ []
+    ∷ journeys

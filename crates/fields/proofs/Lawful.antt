@@ -58,7 +58,7 @@ when-some false a v e f = absurd (let z : _≡_ {A = ℕ} 0 1 = cc in omega arit
 
 -- ---- the same number in both
 
-same-lawful : (width largest refusal : ℕ) (ok : ℕ → Bool) → Narrow width → largest < 2 ^ width → ((v : ℕ) → ok v ≡ true → v ≤ largest)
+pub same-lawful : (width largest refusal : ℕ) (ok : ℕ → Bool) → Narrow width → largest < 2 ^ width → ((v : ℕ) → ok v ≡ true → v ≤ largest)
     → LawfulKind (same width largest refusal ok)
 same-lawful width largest refusal ok n h most = record {
   narrow = n;

@@ -247,3 +247,6 @@ packet-ground f s r left = refused-ground packet-lawful bits-faulting f s r left
 
 pub sheet-ground : (f : Format) (s : List ℕ) (r left : ℕ) → Bytes s → (read sheet f s ≡ refused r left) ↔ Ground sheet InSheet GroupsFault f s r left
 sheet-ground f s r left ok = refused-ground sheet-lawful groups-faulting f s r left ok
+
+pub sheet-written : (f : Format) (s : List ℕ) (l : List Item) → Bytes s → (read sheet f s ≡ accepted l) ↔ Written sheet InSheet f s l
+sheet-written f s l ok = accepted-written sheet-lawful groups-faulting f s l ok

@@ -6,14 +6,13 @@ use Prim.Native.Nat.{ℕ, _+_, _/_}
 use lib.Dec.{eqb, ltb}
 use lib.ListN.{length}
 use Rattle.segment.specs.Frame.{packetNumber, bodyBits}
-use Rattle.segment.specs.Judgement.{segmentNumber}
 use Rattle.frame.specs.declared.Frame.{Frame}
 use Rattle.frame.specs.declared.Frame.the-variants as Frame
 
--- refusals 1, 2 and 3, or the bit where a packet's fields end
-abbrev pub frameOf : List ℕ → Frame
-frameOf s =
+-- refusals 1, 2 and 3 of a packet whose number is to be n, or the bit where its fields end
+abbrev pub frameOf : ℕ → List ℕ → Frame
+frameOf n s =
     cond (ltb (length s) 15) (Frame.Refused 1)
-    (cond (eqb (packetNumber s) segmentNumber)
+    (cond (eqb (packetNumber s) n)
     (cond (eqb (length s) (15 + (bodyBits s + 7) / 8)) (Frame.End (120 + bodyBits s)) (Frame.Refused 3))
     (Frame.Refused 2))

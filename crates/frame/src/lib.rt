@@ -24,14 +24,14 @@ pub const HEADER: usize = 15;
 
 pub const FIRST_FIELD: usize = 24;
 
-// The bit where a packet's fields end, or the refusal of its frame.
-pub fn judge_frame(s: &[u8]) -> Frame
-    ensures { λ r. ⌜ r ≡ frameOf (now (s .entry)) ⌝ }
+// The bit where a packet's fields end, or the refusal of its frame, where the packet number is to be this one.
+pub fn judge_frame(s: &[u8], number: u32) -> Frame
+    ensures { λ r. ⌜ r ≡ frameOf number (now (s .entry)) ⌝ }
 {
     if s.len() < HEADER {
         return Frame::Refused(TOO_SHORT);
     }
-    if bits::read_field(s, 0, header::NidPacketAto::WIDTH) != header::NidPacketAto::SEGMENT {
+    if bits::read_field(s, 0, header::NidPacketAto::WIDTH) != number {
         return Frame::Refused(kinds::PACKET_NUMBER);
     }
     let body = bits::read_field(s, 8, header::LPacketAto::WIDTH) as usize;

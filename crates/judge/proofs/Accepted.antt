@@ -8,9 +8,10 @@ use Rattle.bits.specs.Bits.{bitsOfBytes}
 use Rattle.kinds.specs.declared.Item.{Item}
 use Rattle.format.specs.Format.{Read, accepted, refused, read, valuesOf, answerOf}
 use Rattle.format.specs.Media.{packet}
-use Rattle.segment.specs.Segment.{fields, wireChanges}
 use Rattle.segment.specs.Frame.{fromOne, numberItem}
-use Rattle.segment.specs.Judgement.{fromPacket}
+use Rattle.link.specs.declared.Tree.{Tree}
+use Rattle.link.specs.Link.{treeNumber, treeFields}
+use Rattle.link.specs.Trees.{treePacket}
 use Rattle.segment.proofs.Framing.{padded-accepted}
 use Rattle.format.specs.Places.{bitsBetween}
 use Rattle.judge.specs.declared.PacketVerdict.the-variants as PacketVerdict
@@ -29,20 +30,21 @@ module _ {B : Type 0} {accepts refuses : ℕ → B} (sorts : Sorts accepts refus
   verdict-refused (accepted l) q e k = absurd (sorts .apart e)
   verdict-refused (refused r left) q e k = let p : r ≡ q = sym (sorts .number e) in k left (rw p)
 
-module _ (s : List ℕ) where
+module _ (t : Tree) (s : List ℕ) where
   -- the frame of an accepted packet is whole
-  pub accepted-frame : {C : Type 0} (r : ℕ) {l : List Item} → fromPacket wireChanges s ≡ accepted l → Frame.Refused r ≡ frameOf s → C
+  pub accepted-frame : {C : Type 0} (r : ℕ) {l : List Item} → treePacket t s ≡ accepted l → Frame.Refused r ≡ frameOf (treeNumber t) s → C
   accepted-frame r a e =
       let none : List Item → _ = λ l. PacketVerdict.SheetBytes 0 in
-      absurd (packet-sorts .apart {n = 0} (packet-frame PacketVerdict.Refused none s r e ∙ ap (answerOf PacketVerdict.Refused none) a))
+      absurd (packet-sorts .apart {n = 0} (packet-frame PacketVerdict.Refused none (treeNumber t) (treeFields t) s r e ∙ ap (answerOf PacketVerdict.Refused none) a))
 
   -- the fields' own values
   pub record Parts (stop : ℕ) (l : List Item) : Type 0 where
     pub values : List Item
-    pub reads : read packet (fields wireChanges) (bitsBetween s 24 stop) ≡ accepted values
-    pub all : l ≡ numberItem 6 ∷ values
+    pub reads : read packet (treeFields t) (bitsBetween s 24 stop) ≡ accepted values
+    pub all : l ≡ numberItem (treeNumber t) ∷ values
 
-  pub parts : (stop : ℕ) (l : List Item) → Frame.End stop ≡ frameOf s → fromPacket wireChanges s ≡ accepted l → Parts stop l
+  pub parts : (stop : ℕ) (l : List Item) → Frame.End stop ≡ frameOf (treeNumber t) s → treePacket t s ≡ accepted l → Parts stop l
   parts stop l e a =
-      padded-accepted 6 (fromOne (drop stop (bitsOfBytes s))) (read packet (fields wireChanges) (bitsBetween s 24 stop)) l (sym (packet-fields s stop e) ∙ a) λ m p none q.
+      padded-accepted (treeNumber t) (fromOne (drop stop (bitsOfBytes s))) (read packet (treeFields t) (bitsBetween s 24 stop)) l
+      (sym (packet-fields (treeNumber t) s (treeFields t) stop e) ∙ a) λ m p none q.
       record { values = m; reads = p; all = q }

@@ -1,23 +1,30 @@
 -- The size of what is written of the values that are read, and the two sorts of a verdict.
 -- Assumes nothing.
-use mathlib.Core.Path.{_≡_}
+use mathlib.Core.Path.{_≡_, refl}
 use mathlib.Core.List.{List, _∷_}
 use Prim.Native.Nat.{ℕ}
 use native.Mathlib.Omega.{arith}
+use lib.ListN.{length, length-append}
 use Rattle.kinds.specs.declared.Item.{Item}
 use Rattle.format.specs.Media.{sheet}
 use Rattle.numbers.specs.Numbers.{groupsIn}
-use Rattle.segment.specs.Segment.{fields, sheetFields, wireChanges}
 use Rattle.segment.specs.Frame.{numberItem}
-use Rattle.segment.specs.Judgement.{segmentNumber}
+use Rattle.link.specs.declared.Tree.{Tree}
+use Rattle.link.specs.declared.Tree.the-variants.{Segment, Journey}
+use Rattle.link.specs.Link.{treeNumber, treeFields}
+use Rattle.link.specs.Trees.{treeSheetFields}
 use Rattle.judge.specs.declared.PacketVerdict.the-variants as PacketVerdict
 use Rattle.judge.specs.declared.SheetVerdict.the-variants as SheetVerdict
 use Rattle.judge.specs.Verdict.{sizeFrom}
 
+number-byte : (t : Tree) → length (groupsIn (treeNumber t)) ≡ 1
+unfolding groupsIn
+number-byte Segment = refl
+number-byte Journey = refl
+
 -- a packet's fields are a sheet's after the packet number
-pub size-first : (l : List Item) → sizeFrom sheet (fields wireChanges) 1 l ≡ sizeFrom sheet (sheetFields wireChanges) 0 (numberItem segmentNumber ∷ l)
-unfolding sheetFields groupsIn
-size-first l = omega arith
+pub size-first : (t : Tree) (l : List Item) → sizeFrom sheet (treeFields t) 1 l ≡ sizeFrom sheet (treeSheetFields t) 0 (numberItem (treeNumber t) ∷ l)
+size-first t l = rw length-append (omega (arith, number-byte t))
 
 -- a verdict is a refusal or not, and tells its number
 pub record Sorts {B : Type 0} (accepts refuses : ℕ → B) : Type 0 where

@@ -6,9 +6,10 @@ use lib.ListN.{length}
 use Rattle.kinds.specs.declared.Item.{Item}
 use Rattle.format.specs.Format.{Format, Medium, Read, read, write, answerOf}
 use Rattle.format.specs.Media.{packet, sheet}
-use Rattle.segment.specs.Segment.{fields, sheetFields, wireChanges}
 use Rattle.segment.specs.Frame.{numberItem}
-use Rattle.segment.specs.Judgement.{segmentNumber, fromPacket, fromSheet}
+use Rattle.link.specs.declared.Tree.{Tree}
+use Rattle.link.specs.Link.{treeNumber, treeFields}
+use Rattle.link.specs.Trees.{treeSheetFields, treePacket, treeSheet}
 use Rattle.format.specs.Places.{bitsBetween}
 use Rattle.judge.specs.declared.PacketVerdict.{PacketVerdict}
 use Rattle.judge.specs.declared.PacketVerdict.the-variants as PacketVerdict
@@ -23,15 +24,15 @@ verdictOf accepts refuses size r = answerOf refuses (λ l. accepts (size l)) r
 abbrev pub sizeFrom : {A : Type 0} → Medium A → Format → ℕ → List Item → ℕ
 sizeFrom m f n l = n + length (write m f l)
 
--- the verdict on a packet's fields, which end at the bit stop, with the bytes of the packet's sheet
-abbrev pub fieldsVerdict : List ℕ → ℕ → PacketVerdict
-fieldsVerdict s stop =
-    verdictOf PacketVerdict.SheetBytes PacketVerdict.Refused (λ l. sizeFrom sheet (sheetFields wireChanges) 0 (numberItem segmentNumber ∷ l)) (read packet (fields wireChanges) (bitsBetween s 24 stop))
+-- the verdict on the fields of a tree's packet, which end at the bit stop, with the bytes of the packet's sheet
+abbrev pub fieldsVerdict : Tree → List ℕ → ℕ → PacketVerdict
+fieldsVerdict t s stop =
+    verdictOf PacketVerdict.SheetBytes PacketVerdict.Refused (λ l. sizeFrom sheet (treeSheetFields t) 0 (numberItem (treeNumber t) ∷ l)) (read packet (treeFields t) (bitsBetween s 24 stop))
 
--- the verdict on a packet, with the bytes of its sheet
-unfoldable pub packetVerdict : List ℕ → PacketVerdict
-packetVerdict s = verdictOf PacketVerdict.SheetBytes PacketVerdict.Refused (sizeFrom sheet (sheetFields wireChanges) 0) (fromPacket wireChanges s)
+-- the verdict on a packet of a tree, with the bytes of its sheet
+unfoldable pub packetVerdict : Tree → List ℕ → PacketVerdict
+packetVerdict t s = verdictOf PacketVerdict.SheetBytes PacketVerdict.Refused (sizeFrom sheet (treeSheetFields t) 0) (treePacket t s)
 
--- the verdict on a sheet, with the bits of its packet without L_PACKET_ATO and padding
-unfoldable pub sheetVerdict : List ℕ → SheetVerdict
-sheetVerdict s = verdictOf SheetVerdict.PacketBits SheetVerdict.Refused (sizeFrom packet (sheetFields wireChanges) 0) (fromSheet wireChanges s)
+-- the verdict on a sheet of a tree, with the bits of its packet without L_PACKET_ATO and padding
+unfoldable pub sheetVerdict : Tree → List ℕ → SheetVerdict
+sheetVerdict t s = verdictOf SheetVerdict.PacketBits SheetVerdict.Refused (sizeFrom packet (treeSheetFields t) 0) (treeSheet t s)

@@ -112,27 +112,36 @@ module _ (s : List ℕ) where
         let m : n + a + b + c ≡ n + (a + b + c) = omega arith in
         rw (counted-some 253 n (a + b + c) (λ y. omega (arith, z, y)), ← m) (record { goes = q .goes; stands = q .stands })
 
+  -- ---- the header alone
+
+  module _ {stop : ℕ} (h : Standing s stop 24 1) (room : 120 ≤ stop) (a : ℕ) (ca : PartBytes (runs 0 5) s 24 120 a) where
+    pub header-refused : a ≡ 0 → Over (runs 0 5) s stop 24 1 (Refused 4)
+    header-refused z = rw (counted-none 120 1 a z) at (ca stop 1 h room)
+
+    pub header-over : (a ≡ 0 → ⊥) → Over (runs 0 5) s stop 24 1 (On 120 (1 + a))
+    header-over z = rw (counted-some 120 1 a z) at (ca stop 1 h room)
+
   -- ---- the whole
 
   module _ {stop : ℕ} (h : Standing s stop 24 1) (room : 253 ≤ stop) {a : ℕ} (ca : PartBytes (runs 0 5) s 24 120 a) where
     pub head-off : a ≡ 0 → Gave headPart s stop 24 1 (Next.Refused 4)
     unfolding runs
     head-off z =
-        let g = gave-off {q = λ next. runs 5 4 (field lSp λ lsp. runs 10 3 (next lsp))} (rw (counted-none 120 1 a z) at (ca stop 1 h (omega arith))) in
+        let g = gave-off {q = λ next. runs 5 4 (field lSp λ lsp. runs 10 3 (next lsp))} (header-refused h (omega arith) a ca z) in
         record { goes = g .goes; stands = g .stands }
 
     module _ (za : a ≡ 0 → ⊥) (b : ℕ) {v : ℕ} (cb : Passed (runs 5 4) s 120 178 b) (ev : v ≡ fieldAt s 178 24) where
-      header-over : Over (runs 0 5) s stop 24 1 (On 120 (1 + a))
-      header-over = rw (counted-some 120 1 a za) at (ca stop 1 h (omega arith))
+      head-first : Over (runs 0 5) s stop 24 1 (On 120 (1 + a))
+      head-first = header-over h (omega arith) a ca za
 
       identity-over : Over (runs 5 4) s stop 120 (1 + a) (On 178 (1 + a + b))
-      identity-over = cb stop (1 + a) (header-over .stands) (omega arith)
+      identity-over = cb stop (1 + a) (head-first .stands) (omega arith)
 
       pub length-off : v ≡ 0 → Gave headPart s stop 24 1 (Next.Refused 4)
       unfolding runs
       length-off z =
           let k = took-none s stop lSp 24 refl (identity-over .stands) (lit≤ tt) (omega arith) ev (bytes-none lSp v (low-out 1 16777215 v (omega arith))) refl in
-          let g = gave-on header-over (gave-on identity-over (gave-none (runs 10 3) (gave-took k))) in
+          let g = gave-on head-first (gave-on identity-over (gave-none (runs 10 3) (gave-took k))) in
           record { goes = g .goes; stands = g .stands }
 
       module _ (zv : v ≡ 0 → ⊥) {r : ℕ} (d : ℕ) (er : r ≡ length (groupsIn v)) (cd : PartBytes (runs 10 3) s 202 253 d) where
@@ -146,14 +155,14 @@ module _ (s : List ℕ) where
         unfolding runs
         offset-off z =
             let o = rw (counted-none 253 (1 + a + b + r) d z) at (cd stop (1 + a + b + r) (length-took .stands) room) in
-            let g = gave-on header-over (gave-on identity-over (gave-stop (gave-took length-took) o)) in
+            let g = gave-on head-first (gave-on identity-over (gave-stop (gave-took length-took) o)) in
             record { goes = g .goes; stands = g .stands }
 
         pub head-on : (d ≡ 0 → ⊥) → Gave headPart s stop 24 1 (Next.Is v 253 (1 + a + b + r + d))
         unfolding runs
         head-on z =
             let o = rw (counted-some 253 (1 + a + b + r) d z) at (cd stop (1 + a + b + r) (length-took .stands) room) in
-            let g = gave-on header-over (gave-on identity-over (gave-then (gave-took length-took) o)) in
+            let g = gave-on head-first (gave-on identity-over (gave-then (gave-took length-took) o)) in
             record { goes = g .goes; stands = g .stands }
 
 -- ---- one field among the thirteen

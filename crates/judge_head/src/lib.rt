@@ -3,7 +3,7 @@ ghost use mathlib.Core.Path.{_≡_};
 ghost use Prim.Native.Nat.{_-_, _≤_, _<_};
 ghost use lib.ListN.{length};
 ghost use Rattle.kinds.specs.Rules.{meaning};
-ghost use Rattle.segment.specs.Parts.{kindAt, runs};
+ghost use Rattle.segment.specs.Parts.{kindAt, runs, headerPart};
 ghost use Rattle.judge_field.specs.Judging.{Standing, Over, Gave};
 ghost use Rattle.judge_head.specs.Head.{headPart, PartBytes, Passed};
 use judge_field::Next;
@@ -200,4 +200,12 @@ pub fn head(s: &[u8], stop: usize) -> Next
         return cut_head(s, stop);
     }
     whole_head(s, stop)
+}
+
+// The header alone, as packets of every number begin, field by field: so that the code of the thirteen stays in one place.
+pub fn header_fields(s: &[u8], stop: usize) -> Step
+    requires { ⌜ Standing (now s) stop 24 1 ⌝ }
+    ensures { λ r. ⌜ Over headerPart (now (s .entry)) stop 24 1 r ⌝ }
+{
+    run(s, stop, frame::FIRST_FIELD, 1, 0, 5)
 }

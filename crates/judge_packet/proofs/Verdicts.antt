@@ -14,7 +14,7 @@ use Rattle.format.specs.Pass.{pass, made}
 use Rattle.format.proofs.Places.{rest-none, rest-some}
 use Rattle.format.proofs.Passing.{pass-read}
 use Rattle.format.proofs.Tasks.{made-count}
-use Rattle.segment.specs.Segment.{lists, body, fields, wireChanges}
+use Rattle.segment.specs.Segment.{lists, body}
 use Rattle.segment.specs.Parts.{kindAt, runs}
 use Rattle.judge.specs.declared.PacketVerdict.{PacketVerdict}
 use Rattle.judge.specs.declared.PacketVerdict.the-variants as PacketVerdict
@@ -22,12 +22,17 @@ use Rattle.judge.specs.Verdict.{fieldsVerdict}
 use Rattle.judge.proofs.Sizes.{size-first}
 use Rattle.judge_field.specs.declared.Step.the-variants.{On, Refused}
 use Rattle.judge_field.specs.Judging.{judging, verdictAt, Standing, Over}
-use Rattle.judge_packet.specs.Whole.{wholePart}
+use Rattle.journey.specs.Journey.{journeyBody}
+use Rattle.link.specs.declared.Tree.{Tree}
+use Rattle.link.specs.declared.Tree.the-variants.{Segment, Journey}
+use Rattle.link.specs.Link.{treeFields}
+use Rattle.judge_packet.specs.Whole.{treePart}
 
 -- the tree is that part and nothing after it
-whole-part : fields wireChanges ≡ wholePart end
-unfolding fields body lists runs kindAt
-whole-part = refl
+whole-part : (t : Tree) → treeFields t ≡ treePart t end
+unfolding body lists runs kindAt journeyBody
+whole-part Segment = refl
+whole-part Journey = refl
 
 -- answers that agree on every list of values
 alike : (value more : List Item → PacketVerdict) (r : Read) → ((l : List Item) → more l ≡ value l) → answerOf PacketVerdict.Refused more r ≡ answerOf PacketVerdict.Refused value r
@@ -39,24 +44,25 @@ module _ (s : List ℕ) (stop : ℕ) where
   pub first : Placed s 24 stop → 8 ≤ length s → Standing s stop 24 1
   first h l = record { before = h .before; inside = h .inside; few = h .few; long = l; counted = lit≤ tt }
 
-  fields-verdict : fieldsVerdict s stop ≡ verdictAt s stop (wholePart end) 24 1
+module _ (t : Tree) (s : List ℕ) (stop : ℕ) where
+  fields-verdict : fieldsVerdict t s stop ≡ verdictAt s stop (treePart t end) 24 1
   fields-verdict =
-      let r = read packet (fields wireChanges) (bitsBetween s 24 stop) in
-      sym (alike _ (λ l. PacketVerdict.SheetBytes (made judging (fields wireChanges) l 1)) r (λ l. ap PacketVerdict.SheetBytes (made-count sheet PacketVerdict.SheetBytes PacketVerdict.Refused (fields wireChanges) l 1 ∙ size-first l)))
-      ∙ sym (pass-read packet judging (fields wireChanges) 1 (bitsBetween s 24 stop))
-      ∙ ap (λ (f : Format). verdictAt s stop f 24 1) whole-part
+      let r = read packet (treeFields t) (bitsBetween s 24 stop) in
+      sym (alike _ (λ l. PacketVerdict.SheetBytes (made judging (treeFields t) l 1)) r (λ l. ap PacketVerdict.SheetBytes (made-count sheet PacketVerdict.SheetBytes PacketVerdict.Refused (treeFields t) l 1 ∙ size-first t l)))
+      ∙ sym (pass-read packet judging (treeFields t) 1 (bitsBetween s 24 stop))
+      ∙ ap (λ (f : Format). verdictAt s stop f 24 1) (whole-part t)
 
-  pub refused-whole : {r : ℕ} → Over wholePart s stop 24 1 (Refused r) → PacketVerdict.Refused r ≡ fieldsVerdict s stop
+  pub refused-whole : {r : ℕ} → Over (treePart t) s stop 24 1 (Refused r) → PacketVerdict.Refused r ≡ fieldsVerdict t s stop
   refused-whole o = sym (fields-verdict ∙ o .goes end)
 
-  pub accepted-whole : {at n : ℕ} → Over wholePart s stop 24 1 (On at n) → at ≡ stop → PacketVerdict.SheetBytes n ≡ fieldsVerdict s stop
-  accepted-whole {at} {n} o e = sym (fields-verdict ∙ o .goes end ∙ ap (λ (t : List _). pass packet judging end n t) (rest-none s stop at e))
+  pub accepted-whole : {at n : ℕ} → Over (treePart t) s stop 24 1 (On at n) → at ≡ stop → PacketVerdict.SheetBytes n ≡ fieldsVerdict t s stop
+  accepted-whole {at} {n} o e = sym (fields-verdict ∙ o .goes end ∙ ap (λ (u : List _). pass packet judging end n u) (rest-none s stop at e))
 
-  pub left-whole : {at n : ℕ} → Over wholePart s stop 24 1 (On at n) → (at ≡ stop → ⊥) → PacketVerdict.Refused 6 ≡ fieldsVerdict s stop
+  pub left-whole : {at n : ℕ} → Over (treePart t) s stop 24 1 (On at n) → (at ≡ stop → ⊥) → PacketVerdict.Refused 6 ≡ fieldsVerdict t s stop
   left-whole {at} {n} o e =
       let h = o .stands in
       sym (fields-verdict ∙ o .goes end ∙ over (bitsBetween s at stop) (rest-some s stop at (record { before = h .before; inside = h .inside; few = h .few }) e))
     where
-      over : (t : List _) → 0 < length t → pass packet judging end n t ≡ PacketVerdict.Refused 6
+      over : (u : List _) → 0 < length u → pass packet judging end n u ≡ PacketVerdict.Refused 6
       over [] l = absurd (omega arith)
-      over (b ∷ t) l = refl
+      over (b ∷ u) l = refl

@@ -5,14 +5,17 @@ ghost use lib.ListN.{length};
 ghost use Rattle.format.specs.Places.{Placed};
 ghost use Rattle.segment.specs.Segment as segment;
 ghost use Rattle.segment.specs.Parts.{startOf, threeLists};
+ghost use Rattle.link.specs.Link.{treeNumber};
+ghost use Rattle.frame.specs.Framed.{frameOf};
 ghost use Rattle.judge.specs.Verdict.{fieldsVerdict, packetVerdict};
 ghost use Rattle.judge_field.specs.Judging.{Standing, Over};
-ghost use Rattle.judge_packet.specs.Whole.{wholePart};
+ghost use Rattle.judge_packet.specs.Whole.{wholePart, treePart};
 use frame::Frame;
 use judge::PacketVerdict;
 use judge_field::Next;
 use judge_field::Step;
 use kinds::body;
+use link::Tree;
 use segment::Part;
 
 // The changes of a part: each a location that rises, and an element.
@@ -73,7 +76,7 @@ fn lists(s: &[u8], stop: usize, at: usize, n: usize, lsp: u32) -> Step
     }
 }
 
-// Every field of a packet.
+// Every field of a segment after L_PACKET_ATO.
 fn segment(s: &[u8], stop: usize) -> Step
     requires { ⌜ Standing (now s) stop 24 1 ⌝ }
     ensures { λ r. ⌜ Over wholePart (now (s .entry)) stop 24 1 r ⌝ }
@@ -84,12 +87,23 @@ fn segment(s: &[u8], stop: usize) -> Step
     }
 }
 
-// The verdict on the fields of a packet, which end at the bit stop, with the bytes of its sheet.
-fn packet_fields(s: &[u8], stop: usize) -> PacketVerdict
-    requires { ⌜ Placed (now s) 24 stop × (8 ≤ length (now s)) ⌝ }
-    ensures { λ r. ⌜ r ≡ fieldsVerdict (now (s .entry)) stop ⌝ }
+// Every field of a packet, by its tree.
+fn fields(tree: Tree, s: &[u8], stop: usize) -> Step
+    requires { ⌜ Standing (now s) stop 24 1 ⌝ }
+    ensures { λ r. ⌜ Over (treePart tree) (now (s .entry)) stop 24 1 r ⌝ }
 {
-    match segment(s, stop) {
+    match tree {
+        Tree::Segment => segment(s, stop),
+        Tree::Journey => judge_journey::fields(s, stop),
+    }
+}
+
+// The verdict on the fields of a packet, which end at the bit stop, with the bytes of its sheet.
+fn packet_fields(tree: Tree, s: &[u8], stop: usize) -> PacketVerdict
+    requires { ⌜ Placed (now s) 24 stop × (8 ≤ length (now s)) ⌝ }
+    ensures { λ r. ⌜ r ≡ fieldsVerdict tree (now (s .entry)) stop ⌝ }
+{
+    match fields(tree, s, stop) {
         Step::Refused(r) => PacketVerdict::Refused(r),
         Step::On(at, n) => {
             if at == stop {
@@ -100,13 +114,20 @@ fn packet_fields(s: &[u8], stop: usize) -> PacketVerdict
     }
 }
 
-// The verdict on a packet, with the bytes of its sheet.
-pub fn judge_packet(s: &[u8]) -> PacketVerdict
-    ensures { λ r. ⌜ r ≡ packetVerdict (now (s .entry)) ⌝ }
+// The frame of a packet of a tree.
+pub fn tree_frame(tree: Tree, s: &[u8]) -> Frame
+    ensures { λ r. ⌜ r ≡ frameOf (treeNumber tree) (now (s .entry)) ⌝ }
 {
-    match frame::judge_frame(s) {
+    frame::judge_frame(s, link::number(tree))
+}
+
+// The verdict on a packet of a tree, with the bytes of its sheet.
+pub fn judge_packet(tree: Tree, s: &[u8]) -> PacketVerdict
+    ensures { λ r. ⌜ r ≡ packetVerdict tree (now (s .entry)) ⌝ }
+{
+    match tree_frame(tree, s) {
         Frame::Refused(r) => PacketVerdict::Refused(r),
-        Frame::End(stop) => match packet_fields(s, stop) {
+        Frame::End(stop) => match packet_fields(tree, s, stop) {
             PacketVerdict::Refused(r) => PacketVerdict::Refused(r),
             PacketVerdict::SheetBytes(n) => {
                 if frame::zero_from(s, stop) {

@@ -17,25 +17,41 @@ use Rattle.format.proofs.Media.{sheet-only}
 use Rattle.format.proofs.Passing.{pass-read}
 use Rattle.format.proofs.Tasks.{made-within}
 use Rattle.format.proofs.Sized.{size-most, lowered-priced}
-use Rattle.segment.specs.Segment.{sheetFields, wireChanges}
-use Rattle.segment.specs.Parts.{kindAt, sheetPart}
-use Rattle.segment.specs.Judgement.{fromSheet}
-use Rattle.segment.proofs.Parts.{sheet-part}
+use Rattle.format.specs.Conforming.{Conforming, InSheet}
+use Rattle.segment.specs.Segment.{lists, body, fields, sheetFields, wireChanges}
+use Rattle.segment.specs.Parts.{kindAt, runs}
 use Rattle.segment.proofs.Ends.{sheet-bits}
+use Rattle.journey.specs.Journey.{journeyBody, journeyFields, journeySheet, constraints}
+use Rattle.journey.proofs.Ends as journey
+use Rattle.link.specs.declared.Tree.{Tree}
+use Rattle.link.specs.declared.Tree.the-variants.{Segment, Journey}
+use Rattle.link.specs.Trees.{treeSheetFields}
 use Rattle.judge.specs.declared.SheetVerdict.{SheetVerdict}
 use Rattle.judge.specs.declared.SheetVerdict.the-variants as SheetVerdict
 use Rattle.judge.specs.Verdict.{sheetVerdict}
 use Rattle.sheet_fields.specs.declared.Step.the-variants.{On, Refused}
 use Rattle.sheet_fields.specs.Judging.{judging, Over}
+use Rattle.judge_sheet.specs.Whole.{numbersPart}
 
-abbrev tree : Format
-tree = sheetFields wireChanges
+-- the tree is that part and nothing after it
+whole-part : (t : Tree) → treeSheetFields t ≡ numbersPart t end
+unfolding body lists runs kindAt journeyBody
+whole-part Segment = refl
+whole-part Journey = refl
 
-module _ (s : List ℕ) (ok : Bytes s) where
+-- a sheet's packet has fewer bits than 2 to the 32
+tree-few : (t : Tree) {l : List Item} → Conforming InSheet (treeSheetFields t) l → length (write packet (treeSheetFields t) l) < 2 ^ 32
+unfolding sheetFields fields journeySheet journeyFields
+tree-few Segment c = omega (arith, size-most lowered-priced (sheet-bits wireChanges (lit≤ tt)) c)
+tree-few Journey c = omega (arith, size-most lowered-priced (journey.sheet-bits constraints (lit≤ tt)) c)
+
+module _ (t : Tree) (s : List ℕ) (ok : Bytes s) where
+  abbrev tree : Format
+  tree = treeSheetFields t
+
   -- an accepted sheet's packet has fewer bits than 2 to the 32
   few : (l : List Item) → read sheet tree s ≡ accepted l → length (write packet tree l) < 2 ^ 32
-  few l e =
-      omega (arith, size-most lowered-priced (sheet-bits wireChanges (lit≤ tt)) (sheet-only tree s l ok e .0))
+  few l e = tree-few t (sheet-only tree s l ok e .0)
 
   counts : (r : Read) → read sheet tree s ≡ r
       → answerOf SheetVerdict.Refused (λ l. SheetVerdict.PacketBits (0 + length (write packet tree l))) r ≡ answerOf SheetVerdict.Refused (λ l. SheetVerdict.PacketBits (made judging tree l 0)) r
@@ -44,27 +60,27 @@ module _ (s : List ℕ) (ok : Bytes s) where
       ap SheetVerdict.PacketBits (sym (made-within packet (2 ^ 32) SheetVerdict.PacketBits SheetVerdict.Refused tree l 0 (lit< tt) ∙ mod-eq-of-lt (omega arith)))
   counts (refused r n) e = refl
 
-  sheet-verdict : sheetVerdict s ≡ pass sheet judging (sheetPart end) 0 s
-  unfolding sheetVerdict fromSheet
+  sheet-verdict : sheetVerdict t s ≡ pass sheet judging (numbersPart t end) 0 s
+  unfolding sheetVerdict
   sheet-verdict =
       counts (read sheet tree s) refl
       ∙ sym (pass-read sheet judging tree 0 s)
-      ∙ ap (λ (f : Format). pass sheet judging f 0 s) sheet-part
+      ∙ ap (λ (f : Format). pass sheet judging f 0 s) (whole-part t)
 
-  pub refused-whole : {r : ℕ} → Over sheetPart s 0 0 (Refused r) → SheetVerdict.Refused r ≡ sheetVerdict s
+  pub refused-whole : {r : ℕ} → Over (numbersPart t) s 0 0 (Refused r) → SheetVerdict.Refused r ≡ sheetVerdict t s
   refused-whole o = sym (sheet-verdict ∙ o .goes end)
 
-  pub accepted-whole : {at n : ℕ} → Over sheetPart s 0 0 (On at n) → at ≡ length s → SheetVerdict.PacketBits n ≡ sheetVerdict s
+  pub accepted-whole : {at n : ℕ} → Over (numbersPart t) s 0 0 (On at n) → at ≡ length s → SheetVerdict.PacketBits n ≡ sheetVerdict t s
   accepted-whole {at} {n} o e =
-      sym (sheet-verdict ∙ o .goes end ∙ ap (λ (t : List ℕ). pass sheet judging end n t) (drop-of-length-le s {i = at} (omega arith)))
+      sym (sheet-verdict ∙ o .goes end ∙ ap (λ (u : List ℕ). pass sheet judging end n u) (drop-of-length-le s {i = at} (omega arith)))
 
-  pub left-whole : {at n : ℕ} → Over sheetPart s 0 0 (On at n) → (at ≡ length s → ⊥) → SheetVerdict.Refused 9 ≡ sheetVerdict s
+  pub left-whole : {at n : ℕ} → Over (numbersPart t) s 0 0 (On at n) → (at ≡ length s → ⊥) → SheetVerdict.Refused 9 ≡ sheetVerdict t s
   left-whole {at} {n} o e =
       sym (sheet-verdict ∙ o .goes end ∙ over (drop at s) (omega (arith, length-drop at s, o .stands .inside)))
     where
-      over : (t : List ℕ) → 0 < length t → pass sheet judging end n t ≡ SheetVerdict.Refused 9
+      over : (u : List ℕ) → 0 < length u → pass sheet judging end n u ≡ SheetVerdict.Refused 9
       over [] l = absurd (omega arith)
-      over (b ∷ t) l = refl
+      over (b ∷ u) l = refl
 
 -- ---- the fields before the speed profile by their number
 

@@ -1,15 +1,18 @@
 // A sheet judged part by part, with the bits of its packet counted. Nothing is written.
 ghost use mathlib.Core.Path.{_≡_};
-ghost use Prim.Native.Nat.{_-_, _<_};
+ghost use Prim.Native.Nat.{_-_};
 ghost use Rattle.segment.specs.Parts as parts;
 ghost use Rattle.segment.specs.Parts.{runs, Run};
+ghost use Rattle.link.specs.Link.{treeNumber};
 ghost use Rattle.judge.specs.Verdict.{sheetVerdict};
 ghost use Rattle.sheet_fields.specs.Judging.{Standing, Over};
+ghost use Rattle.judge_sheet.specs.Whole.{afterPart, numbersPart};
 use judge::SheetVerdict;
 use kinds::OUT_OF_RANGE;
 use kinds::PACKET_NUMBER;
 use kinds::body;
 use kinds::header;
+use link::Tree;
 use sheet_fields::Next;
 use sheet_fields::Step;
 use sheet_fields::operational;
@@ -75,7 +78,7 @@ fn run(s: &[u8], at: usize, n: u32, first: u32, end: u32) -> Step
     Step::On(to, m)
 }
 
-// Every field after the packet number.
+// Every field of a segment after the packet number.
 fn segment(s: &[u8], at: usize, n: u32) -> Step
     requires { ⌜ Standing (now s) at ⌝ }
     ensures { λ r. ⌜ Over parts.segmentPart (now (s .entry)) at n r ⌝ }
@@ -103,30 +106,49 @@ fn segment(s: &[u8], at: usize, n: u32) -> Step
     }
 }
 
-// The packet number, then every other field.
-fn numbers_of(s: &[u8]) -> Step
-    requires { ⌜ Standing (now s) 0 ⌝ }
-    ensures { λ r. ⌜ Over parts.sheetPart (now (s .entry)) 0 0 r ⌝ }
+// The same of either tree.
+fn fields(tree: Tree, s: &[u8], at: usize, n: u32) -> Step
+    requires { ⌜ Standing (now s) at ⌝ }
+    ensures { λ r. ⌜ Over (afterPart tree) (now (s .entry)) at n r ⌝ }
+{
+    match tree {
+        Tree::Segment => segment(s, at, n),
+        Tree::Journey => judge_journey_sheet::fields(s, at, n),
+    }
+}
+
+// The packet number, which is to be this one, then every other field.
+fn numbers_of(tree: Tree, number: u32, s: &[u8]) -> Step
+    requires { ⌜ Standing (now s) 0 × (number ≡ treeNumber tree) ⌝ }
+    ensures { λ r. ⌜ Over (numbersPart tree) (now (s .entry)) 0 0 r ⌝ }
 {
     match ranged(
         s,
         0,
         0,
         header::NidPacketAto::WIDTH,
-        header::NidPacketAto::SEGMENT,
-        header::NidPacketAto::SEGMENT,
+        number,
+        number,
         PACKET_NUMBER,
     ) {
         Next::Refused(r) => Step::Refused(r),
-        Next::Is(_, at, n) => segment(s, at, n),
+        Next::Is(_, at, n) => fields(tree, s, at, n),
     }
 }
 
-// The verdict on a sheet, with the bits of its packet without L_PACKET_ATO and padding.
-pub fn judge_sheet(s: &[u8]) -> SheetVerdict
-    ensures { λ r. ⌜ r ≡ sheetVerdict (now (s .entry)) ⌝ }
+// The same with the tree's own packet number.
+fn tree_numbers(tree: Tree, s: &[u8]) -> Step
+    requires { ⌜ Standing (now s) 0 ⌝ }
+    ensures { λ r. ⌜ Over (numbersPart tree) (now (s .entry)) 0 0 r ⌝ }
 {
-    match numbers_of(s) {
+    numbers_of(tree, link::number(tree), s)
+}
+
+// The verdict on a sheet of a tree, with the bits of its packet without L_PACKET_ATO and padding.
+pub fn judge_sheet(tree: Tree, s: &[u8]) -> SheetVerdict
+    ensures { λ r. ⌜ r ≡ sheetVerdict tree (now (s .entry)) ⌝ }
+{
+    match tree_numbers(tree, s) {
         Step::Refused(r) => SheetVerdict::Refused(r),
         Step::On(at, n) => {
             if at == s.len() {

@@ -14,6 +14,9 @@ impl NidPacketAto {
     // The number of a segment's packet.
     pub const SEGMENT: u32 = 6;
 
+    // And of a journey's.
+    pub const JOURNEY: u32 = 4;
+
     pub const LARGEST: u32 = Self::SEGMENT;
 
     pub fn rule() -> Rule

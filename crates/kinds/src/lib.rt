@@ -47,7 +47,7 @@ pub enum Rule {
 }
 
 // From 0 to largest.
-fn up_to(width: u32, largest: u32) -> Rule
+pub fn up_to(width: u32, largest: u32) -> Rule
     ensures { λ r. ⌜ meaning r ≡ upTo width largest ⌝ }
 {
     Rule::Range {

@@ -4,19 +4,20 @@ use mathlib.Core.Path.{_≡_, refl, sym, ap, ap₂, _∙_}
 use mathlib.Core.List.{List, _∷_}
 use Prim.Native.Nat.{ℕ}
 use borrow.Author.Tests.{eqb-true, eqb-false}
-use lib.Dec.{eqb, lit≤}
+use lib.Dec.{eqb}
 use Rattle.bits.proofs.Tests.{by-cases}
 use Rattle.kinds.specs.declared.Item.{Item}
 use Rattle.kinds.specs.Kind.{Kind}
 use Rattle.kinds.specs.Kinds.{speed, mCurrent}
 use Rattle.format.specs.Format.{Format, accepted, sheetNumbers}
 use Rattle.format.specs.Conforming.{Conforming, done, also, InPacket, InSheet, givenBack}
-use Rattle.format.proofs.Lawful.{Lawful, goes, to-sheet}
-use Rattle.segment.specs.Segment.{sheetFields, wireChanges}
-use Rattle.segment.specs.Judgement.{fromPacket, fromSheet, toPacket, toSheet}
-use Rattle.segment.proofs.Ends.{sheetFields-lawful}
-use Rattle.promises.specs.Promised.{SheetValues, spelled, LoweredTo, Lowering, over, one, Agreeing}
-use Rattle.promises.proofs.Values.{packet-taken, sheet-taken, lowered-packet, lowered-good, numbers-spelled, lowered-to, lowering}
+use Rattle.format.proofs.Lawful.{Lawful, goes}
+use Rattle.link.specs.Link.{linkFields, fromEitherPacket, fromEitherSheet, toEitherPacket, toEitherSheet}
+use Rattle.link.specs.Grounds.{EitherSheetValues}
+use Rattle.link.proofs.Trees.{link-lawful}
+use Rattle.link.proofs.Values.{either-packet-taken, either-sheet-taken}
+use Rattle.promises.specs.Promised.{spelled, LoweredTo, Lowering, over, one, Agreeing}
+use Rattle.promises.proofs.Values.{either-lowered, either-lowered-good, either-good-sheet, numbers-spelled, lowered-to, lowering}
 
 -- a number is lowered to one number
 lowered-once : (k : Kind) (a b c : ℕ) → LoweredTo k a b → LoweredTo k a c → b ≡ c
@@ -34,31 +35,33 @@ lowering-once (goes {k = k} lawful rest) (also {i = i} g c) (one {j = j} p q) =
     (lowered-once k (i .sheet) (j .sheet) (k .raise (i .packet)) p (lowered-to k lawful (i .sheet) (i .packet) (g .lowered)))
     (lowering-once (rest (i .packet) (lawful .into (i .sheet) (i .packet) (g .lowered))) c q)
 
-module _ {l m : List Item} (cl : SheetValues l) (cm : SheetValues m) where
+module _ {l m : List Item} (cl : EitherSheetValues l) (cm : EitherSheetValues m) where
   accepted-same : {a b : List Item} → accepted a ≡ accepted b → a ≡ b
   accepted-same e = cc
 
+  abbrev x : List Item
+  x = givenBack linkFields l
+
+  abbrev y : List Item
+  y = givenBack linkFields m
+
   -- sheets of one packet are lowered to the same numbers
-  pub packets-agree : toPacket wireChanges l ≡ toPacket wireChanges m → Agreeing l m
+  pub packets-agree : toEitherPacket l ≡ toEitherPacket m → Agreeing l m
   packets-agree e =
-      let x : List Item = givenBack (sheetFields wireChanges) l in
-      let y : List Item = givenBack (sheetFields wireChanges) m in
-      let w = sheetFields-lawful wireChanges (lit≤ tt) in
-      let p : toPacket wireChanges x ≡ toPacket wireChanges y = lowered-packet l ∙ e ∙ sym (lowered-packet m) in
-      let q : x ≡ y = accepted-same (sym (packet-taken x (lowered-good cl)) ∙ ap (fromPacket wireChanges) p ∙ packet-taken y (lowered-good cm)) in
-      record { lower = x; first = lowering w cl; second = rw q (lowering w cm) }
+      let p : toEitherPacket x ≡ toEitherPacket y = either-lowered l ∙ e ∙ sym (either-lowered m) in
+      let q : x ≡ y = accepted-same (sym (either-packet-taken x (either-lowered-good cl)) ∙ ap fromEitherPacket p ∙ either-packet-taken y (either-lowered-good cm)) in
+      record { lower = x; first = lowering link-lawful (cl .good); second = rw q (lowering link-lawful (cm .good)) }
 
   -- and sheets that are lowered to the same numbers have one packet
-  pub agreeing-packets : Agreeing l m → toPacket wireChanges l ≡ toPacket wireChanges m
-  unfolding toSheet
+  pub agreeing-packets : Agreeing l m → toEitherPacket l ≡ toEitherPacket m
+  unfolding toEitherSheet
   agreeing-packets a =
-      let x : List Item = givenBack (sheetFields wireChanges) l in
-      let y : List Item = givenBack (sheetFields wireChanges) m in
-      let w = sheetFields-lawful wireChanges (lit≤ tt) in
-      let numbers : sheetNumbers x ≡ sheetNumbers y = sym (lowering-once w cl (a .first)) ∙ lowering-once w cm (a .second) in
-      let p : toSheet wireChanges x ≡ toSheet wireChanges y = numbers-spelled (lowered-good cl) ∙ ap spelled numbers ∙ sym (numbers-spelled (lowered-good cm)) in
-      let q : x ≡ y = accepted-same (sym (sheet-taken x (to-sheet w (lowered-good cl))) ∙ ap (fromSheet wireChanges) p ∙ sheet-taken y (to-sheet w (lowered-good cm))) in
-      sym (lowered-packet l) ∙ ap (toPacket wireChanges) q ∙ lowered-packet m
+      let gl = either-lowered-good cl in
+      let gm = either-lowered-good cm in
+      let numbers : sheetNumbers x ≡ sheetNumbers y = sym (lowering-once link-lawful (cl .good) (a .first)) ∙ lowering-once link-lawful (cm .good) (a .second) in
+      let p : toEitherSheet x ≡ toEitherSheet y = numbers-spelled (gl .good) ∙ ap spelled numbers ∙ sym (numbers-spelled (gm .good)) in
+      let q : x ≡ y = accepted-same (sym (either-sheet-taken x (either-good-sheet gl)) ∙ ap fromEitherSheet p ∙ either-sheet-taken y (either-good-sheet gm)) in
+      sym (either-lowered l) ∙ ap toEitherPacket q ∙ either-lowered m
 
 -- a packet's values stay as they are
 pub lowered-same : {f : Format} {l : List Item} → Conforming InPacket f l → givenBack f l ≡ l

@@ -9,18 +9,20 @@ use lib.IntN.{pos}
 use lib.ListN.{length}
 use Rattle.bits.specs.Bits.{Bytes}
 use Rattle.format.specs.Grounds.{OneEnding, OneJudgement}
-use Rattle.segment.specs.Segment.{wireChanges}
-use Rattle.segment.specs.Judgement.{fromPacket, fromSheet, toPacket, toSheet}
+use Rattle.segment.specs.Segment.{fields, wireChanges}
+use Rattle.segment.specs.Judgement.{segmentNumber, fromPacket, fromSheet, toPacket, toSheet}
+use Rattle.link.specs.Link.{fromEitherPacket, fromEitherSheet, toEitherPacket, toEitherSheet}
+use Rattle.link.specs.Grounds.{EitherPacketGround, EitherSheetGround, EitherPacketValues, EitherSheetValues}
 use Rattle.segment.specs.Grounds.{PacketGround, SheetGround}
 use Rattle.speed.specs.declared.Train.{Train}
 use Rattle.question.specs.Question.{speedFromPacket, speedFromSheet}
 use Rattle.altitude.specs.Altitude.{altitudeOf}
 use Rattle.convert.specs.Convert.{refusedWith, packetToSheet, sheetToPacket}
-use Rattle.promises.specs.Promised.{PacketValues, SheetValues, PacketOfValues, ConvertiblePacket, ConvertibleSheet, AnswerablePacket, AnswerableSheet, Done}
+use Rattle.promises.specs.Promised.{SegmentPacketValues, SegmentSheetValues, PacketOfValues, ConvertiblePacket, ConvertibleSheet, AnswerablePacket, AnswerableSheet, Done}
 use Rattle.promises.specs.Refused.{Refuses, PacketRefused, PacketToSheetGround, SheetToPacketGround, SpeedFromPacketGround, SpeedFromSheetGround, packetToSheetRefusals, sheetToPacketRefusals, speedFromPacketRefusals, speedFromSheetRefusals, altitudeRefusals}
 use Rattle.promises.specs.Ranges.{ConversionEnds, SpeedEnds, AltitudeEnds, OneOutcome}
-use Rattle.promises.proofs.Values.{packets, sheets, kept, side-converted, side-answered, speed-none, altitude-none}
-use Rattle.promises.proofs.Refused.{packets-on, sheets-on, one-ending, one-outcome, conversion-refused, conversion-ends, question-refused, question-ends, altitude-refused as altitude-on-ground, altitude-answered, altitude-ends, side-judged}
+use Rattle.promises.proofs.Values.{packets, sheets, either-packets, either-sheets, kept, side-converted, side-answered, speed-none, altitude-none}
+use Rattle.promises.proofs.Refused.{packets-on, sheets-on, either-packets-on, either-sheets-on, one-ending, one-outcome, conversion-refused, conversion-ends, question-refused, question-ends, altitude-refused as altitude-on-ground, altitude-answered, altitude-ends, side-judged}
 use Rattle.promises.proofs.Ranges.{packet-sheet-size, sheet-packet-size, packet-speed-most, sheet-speed-most, altitude-most, packet-to-sheet-listed, sheet-to-packet-listed, speed-from-packet-listed, speed-from-sheet-listed, altitude-listed, packet-not-8, sheet-not-8, never-short}
 
 module _ (s : List ℕ) (ok : Bytes s) where
@@ -29,11 +31,11 @@ module _ (s : List ℕ) (ok : Bytes s) where
   module _ (room : List ℕ) where
     pub packet-to-sheet-refused : (r : ℕ) → Refuses (packetToSheet s room .answer .refusal) r ↔ PacketToSheetGround s room r
     unfolding packetToSheet
-    packet-to-sheet-refused r = conversion-refused packets packets-on s ok (toSheet wireChanges) room r
+    packet-to-sheet-refused r = conversion-refused either-packets either-packets-on s ok toEitherSheet room r
 
     pub sheet-to-packet-refused : (r : ℕ) → Refuses (sheetToPacket s room .answer .refusal) r ↔ SheetToPacketGround s room r
     unfolding sheetToPacket
-    sheet-to-packet-refused r = conversion-refused sheets sheets-on s ok (toPacket wireChanges) room r
+    sheet-to-packet-refused r = conversion-refused either-sheets either-sheets-on s ok toEitherPacket room r
 
   module _ (t : Train) (x : ℕ) where
     pub speed-from-packet-refused : (r : ℕ) → Refuses (speedFromPacket s t x .refusal) r ↔ SpeedFromPacketGround s t x r
@@ -53,11 +55,11 @@ module _ (s : List ℕ) (ok : Bytes s) where
   module _ (room : List ℕ) where
     pub packet-to-sheet-ending : OneEnding (ConvertiblePacket s room) (PacketToSheetGround s room)
     unfolding packetToSheet
-    packet-to-sheet-ending = one-ending (packetToSheet s room .answer .refusal) (side-converted packets (toSheet wireChanges) s room ok) (packet-to-sheet-refused room)
+    packet-to-sheet-ending = one-ending (packetToSheet s room .answer .refusal) (side-converted either-packets toEitherSheet s room ok) (packet-to-sheet-refused room)
 
     pub sheet-to-packet-ending : OneEnding (ConvertibleSheet s room) (SheetToPacketGround s room)
     unfolding sheetToPacket
-    sheet-to-packet-ending = one-ending (sheetToPacket s room .answer .refusal) (side-converted sheets (toPacket wireChanges) s room ok) (sheet-to-packet-refused room)
+    sheet-to-packet-ending = one-ending (sheetToPacket s room .answer .refusal) (side-converted either-sheets toEitherPacket s room ok) (sheet-to-packet-refused room)
 
   module _ (t : Train) (x : ℕ) where
     pub speed-from-packet-ending : OneEnding (AnswerablePacket s t x) (SpeedFromPacketGround s t x)
@@ -73,26 +75,32 @@ module _ (s : List ℕ) (ok : Bytes s) where
   altitude-of-packet-ending = one-ending (altitudeOf s .refusal) (altitude-answered packets packets-on s ok) altitude-of-packet-refused
 
   -- the same of the judgement before 8, 10 and 11, with the place: how many bits or bytes were left
-  pub packet-judged : OneJudgement (λ l. PacketValues l × (s ≡ toPacket wireChanges l)) (PacketGround wireChanges s)
+  pub packet-judged : OneJudgement (λ l. SegmentPacketValues l × (s ≡ toPacket wireChanges l)) (PacketGround segmentNumber (fields wireChanges) s)
   packet-judged = side-judged packets packets-on s ok
 
-  pub sheet-judged : OneJudgement (λ l. SheetValues l × (s ≡ toSheet wireChanges l)) (SheetGround wireChanges s)
+  pub sheet-judged : OneJudgement (λ l. SegmentSheetValues l × (s ≡ toSheet wireChanges l)) (SheetGround wireChanges s)
   sheet-judged = side-judged sheets sheets-on s ok
+
+  pub either-packet-judged : OneJudgement (λ l. EitherPacketValues l × (s ≡ toEitherPacket l)) (EitherPacketGround s)
+  either-packet-judged = side-judged either-packets either-packets-on s ok
+
+  pub either-sheet-judged : OneJudgement (λ l. EitherSheetValues l × (s ≡ toEitherSheet l)) (EitherSheetGround s)
+  either-sheet-judged = side-judged either-sheets either-sheets-on s ok
 
   -- ==== "one possible outcome for every input": the refusals of the C header, and the ranges of success
 
   module _ (room : List ℕ) where
-    pub packet-to-sheet-outcome : OneOutcome (packetToSheet s room) (ConversionEnds room packetToSheetRefusals 23 5608)
+    pub packet-to-sheet-outcome : OneOutcome (packetToSheet s room) (ConversionEnds room packetToSheetRefusals 8 15226)
     unfolding packetToSheet
     packet-to-sheet-outcome =
         one-outcome (packetToSheet s room)
-        (conversion-ends packets packets-on s ok (toSheet wireChanges) room packetToSheetRefusals 23 5608 (packet-to-sheet-listed s room) packet-sheet-size)
+        (conversion-ends either-packets either-packets-on s ok toEitherSheet room packetToSheetRefusals 8 15226 (packet-to-sheet-listed s room) packet-sheet-size)
 
-    pub sheet-to-packet-outcome : OneOutcome (sheetToPacket s room) (ConversionEnds room sheetToPacketRefusals 39 2001)
+    pub sheet-to-packet-outcome : OneOutcome (sheetToPacket s room) (ConversionEnds room sheetToPacketRefusals 17 8207)
     unfolding sheetToPacket
     sheet-to-packet-outcome =
         one-outcome (sheetToPacket s room)
-        (conversion-ends sheets sheets-on s ok (toPacket wireChanges) room sheetToPacketRefusals 39 2001 (sheet-to-packet-listed s room) sheet-packet-size)
+        (conversion-ends either-sheets either-sheets-on s ok toEitherPacket room sheetToPacketRefusals 17 8207 (sheet-to-packet-listed s room) sheet-packet-size)
 
   module _ (t : Train) (x : ℕ) where
     pub speed-from-packet-outcome : OneOutcome (speedFromPacket s t x) (SpeedEnds speedFromPacketRefusals 600)
@@ -111,24 +119,24 @@ module _ (s : List ℕ) (ok : Bytes s) where
   unfolding altitudeOf
   altitude-of-packet-outcome = one-outcome (altitudeOf s) (altitude-ends packets packets-on s ok altitudeRefusals (altitude-listed s) altitude-most)
 
--- so that "a room of the largest is never refused as too short", as the C header says
-pub largest-sheet-room : (s room : List ℕ) → Bytes s → 5608 ≤ length room → packetToSheet s room .answer .refusal ≡ 8 → ⊥
+-- so that "a room of the largest is never refused as too short", as the C header says, for whatever is on the link
+pub largest-sheet-room : (s room : List ℕ) → Bytes s → 15226 ≤ length room → packetToSheet s room .answer .refusal ≡ 8 → ⊥
 largest-sheet-room s room ok h e =
-    never-short (toSheet wireChanges) 5608 room h (λ l c. packet-sheet-size l c .1) (λ g. packet-not-8 s g) (packet-to-sheet-refused s ok room 8 .0 (e, omega arith))
+    never-short toEitherSheet 15226 room h (λ l c. packet-sheet-size l c .1) (λ g. packet-not-8 s g) (packet-to-sheet-refused s ok room 8 .0 (e, omega arith))
 
-pub largest-packet-room : (s room : List ℕ) → Bytes s → 2001 ≤ length room → sheetToPacket s room .answer .refusal ≡ 8 → ⊥
+pub largest-packet-room : (s room : List ℕ) → Bytes s → 8207 ≤ length room → sheetToPacket s room .answer .refusal ≡ 8 → ⊥
 largest-packet-room s room ok h e =
-    never-short (toPacket wireChanges) 2001 room h (λ l c. sheet-packet-size l c .1) (λ g. sheet-not-8 s g) (sheet-to-packet-refused s ok room 8 .0 (e, omega arith))
+    never-short toEitherPacket 8207 room h (λ l c. sheet-packet-size l c .1) (λ g. sheet-not-8 s g) (sheet-to-packet-refused s ok room 8 .0 (e, omega arith))
 
 -- ==== "A refusal returns its number and writes nothing into the lent room."
 
 pub packet-refused : (s room : List ℕ) → (Done (packetToSheet s room) → ⊥) → packetToSheet s room ≡ refusedWith (packetToSheet s room .answer .refusal) room
 unfolding packetToSheet
-packet-refused s room n = kept (toSheet wireChanges) (fromPacket wireChanges s) room n
+packet-refused s room n = kept toEitherSheet (fromEitherPacket s) room n
 
 pub sheet-refused : (s room : List ℕ) → (Done (sheetToPacket s room) → ⊥) → sheetToPacket s room ≡ refusedWith (sheetToPacket s room .answer .refusal) room
 unfolding sheetToPacket
-sheet-refused s room n = kept (toPacket wireChanges) (fromSheet wireChanges s) room n
+sheet-refused s room n = kept toEitherPacket (fromEitherSheet s) room n
 
 -- the same for the questions: the number comes with speed or altitude 0
 pub packet-speed-refused : (s : List ℕ) (t : Train) (x : ℕ) → (speedFromPacket s t x .refusal ≡ 0 → ⊥) → speedFromPacket s t x .speed ≡ 0

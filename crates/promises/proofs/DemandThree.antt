@@ -10,11 +10,15 @@ use Rattle.format.specs.Format.{accepted}
 use Rattle.format.specs.Conforming.{givenBack}
 use Rattle.segment.specs.Segment.{sheetFields, wireChanges}
 use Rattle.segment.specs.Judgement.{fromPacket, toPacket, toSheet}
+use Rattle.link.specs.Link.{fromEitherSheet, toEitherPacket}
+use Rattle.link.specs.Grounds.{EitherSheetValues}
+use Rattle.link.proofs.Values.{either-sheet-taken}
+use Rattle.link.proofs.Segments.{on-link}
 use Rattle.speed.specs.declared.Train.{Train}
 use Rattle.question.specs.declared.Speed.{Speed}
 use Rattle.question.specs.Question.{speedFromPacket, speedFromSheet}
 use Rattle.convert.specs.Convert.{successWith, sheetToPacket}
-use Rattle.promises.specs.Promised.{SheetValues, ConvertibleSheet, AnswerableSheet, answerInFives, GreatestFive, Agreeing, Done, result}
+use Rattle.promises.specs.Promised.{SegmentSheetValues, ConvertibleSheet, AnswerableSheet, answerInFives, GreatestFive, Agreeing, Done, result}
 use Rattle.promises.proofs.Agreeing.{packets-agree, agreeing-packets}
 use Rattle.promises.proofs.DemandTwo.{sheet-converted, sheet-result, sheet-speed}
 use Rattle.promises.proofs.Values.{packet-taken, sheet-taken, lowered-packet, lowered-good, in-fives, asked-lowered, placed-result}
@@ -22,7 +26,7 @@ use Rattle.promises.proofs.Values.{packet-taken, sheet-taken, lowered-p
 -- ==== "Two accepted sheets make the same packet exactly when they agree in every field after that lowering."
 
 -- for any values of accepted sheets: they agree exactly when both are lowered, field by field, to the same numbers
-pub same-packet : (l m : List Item) → SheetValues l → SheetValues m → (toPacket wireChanges l ≡ toPacket wireChanges m) ↔ Agreeing l m
+pub same-packet : (l m : List Item) → EitherSheetValues l → EitherSheetValues m → (toEitherPacket l ≡ toEitherPacket m) ↔ Agreeing l m
 same-packet l m cl cm = (packets-agree cl cm, agreeing-packets cl cm)
 
 -- in the words of the operation: two sheets that are converted into the same room leave it the same exactly then
@@ -30,13 +34,13 @@ pub same-outcome : (s t room : List ℕ) (c : ConvertibleSheet s room) (d : Conv
     → (sheetToPacket s room ≡ sheetToPacket t room) ↔ Agreeing (c .values) (d .values)
 same-outcome s t room c d = (there, back)
   where
-    law : (toPacket wireChanges (c .values) ≡ toPacket wireChanges (d .values)) ↔ Agreeing (c .values) (d .values)
+    law : (toEitherPacket (c .values) ≡ toEitherPacket (d .values)) ↔ Agreeing (c .values) (d .values)
     law = same-packet (c .values) (d .values) (c .good) (d .good)
 
     there : sheetToPacket s room ≡ sheetToPacket t room → Agreeing (c .values) (d .values)
     there e =
-        law .0 (sym (placed-result (toPacket wireChanges (c .values)) room) ∙ ap result (sym (sheet-result s room c) ∙ e ∙ sheet-result t room d)
-        ∙ placed-result (toPacket wireChanges (d .values)) room)
+        law .0 (sym (placed-result (toEitherPacket (c .values)) room) ∙ ap result (sym (sheet-result s room c) ∙ e ∙ sheet-result t room d)
+        ∙ placed-result (toEitherPacket (d .values)) room)
 
     back : Agreeing (c .values) (d .values) → sheetToPacket s room ≡ sheetToPacket t room
     back e = sheet-result s room c ∙ ap (λ (x : List ℕ). successWith x room) (law .1 e) ∙ sym (sheet-result t room d)
@@ -44,7 +48,7 @@ same-outcome s t room c d = (there, back)
 -- ==== "For every accepted sheet, valid train and centimetre, the speed from its packet is the greatest multiple of 5 not above the speed from the sheet."
 
 -- for any values of an accepted sheet; the refusal is the same too, for any train and any x
-pub lowered-speed : (l : List Item) (t : Train) (x : ℕ) → SheetValues l
+pub lowered-speed : (l : List Item) (t : Train) (x : ℕ) → SegmentSheetValues l
     → speedFromPacket (toPacket wireChanges l) t x ≡ answerInFives (speedFromSheet (toSheet wireChanges l) t x)
 unfolding speedFromPacket speedFromSheet
 lowered-speed l t x c =
@@ -61,9 +65,14 @@ pub speed-again : (s room : List ℕ) (t : Train) (x : ℕ) → Bytes s → Done
     → Lowered s (result (sheetToPacket s room)) t x
 speed-again s room t x ok d a =
     let c = sheet-converted s room ok .0 d in
-    let p : result (sheetToPacket s room) ≡ toPacket wireChanges (c .values) = ap result (sheet-result s room c) ∙ placed-result (toPacket wireChanges (c .values)) room in
+    let o = on-link (a .good) in
+    let same : accepted (c .values) ≡ accepted (a .values) =
+    sym (either-sheet-taken (c .values) (c .good)) ∙ ap fromEitherSheet (sym (c .whole) ∙ a .whole ∙ sym (o .sameSheet)) ∙ either-sheet-taken (a .values) (o .values) in
+    let v : c .values ≡ a .values = cc in
+    let p : result (sheetToPacket s room) ≡ toPacket wireChanges (a .values) =
+    ap result (sheet-result s room c) ∙ placed-result (toEitherPacket (c .values)) room ∙ ap toEitherPacket v ∙ o .samePacket in
     let q : speedFromPacket (result (sheetToPacket s room)) t x ≡ answerInFives (speedFromSheet s t x) =
-    ap (λ (b : List ℕ). speedFromPacket b t x) p ∙ lowered-speed (c .values) t x (c .good) ∙ ap (λ (b : List ℕ). answerInFives (speedFromSheet b t x)) (sym (c .whole)) in
+    ap (λ (b : List ℕ). speedFromPacket b t x) p ∙ lowered-speed (a .values) t x (a .good) ∙ ap (λ (b : List ℕ). answerInFives (speedFromSheet b t x)) (sym (a .whole)) in
     record {
       answered = ap (λ (o : Speed). o .refusal) q ∙ ap (λ (o : Speed). o .refusal) (sheet-speed s t x a);
       greatest = rw q (in-fives (speedFromSheet s t x .speed));

@@ -1,21 +1,23 @@
 -- The customer's second demand: "Every packet and sheet that keeps the published widths and ranges and the stated rules is converted if the room holds the result, and nothing else is."
 -- Assumes nothing.
-use mathlib.Core.Path.{_≡_, sym, ap, _∙_}
+use mathlib.Core.Path.{_≡_, sym, ap, ap₂, _∙_}
 use mathlib.Core.List.{List, []}
 use mathlib.Core.Logic.{_↔_}
 use Prim.Native.Nat.{ℕ, _*_, _/_, _≤_}
 use native.Mathlib.Omega.{arith}
-use lib.Dec.{lit≤}
 use lib.ListN.{length}
 use Rattle.bits.specs.Bits.{Bytes}
 use Rattle.kinds.specs.declared.Item.{Item}
 use Rattle.format.specs.Format.{Read, sheetNumbers}
 use Rattle.format.specs.Conforming.{InPacket, InSheet, givenBack}
-use Rattle.format.proofs.Lawful.{to-sheet}
-use Rattle.segment.specs.Segment.{fields, sheetFields, wireChanges}
+use Rattle.segment.specs.Segment.{wireChanges}
 use Rattle.segment.specs.Frame.{packetOfBits}
-use Rattle.segment.specs.Judgement.{segmentNumber, fromPacket, afterNumber, toPacket, toSheet}
-use Rattle.segment.proofs.Ends.{sheetFields-lawful}
+use Rattle.segment.specs.Judgement.{afterNumber, toPacket, toSheet}
+use Rattle.link.specs.Link.{treeFields, treeOf, linkFields, numberAmong, fromEitherPacket, toEitherPacket, toEitherSheet}
+use Rattle.link.specs.Grounds.{EitherPacketValues, EitherSheetValues}
+use Rattle.link.proofs.Trees.{link-lawful}
+use Rattle.link.proofs.Values.{either-packet-taken}
+use Rattle.link.proofs.Ends.{number-kept}
 use Rattle.speed.specs.declared.Train.{Train}
 use Rattle.speed.specs.Speed.{segmentLength, speedIn}
 use Rattle.question.specs.declared.Speed.{Speed}
@@ -23,42 +25,43 @@ use Rattle.question.specs.Question.{speedFromPacket, speedFromSheet}
 use Rattle.altitude.specs.declared.Altitude.{Altitude}
 use Rattle.altitude.specs.Altitude.{centimetres, altitudeOf}
 use Rattle.convert.specs.Convert.{successWith, fitted, converted, packetToSheet, sheetToPacket}
-use Rattle.promises.specs.Promised.{PacketValues, SheetValues, PacketOfValues, AltitudeOf, LengthOf, heldAt, LowestOf, ConvertiblePacket, ConvertibleSheet, AnswerablePacket, AnswerableSheet, Done, result, spelled, spelledBits, spelledPacket, Lowering}
+use Rattle.promises.specs.Promised.{SegmentPacketValues, SegmentSheetValues, PacketOfValues, AltitudeOf, LengthOf, heldAt, LowestOf, ConvertiblePacket, ConvertibleSheet, AnswerablePacket, AnswerableSheet, Done, result, spelled, spelledBits, spelledPacket, Lowering}
 use Rattle.promises.proofs.Held.{lowest-held}
 use Rattle.promises.proofs.Standing.{length-stands, altitude-stands}
 use Rattle.promises.proofs.Ranges.{packet-speed-fives}
 use Rattle.promises.proofs.Refused.{packets-on, altitude-values, altitude-answered as answered-altitude}
-use Rattle.promises.proofs.Values.{packet-taken, lowered-packet, lowered-good, packets, sheets, side-result, side-converted, side-speed, side-answered, placed-result, numbers-spelled, bits-spelled, lowering}
+use Rattle.promises.proofs.Values.{either-lowered, either-lowered-good, either-good-sheet, packets, sheets, either-packets, either-sheets, side-result, side-converted, side-speed, side-answered, placed-result, numbers-spelled, bits-spelled, lowering}
 
 module _ (s room : List ℕ) where
   -- a packet is converted exactly when it is the packet of good values and the room holds their sheet
   pub packet-converted : Bytes s → Done (packetToSheet s room) ↔ ConvertiblePacket s room
   unfolding packetToSheet
-  packet-converted ok = side-converted packets (toSheet wireChanges) s room ok
+  packet-converted ok = side-converted either-packets toEitherSheet s room ok
 
   -- and then the room begins with exactly that sheet, and keeps the bytes past it
-  pub packet-result : (c : ConvertiblePacket s room) → packetToSheet s room ≡ successWith (toSheet wireChanges (c .values)) room
+  pub packet-result : (c : ConvertiblePacket s room) → packetToSheet s room ≡ successWith (toEitherSheet (c .values)) room
   unfolding packetToSheet
-  packet-result c = side-result packets (toSheet wireChanges) s room c
+  packet-result c = side-result either-packets toEitherSheet s room c
 
   -- the same for sheets
   pub sheet-converted : Bytes s → Done (sheetToPacket s room) ↔ ConvertibleSheet s room
   unfolding sheetToPacket
-  sheet-converted ok = side-converted sheets (toPacket wireChanges) s room ok
+  sheet-converted ok = side-converted either-sheets toEitherPacket s room ok
 
-  pub sheet-result : (c : ConvertibleSheet s room) → sheetToPacket s room ≡ successWith (toPacket wireChanges (c .values)) room
+  pub sheet-result : (c : ConvertibleSheet s room) → sheetToPacket s room ≡ successWith (toEitherPacket (c .values)) room
   unfolding sheetToPacket
-  sheet-result c = side-result sheets (toPacket wireChanges) s room c
+  sheet-result c = side-result either-sheets toEitherPacket s room c
 
--- the sheet of a packet is the number of every field of every change, in order, and nothing else
-pub every-field : (l : List Item) → PacketValues l → toSheet wireChanges l ≡ spelled (sheetNumbers l)
-unfolding toSheet
-every-field l c = numbers-spelled c
+-- the sheet of a packet is the number of every field of every change and of every timing point, in order, and nothing else
+pub every-field : (l : List Item) → EitherPacketValues l → toEitherSheet l ≡ spelled (sheetNumbers l)
+unfolding toEitherSheet
+every-field l v = numbers-spelled (v .good)
 
--- the packet of a sheet is the value of every field of every change in its width, in order, framed and padded, and nothing else
-pub every-bit : (l : List Item) → toPacket wireChanges l ≡ spelledPacket (spelledBits (fields wireChanges) (afterNumber l))
-unfolding toPacket
-every-bit l = ap (packetOfBits segmentNumber) (bits-spelled (fields wireChanges) (afterNumber l))
+-- the packet of a sheet is the value of every one of them in its width, in order, framed with the packet number and padded, and nothing else
+pub every-bit : (l : List Item) → EitherSheetValues l → toEitherPacket l ≡ spelledPacket (numberAmong l) (spelledBits (treeFields (treeOf (numberAmong l))) (afterNumber l))
+unfolding toEitherPacket
+every-bit l v =
+    ap₂ packetOfBits (number-kept v) (bits-spelled (treeFields (treeOf (numberAmong l))) (afterNumber l))
 
 -- "Packet read and written again: the same packet."
 pub packet-again : (s room back : List ℕ) → Bytes s → Done (packetToSheet s room) → length s ≤ length back
@@ -66,38 +69,38 @@ pub packet-again : (s room back : List ℕ) → Bytes s → Done (packetToSheet 
 packet-again s room back ok d h =
     let c = packet-converted s room ok .0 d in
     let l = c .values in
-    let t : result (packetToSheet s room) ≡ toSheet wireChanges l = ap result (packet-result s room c) ∙ placed-result (toSheet wireChanges l) room in
-    let g : SheetValues l = to-sheet (sheetFields-lawful wireChanges (lit≤ tt)) (c .good) in
-    let k : length (toPacket wireChanges l) ≤ length back = omega (arith, ap length (c .whole)) in
-    sheet-result (result (packetToSheet s room)) back (record { values = l; good = g; whole = t; holds = k }) ∙ ap (λ (x : List ℕ). successWith x back) (sym (c .whole))
+    let t : result (packetToSheet s room) ≡ toEitherSheet l = ap result (packet-result s room c) ∙ placed-result (toEitherSheet l) room in
+    let k : length (toEitherPacket l) ≤ length back = omega (arith, ap length (c .whole)) in
+    sheet-result (result (packetToSheet s room)) back (record { values = l; good = either-good-sheet (c .good); whole = t; holds = k })
+    ∙ ap (λ (x : List ℕ). successWith x back) (sym (c .whole))
 
 -- "Sheet written and read again: the same sheet, speeds lowered to multiples of 5 km/h and currents to multiples of 10 A."
 pub record Again (s room back : List ℕ) : Type 0 where
   -- the sheet's values, and those lowered
   pub values : List Item
   pub lower : List Item
-  pub whole : s ≡ toSheet wireChanges values
-  pub good : SheetValues values
-  pub goodLower : PacketValues lower
-  pub lowers : Lowering (sheetFields wireChanges) values lower
-  pub again : packetToSheet (result (sheetToPacket s room)) back ≡ fitted (toSheet wireChanges lower) back
+  pub whole : s ≡ toEitherSheet values
+  pub good : EitherSheetValues values
+  pub goodLower : EitherPacketValues lower
+  pub lowers : Lowering linkFields values lower
+  pub again : packetToSheet (result (sheetToPacket s room)) back ≡ fitted (toEitherSheet lower) back
 
 pub sheet-again : (s room back : List ℕ) → Bytes s → Done (sheetToPacket s room) → Again s room back
 unfolding packetToSheet
 sheet-again s room back ok d =
     let c = sheet-converted s room ok .0 d in
     let l = c .values in
-    let m : List Item = givenBack (sheetFields wireChanges) l in
-    let t : result (sheetToPacket s room) ≡ toPacket wireChanges m =
-    ap result (sheet-result s room c) ∙ placed-result (toPacket wireChanges l) room ∙ sym (lowered-packet l) in
+    let m : List Item = givenBack linkFields l in
+    let t : result (sheetToPacket s room) ≡ toEitherPacket m =
+    ap result (sheet-result s room c) ∙ placed-result (toEitherPacket l) room ∙ sym (either-lowered l) in
     record {
       values = l;
       lower = m;
       whole = c .whole;
       good = c .good;
-      goodLower = lowered-good (c .good);
-      lowers = lowering (sheetFields-lawful wireChanges (lit≤ tt)) (c .good);
-      again = ap (λ (r : Read). converted (toSheet wireChanges) r back) (ap (fromPacket wireChanges) t ∙ packet-taken m (lowered-good (c .good)));
+      goodLower = either-lowered-good (c .good);
+      lowers = lowering link-lawful (c .good .good);
+      again = ap (λ (r : Read). converted toEitherSheet r back) (ap fromEitherPacket t ∙ either-packet-taken m (either-lowered-good (c .good)));
     }
 
 -- "Every permitted speed is the one the speed rules give."
@@ -134,10 +137,10 @@ pub packet-fives : (s : List ℕ) (t : Train) (x : ℕ) → AnswerablePacket s t
 packet-fives s t x c = rw (packet-speed s t x c) (packet-speed-fives t x (c .values) (c .good))
 
 -- the x of a question is below the number of L_SP
-pub packet-length : (l : List Item) → PacketValues l → LengthOf InPacket l (segmentLength (sheetNumbers l))
+pub packet-length : (l : List Item) → SegmentPacketValues l → LengthOf InPacket l (segmentLength (sheetNumbers l))
 packet-length l c = length-stands l c
 
-pub sheet-length : (l : List Item) → SheetValues l → LengthOf InSheet l (segmentLength (sheetNumbers l))
+pub sheet-length : (l : List Item) → SegmentSheetValues l → LengthOf InSheet l (segmentLength (sheetNumbers l))
 sheet-length l c = length-stands l c
 
 -- "the altitude of a packet in signed centimetres": answered exactly for a packet of good values

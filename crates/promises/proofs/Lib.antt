@@ -8,3 +8,5 @@ pub mod Reached
 pub mod DemandOne
 pub mod DemandTwo
 pub mod DemandThree
+pub mod Journeys
+pub mod Segments

@@ -2,65 +2,62 @@
 -- Assumes nothing.
 use mathlib.Core.Path.{_≡_, refl, sym, ap, _∙_}
 use mathlib.Core.Bool.{true, false}
-use mathlib.Core.List.{List, _∷_}
+use mathlib.Core.List.{List}
 use Prim.Native.Nat.{ℕ, _≤_, _<_}
 use native.Mathlib.Omega.{arith}
 use lib.Dec.{lit≤}
 use lib.ListN.{length}
 use Rattle.kinds.specs.declared.Item.{Item}
 use Rattle.format.specs.Format.{sheetNumbers}
-use Rattle.format.specs.Conforming.{also, givenBack}
 use Rattle.format.specs.Grounds.{Among}
 use Rattle.format.proofs.Lawful.{to-sheet}
-use Rattle.format.proofs.Sized.{size-least, sheet-priced}
-use Rattle.segment.specs.Segment.{sheetFields, wireChanges}
-use Rattle.segment.specs.Judgement.{toPacket, toSheet}
-use Rattle.segment.proofs.Ends.{sheetFields-lawful, sheet-groups, sheet-most, packet-least, packet-most}
-use Rattle.segment.proofs.Grounds.{packet-listed, sheet-listed}
+use Rattle.segment.specs.Segment.{wireChanges}
+use Rattle.segment.specs.Judgement.{segmentNumber}
+use Rattle.segment.proofs.Ends.{sheetFields-lawful}
+use Rattle.segment.proofs.Grounds.{fields-refusals, packet-listed, sheet-listed}
+use Rattle.link.specs.Link.{toEitherPacket, toEitherSheet}
+use Rattle.link.specs.Grounds.{EitherPacketValues, EitherSheetValues}
+use Rattle.link.proofs.Grounds.{either-packet-listed, either-sheet-listed}
+use Rattle.link.proofs.Ends.{either-sheet-size, either-packet-size}
 use Rattle.speed.specs.declared.Train.{Train}
 use Rattle.speed.specs.Speed.{speedIn, inFives}
 use Rattle.speed.proofs.Lowering.{speed-in-fives}
 use Rattle.speed.proofs.Bounds.{speed-most}
 use Rattle.altitude.specs.Altitude.{altitudeField}
-use Rattle.promises.specs.Promised.{PacketValues, SheetValues}
-use Rattle.promises.specs.Refused.{PacketRefused, SheetRefused, ConversionGround, QuestionGround, PacketToSheetGround, SheetToPacketGround, SpeedFromPacketGround, SpeedFromSheetGround, packetToSheetRefusals, sheetToPacketRefusals, speedFromPacketRefusals, speedFromSheetRefusals, altitudeRefusals}
-use Rattle.promises.proofs.Values.{lowered-packet, lowered-good}
+use Rattle.promises.specs.Promised.{SegmentPacketValues, SegmentSheetValues}
+use Rattle.promises.specs.Refused.{PacketRefused, EitherPacketRefused, EitherSheetRefused, ConversionGround, QuestionGround, PacketToSheetGround, SheetToPacketGround, SpeedFromPacketGround, SpeedFromSheetGround, packetToSheetRefusals, sheetToPacketRefusals, speedFromPacketRefusals, speedFromSheetRefusals, altitudeRefusals}
+use Rattle.promises.proofs.Values.{either-good-sheet}
 use Rattle.promises.proofs.Agreeing.{lowered-same}
 use Rattle.promises.proofs.Standing.{altitude-stands}
 use Rattle.promises.proofs.Refused.{among-by, among-member, among-into}
 
 -- ---- how long a result is
 
-good-sheet : {l : List Item} → PacketValues l → SheetValues l
+pub good-sheet : {l : List Item} → SegmentPacketValues l → SegmentSheetValues l
 good-sheet c = to-sheet (sheetFields-lawful wireChanges (lit≤ tt)) c
 
--- "A sheet has at most 5,608 bytes"
-pub packet-sheet-size : (l : List Item) → PacketValues l → (23 ≤ length (toSheet wireChanges l)) × (length (toSheet wireChanges l) ≤ 5608)
-unfolding toSheet
-packet-sheet-size l c = (size-least sheet-priced (sheet-groups wireChanges (lit≤ tt)) (good-sheet c), sheet-most wireChanges (lit≤ tt) (good-sheet c))
+-- "a sheet of 8 bytes"; a journey's sheet has at most 15,226
+pub packet-sheet-size : (l : List Item) → EitherPacketValues l → (8 ≤ length (toEitherSheet l)) × (length (toEitherSheet l) ≤ 15226)
+packet-sheet-size l v = either-sheet-size (either-good-sheet v)
 
--- "packet of 39 bytes", "2,001 bytes"
-packet-size : (l : List Item) → PacketValues l → (39 ≤ length (toPacket wireChanges l)) × (length (toPacket wireChanges l) ≤ 2001)
-unfolding toPacket sheetFields
-packet-size (i ∷ l) (also g c) = (packet-least wireChanges (lit≤ tt) c, packet-most wireChanges (lit≤ tt) c)
-
-pub sheet-packet-size : (l : List Item) → SheetValues l → (39 ≤ length (toPacket wireChanges l)) × (length (toPacket wireChanges l) ≤ 2001)
-sheet-packet-size l c = rw (lowered-packet l) at (packet-size (givenBack (sheetFields wireChanges) l) (lowered-good c))
+-- 17 bytes, "largest packet 8,207 bytes"
+pub sheet-packet-size : (l : List Item) → EitherSheetValues l → (17 ≤ length (toEitherPacket l)) × (length (toEitherPacket l) ≤ 8207)
+sheet-packet-size l v = either-packet-size v
 
 -- ---- how high a speed is
 
 -- a packet's speeds are multiples of 5
-pub packet-speed-fives : (t : Train) (x : ℕ) (l : List Item) → PacketValues l → speedIn t x (sheetNumbers l) ≡ inFives (speedIn t x (sheetNumbers l))
+pub packet-speed-fives : (t : Train) (x : ℕ) (l : List Item) → SegmentPacketValues l → speedIn t x (sheetNumbers l) ≡ inFives (speedIn t x (sheetNumbers l))
 packet-speed-fives t x l c = ap (λ (m : List Item). speedIn t x (sheetNumbers m)) (sym (lowered-same c)) ∙ speed-in-fives t x l (good-sheet c)
 
 -- and so the highest is 600
-pub packet-speed-most : (t : Train) (x : ℕ) (l : List Item) → PacketValues l → speedIn t x (sheetNumbers l) ≤ 600
+pub packet-speed-most : (t : Train) (x : ℕ) (l : List Item) → SegmentPacketValues l → speedIn t x (sheetNumbers l) ≤ 600
 packet-speed-most t x l c = omega (arith, packet-speed-fives t x l c, speed-most t x l (good-sheet c))
 
-pub sheet-speed-most : (t : Train) (x : ℕ) (l : List Item) → SheetValues l → speedIn t x (sheetNumbers l) ≤ 604
+pub sheet-speed-most : (t : Train) (x : ℕ) (l : List Item) → SegmentSheetValues l → speedIn t x (sheetNumbers l) ≤ 604
 sheet-speed-most t x l c = speed-most t x l c
 
-pub altitude-most : (l : List Item) → PacketValues l → altitudeField l ≤ 1048575
+pub altitude-most : (l : List Item) → SegmentPacketValues l → altitudeField l ≤ 1048575
 altitude-most l c = let a = altitude-stands l c in let h : a .0 .packet < 1048576 = a .2 .fits in omega (arith, a .3)
 
 -- a room that holds the largest result is not too short
@@ -73,26 +70,26 @@ never-short write most room h size none (ConversionGround.shortRoom w short e) =
 
 module _ (s : List ℕ) where
   pub altitude-listed : (r : ℕ) → PacketRefused s r → Among r altitudeRefusals
-  altitude-listed r g = packet-listed wireChanges s r (g .0) (g .1)
+  altitude-listed r g = packet-listed segmentNumber (fields-refusals wireChanges) s r (g .0) (g .1)
 
-  pub packet-not-8 : PacketRefused s 8 → ⊥
-  packet-not-8 g = let e : false ≡ true = among-member (packet-listed wireChanges s 8 (g .0) (g .1)) in let z : _≡_ {A = ℕ} 0 1 = cc in omega arith
+  pub packet-not-8 : EitherPacketRefused s 8 → ⊥
+  packet-not-8 g = let e : false ≡ true = among-member (either-packet-listed s 8 (g .0) (g .1)) in let z : _≡_ {A = ℕ} 0 1 = cc in omega arith
 
-  pub sheet-not-8 : SheetRefused s 8 → ⊥
-  sheet-not-8 g = let e : false ≡ true = among-member (sheet-listed wireChanges s 8 (g .0) (g .1)) in let z : _≡_ {A = ℕ} 0 1 = cc in omega arith
+  pub sheet-not-8 : EitherSheetRefused s 8 → ⊥
+  sheet-not-8 g = let e : false ≡ true = among-member (either-sheet-listed s 8 (g .0) (g .1)) in let z : _≡_ {A = ℕ} 0 1 = cc in omega arith
 
   module _ (room : List ℕ) (r : ℕ) where
     pub packet-to-sheet-listed : PacketToSheetGround s room r → Among r packetToSheetRefusals
-    packet-to-sheet-listed (ConversionGround.own g) = among-into packetToSheetRefusals refl (packet-listed wireChanges s r (g .0) (g .1))
+    packet-to-sheet-listed (ConversionGround.own g) = among-into packetToSheetRefusals refl (either-packet-listed s r (g .0) (g .1))
     packet-to-sheet-listed (ConversionGround.shortRoom w h e) = rw e (among-by 8 packetToSheetRefusals refl)
 
     pub sheet-to-packet-listed : SheetToPacketGround s room r → Among r sheetToPacketRefusals
-    sheet-to-packet-listed (ConversionGround.own g) = among-into sheetToPacketRefusals refl (sheet-listed wireChanges s r (g .0) (g .1))
+    sheet-to-packet-listed (ConversionGround.own g) = among-into sheetToPacketRefusals refl (either-sheet-listed s r (g .0) (g .1))
     sheet-to-packet-listed (ConversionGround.shortRoom w h e) = rw e (among-by 8 sheetToPacketRefusals refl)
 
   module _ (t : Train) (x r : ℕ) where
     pub speed-from-packet-listed : SpeedFromPacketGround s t x r → Among r speedFromPacketRefusals
-    speed-from-packet-listed (QuestionGround.own g) = among-into speedFromPacketRefusals refl (packet-listed wireChanges s r (g .0) (g .1))
+    speed-from-packet-listed (QuestionGround.own g) = among-into speedFromPacketRefusals refl (packet-listed segmentNumber (fields-refusals wireChanges) s r (g .0) (g .1))
     speed-from-packet-listed (QuestionGround.badTrain w v e) = rw e (among-by 10 speedFromPacketRefusals refl)
     speed-from-packet-listed (QuestionGround.pastEnd w v h e) = rw e (among-by 11 speedFromPacketRefusals refl)
 

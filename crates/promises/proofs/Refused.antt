@@ -15,10 +15,13 @@ use Rattle.kinds.specs.declared.Item.{Item}
 use Rattle.format.specs.Format.{Read, accepted, refused, answerOf, sheetNumbers}
 use Rattle.format.specs.Grounds.{Ending, grounded, OneEnding, OneJudgement, Among, first, later}
 use Rattle.format.proofs.Grounds.{judged}
-use Rattle.segment.specs.Segment.{wireChanges}
-use Rattle.segment.specs.Judgement.{fromPacket, fromSheet}
+use Rattle.segment.specs.Segment.{fields, wireChanges}
+use Rattle.segment.specs.Judgement.{segmentNumber, fromPacket, fromSheet}
 use Rattle.segment.specs.Grounds.{PacketGround, SheetGround}
 use Rattle.segment.proofs.Grounds.{packet-grounds, sheet-grounds}
+use Rattle.link.specs.Link.{fromEitherPacket, fromEitherSheet}
+use Rattle.link.specs.Grounds.{EitherPacketGround, EitherSheetGround}
+use Rattle.link.proofs.Grounds.{either-packet-grounds, either-sheet-grounds}
 use Rattle.speed.specs.declared.Train.{Train}
 use Rattle.speed.specs.Speed.{validTrain, segmentLength, speedIn}
 use Rattle.question.specs.Question.{noSpeed, speedOfValues}
@@ -34,11 +37,19 @@ use Rattle.promises.proofs.Values.{Side, kept, side-result, side-conver
 pub record Grounded (judge : List ℕ → Read) (On : List ℕ → ℕ → ℕ → Type 0) : Type 0 where
   pub refused-on : (s : List ℕ) (r left : ℕ) → Bytes s → (judge s ≡ refused r left) ↔ On s r left
 
-pub packets-on : Grounded (fromPacket wireChanges) (PacketGround wireChanges)
-packets-on = record { refused-on = λ s r left ok. packet-grounds wireChanges s r left }
+pub packets-on : Grounded (fromPacket wireChanges) (PacketGround segmentNumber (fields wireChanges))
+unfolding fromPacket
+packets-on = record { refused-on = λ s r left ok. packet-grounds segmentNumber (fields wireChanges) s r left }
 
 pub sheets-on : Grounded (fromSheet wireChanges) (SheetGround wireChanges)
 sheets-on = record { refused-on = sheet-grounds wireChanges }
+
+-- a segment's or a journey's
+pub either-packets-on : Grounded fromEitherPacket EitherPacketGround
+either-packets-on = record { refused-on = λ s r left ok. either-packet-grounds s r left }
+
+pub either-sheets-on : Grounded fromEitherSheet EitherSheetGround
+either-sheets-on = record { refused-on = either-sheet-grounds }
 
 -- ---- one of the numbers of a list
 

@@ -22,14 +22,19 @@ use Rattle.fields.proofs.Lawful.{LawfulKind, speed-lowered, current-lowered}
 use Rattle.format.specs.Format.{Format, end, field, Read, accepted, refused, write, answerOf, sheetNumbers}
 use Rattle.format.specs.Media.{packet, sheet}
 use Rattle.format.specs.Conforming.{Conforming, done, also, InSheet, givenBack}
-use Rattle.format.proofs.Lawful.{Lawful, goes, to-packet, lowered-bits}
+use Rattle.format.proofs.Lawful.{Lawful, goes, to-sheet, to-packet, lowered-bits}
 use Rattle.format.proofs.Media.{sheet-again, sheet-only}
 use Rattle.segment.specs.Segment.{fields, sheetFields, wireChanges}
 use Rattle.segment.specs.Frame.{packetOfBits, numberItem}
 use Rattle.segment.specs.Judgement.{segmentNumber, fromPacket, fromSheet, toPacket, toSheet}
 use Rattle.segment.proofs.Framing.{framed-again, framed-only}
 use Rattle.segment.proofs.Ends.{sheetFields-lawful, bits-least, bits-most}
-use Rattle.segment.proofs.Refusals.{packet-refusal, sheet-refusal}
+use Rattle.segment.proofs.Refusals.{among-positive, packet-refusal, sheet-refusal}
+use Rattle.link.specs.Link.{treeNumber, treeFields, treeOf, linkFields, linkBits, fromEitherPacket, fromEitherSheet, toEitherPacket, toEitherSheet}
+use Rattle.link.specs.Grounds.{EitherPacketValues, EitherSheetValues}
+use Rattle.link.proofs.Trees.{link-lawful}
+use Rattle.link.proofs.Values.{either-packet-values, either-packet-taken, either-sheet-values, either-sheet-taken}
+use Rattle.link.proofs.Grounds.{either-packet-grounds, either-sheet-grounds, either-packet-listed, either-sheet-listed}
 use Rattle.speed.specs.declared.Train.{Train}
 use Rattle.speed.specs.Speed.{validTrain, segmentLength, speedIn, inFives}
 use Rattle.speed.proofs.Lowering.{length-stays, speed-in-fives}
@@ -37,7 +42,7 @@ use Rattle.question.specs.declared.Speed.{Speed}
 use Rattle.question.specs.Question.{noSpeed, judgedSpeed, speedOfValues}
 use Rattle.altitude.specs.Altitude.{altitudeOfRead}
 use Rattle.convert.specs.Convert.{Outcome, refusedWith, successWith, fitted, converted}
-use Rattle.promises.specs.Promised.{PacketValues, SheetValues, Convertible, Answerable, answerInFives, GreatestFive, Done, result, spelled, spelledBits, LoweredTo, Lowering, over, one}
+use Rattle.promises.specs.Promised.{SegmentPacketValues, SegmentSheetValues, Convertible, Answerable, answerInFives, GreatestFive, Done, result, spelled, spelledBits, LoweredTo, Lowering, over, one}
 
 -- ---- packets and sheets of good values
 
@@ -50,14 +55,14 @@ number-is i a r =
     let q : i .sheet ≡ 6 = omega arith in
     λ j. record { sheet = q j; packet = p j }
 
-pub packet-values : (s : List ℕ) (l : List Item) → Bytes s → fromPacket wireChanges s ≡ accepted l → PacketValues l × (s ≡ toPacket wireChanges l)
+pub packet-values : (s : List ℕ) (l : List Item) → Bytes s → fromPacket wireChanges s ≡ accepted l → SegmentPacketValues l × (s ≡ toPacket wireChanges l)
 unfolding fromPacket toPacket sheetFields
 packet-values s l ok e =
     let r = framed-only segmentNumber (fields wireChanges) s l ok e in
-    let c : PacketValues (numberItem 6 ∷ r .values) = also {i = numberItem 6} (record { allowed = refl; fits = lit< tt; raised = refl }) (r .good) in
+    let c : SegmentPacketValues (numberItem 6 ∷ r .values) = also {i = numberItem 6} (record { allowed = refl; fits = lit< tt; raised = refl }) (r .good) in
     rw (r .all) (c, r .bytes)
 
-pub packet-taken : (l : List Item) → PacketValues l → fromPacket wireChanges (toPacket wireChanges l) ≡ accepted l
+pub packet-taken : (l : List Item) → SegmentPacketValues l → fromPacket wireChanges (toPacket wireChanges l) ≡ accepted l
 unfolding fromPacket toPacket sheetFields
 packet-taken (i ∷ l) (also g c) =
     let q : i ≡ numberItem 6 = number-is i (g .allowed) (g .raised) in
@@ -65,11 +70,11 @@ packet-taken (i ∷ l) (also g c) =
     let high = bits-most wireChanges (lit≤ tt) c in
     framed-again segmentNumber (fields wireChanges) l (lit< tt) c (omega arith) (omega arith) ∙ ap (λ (j : Item). accepted (j ∷ l)) (sym q)
 
-pub sheet-values : (s : List ℕ) (l : List Item) → Bytes s → fromSheet wireChanges s ≡ accepted l → SheetValues l × (s ≡ toSheet wireChanges l)
+pub sheet-values : (s : List ℕ) (l : List Item) → Bytes s → fromSheet wireChanges s ≡ accepted l → SegmentSheetValues l × (s ≡ toSheet wireChanges l)
 unfolding fromSheet toSheet
 sheet-values s l ok e = sheet-only (sheetFields wireChanges) s l ok e
 
-pub sheet-taken : (l : List Item) → SheetValues l → fromSheet wireChanges (toSheet wireChanges l) ≡ accepted l
+pub sheet-taken : (l : List Item) → SegmentSheetValues l → fromSheet wireChanges (toSheet wireChanges l) ≡ accepted l
 unfolding fromSheet toSheet
 sheet-taken l c = sheet-again c
 
@@ -79,7 +84,7 @@ unfolding toPacket sheetFields
 lowered-packet [] = refl
 lowered-packet (i ∷ l) = ap (packetOfBits segmentNumber) (lowered-bits (fields wireChanges) l)
 
-pub lowered-good : {l : List Item} → SheetValues l → PacketValues (givenBack (sheetFields wireChanges) l)
+pub lowered-good : {l : List Item} → SegmentSheetValues l → SegmentPacketValues (givenBack (sheetFields wireChanges) l)
 lowered-good c = to-packet (sheetFields-lawful wireChanges (lit≤ tt)) c
 
 -- ---- a conversion's outcomes, whatever judges and writes
@@ -119,11 +124,44 @@ pub record Side (judge : List ℕ → Read) (Good : List Item → Type 0) (input
   pub again : (l : List Item) → Good l → judge (input l) ≡ accepted l
   pub refuses : (s : List ℕ) → Bytes s → (q left : ℕ) → judge s ≡ refused q left → 1 ≤ q
 
-pub packets : Side (fromPacket wireChanges) PacketValues (toPacket wireChanges)
+pub packets : Side (fromPacket wireChanges) SegmentPacketValues (toPacket wireChanges)
 packets = record { only = packet-values; again = packet-taken; refuses = λ s ok q left e. packet-refusal wireChanges s q left e }
 
-pub sheets : Side (fromSheet wireChanges) SheetValues (toSheet wireChanges)
+pub sheets : Side (fromSheet wireChanges) SegmentSheetValues (toSheet wireChanges)
 sheets = record { only = sheet-values; again = sheet-taken; refuses = λ s ok q left e. sheet-refusal wireChanges s q left ok e }
+
+-- a segment's or a journey's
+pub either-packets : Side fromEitherPacket EitherPacketValues toEitherPacket
+either-packets = record {
+  only = either-packet-values;
+  again = either-packet-taken;
+  refuses = λ s ok q left e. among-positive (either-packet-listed s q left (either-packet-grounds s q left .0 e)) refl;
+}
+
+pub either-sheets : Side fromEitherSheet EitherSheetValues toEitherSheet
+either-sheets = record {
+  only = either-sheet-values;
+  again = either-sheet-taken;
+  refuses = λ s ok q left e. among-positive (either-sheet-listed s q left (either-sheet-grounds s q left ok .0 e)) refl;
+}
+
+-- lowering leaves the packet on the link, and makes a packet's values of a sheet's
+lowered-link : (l : List Item) → linkBits (givenBack linkFields l) ≡ linkBits l
+unfolding linkFields
+lowered-link [] = refl
+lowered-link (i ∷ l) = lowered-bits (treeFields (treeOf (i .packet))) l
+
+pub either-lowered : (l : List Item) → toEitherPacket (givenBack linkFields l) ≡ toEitherPacket l
+unfolding toEitherPacket linkFields
+either-lowered [] = refl
+either-lowered (i ∷ l) = ap (packetOfBits (treeNumber (treeOf (i .packet)))) (lowered-bits (treeFields (treeOf (i .packet))) l)
+
+pub either-lowered-good : {l : List Item} → EitherSheetValues l → EitherPacketValues (givenBack linkFields l)
+either-lowered-good {l} v = record { good = to-packet link-lawful (v .good); few = rw (lowered-link l) (v .few) }
+
+-- a packet's values are good for a sheet
+pub either-good-sheet : {l : List Item} → EitherPacketValues l → EitherSheetValues l
+either-good-sheet v = record { good = to-sheet link-lawful (v .good); few = v .few }
 
 module _ {judge : List ℕ → Read} {Good : List Item → Type 0} {input : List Item → List ℕ} (side : Side judge Good input) (write : List Item → List ℕ) (s room : List ℕ) where
   pub side-result : (c : Convertible Good input write s room) → converted write (judge s) room ≡ successWith (write (c .values)) room
@@ -182,7 +220,7 @@ in-fives v = record { fives = v / 5; multiple = refl; notAbove = omega arith; gr
 answered-lowered : (t : Train) (x lsp v : ℕ) → judgedSpeed t x lsp (inFives v) ≡ answerInFives (judgedSpeed t x lsp v)
 answered-lowered t x lsp v = by-cases (validTrain t) (λ e. by-cases (ltb x lsp) (λ b. rw (e, b)) (λ b. rw (e, b))) (λ e. rw e)
 
-pub asked-lowered : (t : Train) (x : ℕ) (l : List Item) → SheetValues l
+pub asked-lowered : (t : Train) (x : ℕ) (l : List Item) → SegmentSheetValues l
     → speedOfValues t x (givenBack (sheetFields wireChanges) l) ≡ answerInFives (speedOfValues t x l)
 asked-lowered t x l c =
     ap₂ (judgedSpeed t x) (length-stays l c) (speed-in-fives t x l c) ∙ answered-lowered t x (segmentLength (sheetNumbers l)) (speedIn t x (sheetNumbers l))

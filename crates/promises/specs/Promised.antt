@@ -17,18 +17,20 @@ use Rattle.format.specs.Conforming.{Conforming, InPacket, InSheet}
 use Rattle.format.specs.Grounds.{Front, Among}
 use Rattle.segment.specs.Segment.{sheetFields, wireChanges}
 use Rattle.segment.specs.Judgement.{toPacket, toSheet}
+use Rattle.link.specs.Link.{linkFields, toEitherPacket, toEitherSheet}
+use Rattle.link.specs.Grounds.{EitherPacketValues, EitherSheetValues}
 use Rattle.speed.specs.declared.Train.{Train}
 use Rattle.speed.specs.Speed.{validTrain, heldSpeeds, elementsFrom, segmentLength, profileOf, inFives}
 use Rattle.question.specs.declared.Speed.{Speed}
 use Rattle.convert.specs.Convert.{Outcome}
 
--- "keeps the published widths and ranges and the stated rules": one good value for each field of the tree, and no more
-abbrev pub PacketValues : List Item → Type 0
-PacketValues l = Conforming InPacket (sheetFields wireChanges) l
+-- "keeps the published widths and ranges and the stated rules", where a segment is needed: one good value for each field of its tree, and no more
+abbrev pub SegmentPacketValues : List Item → Type 0
+SegmentPacketValues l = Conforming InPacket (sheetFields wireChanges) l
 
 -- "keeps the published widths and ranges and the stated rules": the same of a sheet
-abbrev pub SheetValues : List Item → Type 0
-SheetValues l = Conforming InSheet (sheetFields wireChanges) l
+abbrev pub SegmentSheetValues : List Item → Type 0
+SegmentSheetValues l = Conforming InSheet (sheetFields wireChanges) l
 
 -- the input is written of good values, as "When a packet is written"
 pub record OfValues (Good : List Item → Type 0) (input : List Item → List ℕ) (s : List ℕ) : Type 0 where
@@ -38,7 +40,7 @@ pub record OfValues (Good : List Item → Type 0) (input : List Item → List �
 
 -- a packet that "keeps the published widths and ranges and the stated rules"
 abbrev pub PacketOfValues : List ℕ → Type 0
-PacketOfValues s = OfValues PacketValues (toPacket wireChanges) s
+PacketOfValues s = OfValues SegmentPacketValues (toPacket wireChanges) s
 
 -- "is converted if the room holds the result": the input is written of good values, and the room holds what is written of them
 pub record Convertible (Good : List Item → Type 0) (input result : List Item → List ℕ) (s room : List ℕ) : Type 0 where
@@ -49,11 +51,11 @@ pub record Convertible (Good : List Item → Type 0) (input result : List Item �
 
 -- "Every packet .. is converted if the room holds the result"
 abbrev pub ConvertiblePacket : List ℕ → List ℕ → Type 0
-ConvertiblePacket s room = Convertible PacketValues (toPacket wireChanges) (toSheet wireChanges) s room
+ConvertiblePacket s room = Convertible EitherPacketValues toEitherPacket toEitherSheet s room
 
 -- "Every .. sheet .. is converted if the room holds the result"
 abbrev pub ConvertibleSheet : List ℕ → List ℕ → Type 0
-ConvertibleSheet s room = Convertible SheetValues (toSheet wireChanges) (toPacket wireChanges) s room
+ConvertibleSheet s room = Convertible EitherSheetValues toEitherSheet toEitherPacket s room
 
 -- the input is written of good values, the train is valid, and x is "from 0 to L_SP - 1"
 pub record Answerable (Good : List Item → Type 0) (input : List Item → List ℕ) (s : List ℕ) (t : Train) (x : ℕ) : Type 0 where
@@ -65,11 +67,11 @@ pub record Answerable (Good : List Item → Type 0) (input : List Item → List 
 
 -- "speed from a packet": when it is answered
 abbrev pub AnswerablePacket : List ℕ → Train → ℕ → Type 0
-AnswerablePacket s t x = Answerable PacketValues (toPacket wireChanges) s t x
+AnswerablePacket s t x = Answerable SegmentPacketValues (toPacket wireChanges) s t x
 
 -- "speed from a sheet": when it is answered
 abbrev pub AnswerableSheet : List ℕ → Train → ℕ → Type 0
-AnswerableSheet s t x = Answerable SheetValues (toSheet wireChanges) s t x
+AnswerableSheet s t x = Answerable SegmentSheetValues (toSheet wireChanges) s t x
 
 -- "the greatest multiple of 5 not above the speed from the sheet": the same answer with its speed lowered so
 abbrev pub answerInFives : Speed → Speed
@@ -101,9 +103,9 @@ spelledBits end l = []
 spelledBits (field k next) [] = []
 spelledBits (field k next) (i ∷ l) = bitsOf (k .width) (i .packet) ++ spelledBits (next (i .packet)) l
 
--- "Header, 120 bits: NID_PACKET_ATO 8 (6 on our link), L_PACKET_ATO 16", then every field after the packet number; "Zero bits pad it to a whole byte"
-abbrev pub spelledPacket : List Bool → List ℕ
-spelledPacket bits = bytesOfBits (bitsOf 8 6 ++ (bitsOf 16 (length bits - 96) ++ bits))
+-- "Header, 120 bits: NID_PACKET_ATO 8 .., L_PACKET_ATO 16", then every field after the packet number; "Zero bits pad it to a whole byte"
+abbrev pub spelledPacket : ℕ → List Bool → List ℕ
+spelledPacket n bits = bytesOfBits (bitsOf 8 n ++ (bitsOf 16 (length bits - 96) ++ bits))
 
 -- "amperes + 1", lowered "to multiples of 10 A"; 0, for no limit, stays
 abbrev pub loweredCurrent : ℕ → ℕ
@@ -124,8 +126,8 @@ pub data Lowering : Format → List Item → List Item → Type 0 where
 -- "they agree in every field after that lowering": both are lowered, field by field, to the same numbers
 pub record Agreeing (l m : List Item) : Type 0 where
   pub lower : List Item
-  pub first : Lowering (sheetFields wireChanges) l lower
-  pub second : Lowering (sheetFields wireChanges) m lower
+  pub first : Lowering linkFields l lower
+  pub second : Lowering linkFields m lower
 
 -- ---- the values that a question is about
 

@@ -2,7 +2,7 @@
 -- Assumes nothing.
 use mathlib.Core.Bool.{false}
 use mathlib.Core.List.{List, [], _∷_, _++_}
-use Prim.Native.Nat.{ℕ}
+use Prim.Native.Nat.{ℕ, zero, suc}
 use lib.ListN.{replicate}
 use Rattle.kinds.specs.declared.Item.{Item}
 use Rattle.segment.specs.Segment.{wireChanges}
@@ -51,9 +51,18 @@ lateQuestions s = record { bytes = s; of = train 0; x = 1 } ∷ record { bytes =
 abbrev pub convertedPackets : List (List ℕ)
 convertedPackets = refusedPackets ++ firstPacket ∷ []
 
--- 9, "sheet ends too soon": no byte
+-- so many lists, one after the other
+abbrev times : ℕ → List ℕ → List ℕ
+times zero l = []
+times (suc n) l = l ++ times n l
+
+-- "a sheet's body would exceed 65,535 bits": a journey of 17 segments with 31 timing points each, 69,167 bits
+abbrev tooManyBits : List ℕ
+tooManyBits = 4 ∷ replicate 6 0 ++ 17 ∷ times 17 (replicate 5 0 ++ 31 ∷ replicate 496 0 ++ 0 ∷ [])
+
+-- 9, "sheet ends too soon": no byte. 12: too many bits
 abbrev pub convertedSheets : List (List ℕ)
-convertedSheets = refusedSheets ++ firstSheet ∷ [] ∷ []
+convertedSheets = refusedSheets ++ firstSheet ∷ [] ∷ tooManyBits ∷ []
 
 -- "speed from a packet"
 abbrev pub askedPackets : List Sample

@@ -11,7 +11,9 @@ use Rattle.bits.proofs.Tests.{by-cases}
 use Rattle.kinds.specs.declared.Item.{Item}
 use Rattle.format.specs.Format.{Read, accepted, valuesOf, answerOf, sheetNumbers}
 use Rattle.format.specs.Media.{packet, sheet}
-use Rattle.segment.specs.Segment.{sheetFields, wireChanges}
+use Rattle.segment.specs.Segment.{fields, sheetFields, wireChanges}
+use Rattle.link.specs.declared.Tree.the-variants.{Segment}
+use Rattle.link.specs.Trees.{treeSheetFields}
 use Rattle.segment.specs.Judgement.{fromPacket, fromSheet}
 use Rattle.judge.specs.declared.PacketVerdict.the-variants as PacketVerdict
 use Rattle.judge.specs.declared.SheetVerdict.the-variants as SheetVerdict
@@ -66,28 +68,28 @@ module _ {B : Type 0} {accepts refuses : ℕ → B} (sorts : Sorts accepts refus
     answered-so a b = ap₂ (judgedSpeed t x) a b ∙ sym (ap (answerOf noSpeed (speedOfValues t x)) accepted-so)
 
 module _ (s : List ℕ) (t : Train) (x : ℕ) where
-  pub packet-refused : (q : ℕ) → PacketVerdict.Refused q ≡ packetVerdict s → noSpeed q ≡ speedFromPacket s t x
-  unfolding packetVerdict speedFromPacket
-  packet-refused q e = refused-so packet-sorts (sizeFrom sheet (sheetFields wireChanges) 0) t x (fromPacket wireChanges s) q e
+  pub packet-refused : (q : ℕ) → PacketVerdict.Refused q ≡ packetVerdict Segment s → noSpeed q ≡ speedFromPacket s t x
+  unfolding packetVerdict speedFromPacket fromPacket fields sheetFields
+  packet-refused q e = refused-so packet-sorts (sizeFrom sheet (treeSheetFields Segment) 0) t x (fromPacket wireChanges s) q e
 
-  pub packet-accepted : (n : ℕ) → PacketVerdict.SheetBytes n ≡ packetVerdict s → fromPacket wireChanges s ≡ accepted (valuesOf (fromPacket wireChanges s))
-  unfolding packetVerdict
-  packet-accepted n e = accepted-so packet-sorts (sizeFrom sheet (sheetFields wireChanges) 0) t x (fromPacket wireChanges s) n e
+  pub packet-accepted : (n : ℕ) → PacketVerdict.SheetBytes n ≡ packetVerdict Segment s → fromPacket wireChanges s ≡ accepted (valuesOf (fromPacket wireChanges s))
+  unfolding packetVerdict fromPacket fields sheetFields
+  packet-accepted n e = accepted-so packet-sorts (sizeFrom sheet (treeSheetFields Segment) 0) t x (fromPacket wireChanges s) n e
 
-  pub packet-answered : (n : ℕ) → PacketVerdict.SheetBytes n ≡ packetVerdict s → {lsp v : ℕ} → lsp ≡ segmentLength (sheetNumbers (valuesOf (fromPacket wireChanges s)))
+  pub packet-answered : (n : ℕ) → PacketVerdict.SheetBytes n ≡ packetVerdict Segment s → {lsp v : ℕ} → lsp ≡ segmentLength (sheetNumbers (valuesOf (fromPacket wireChanges s)))
       → v ≡ speedIn t x (sheetNumbers (valuesOf (fromPacket wireChanges s))) → judgedSpeed t x lsp v ≡ speedFromPacket s t x
-  unfolding packetVerdict speedFromPacket
-  packet-answered n e a b = answered-so packet-sorts (sizeFrom sheet (sheetFields wireChanges) 0) t x (fromPacket wireChanges s) n e a b
+  unfolding packetVerdict speedFromPacket fromPacket fields sheetFields
+  packet-answered n e a b = answered-so packet-sorts (sizeFrom sheet (treeSheetFields Segment) 0) t x (fromPacket wireChanges s) n e a b
 
-  pub sheet-refused : (q : ℕ) → SheetVerdict.Refused q ≡ sheetVerdict s → noSpeed q ≡ speedFromSheet s t x
-  unfolding sheetVerdict speedFromSheet
-  sheet-refused q e = refused-so sheet-sorts (sizeFrom packet (sheetFields wireChanges) 0) t x (fromSheet wireChanges s) q e
+  pub sheet-refused : (q : ℕ) → SheetVerdict.Refused q ≡ sheetVerdict Segment s → noSpeed q ≡ speedFromSheet s t x
+  unfolding sheetVerdict speedFromSheet fromSheet fields sheetFields
+  sheet-refused q e = refused-so sheet-sorts (sizeFrom packet (treeSheetFields Segment) 0) t x (fromSheet wireChanges s) q e
 
-  pub sheet-accepted : (n : ℕ) → SheetVerdict.PacketBits n ≡ sheetVerdict s → fromSheet wireChanges s ≡ accepted (valuesOf (fromSheet wireChanges s))
-  unfolding sheetVerdict
-  sheet-accepted n e = accepted-so sheet-sorts (sizeFrom packet (sheetFields wireChanges) 0) t x (fromSheet wireChanges s) n e
+  pub sheet-accepted : (n : ℕ) → SheetVerdict.PacketBits n ≡ sheetVerdict Segment s → fromSheet wireChanges s ≡ accepted (valuesOf (fromSheet wireChanges s))
+  unfolding sheetVerdict fromSheet fields sheetFields
+  sheet-accepted n e = accepted-so sheet-sorts (sizeFrom packet (treeSheetFields Segment) 0) t x (fromSheet wireChanges s) n e
 
-  pub sheet-answered : (n : ℕ) → SheetVerdict.PacketBits n ≡ sheetVerdict s → {lsp v : ℕ} → lsp ≡ segmentLength (sheetNumbers (valuesOf (fromSheet wireChanges s)))
+  pub sheet-answered : (n : ℕ) → SheetVerdict.PacketBits n ≡ sheetVerdict Segment s → {lsp v : ℕ} → lsp ≡ segmentLength (sheetNumbers (valuesOf (fromSheet wireChanges s)))
       → v ≡ speedIn t x (sheetNumbers (valuesOf (fromSheet wireChanges s))) → judgedSpeed t x lsp v ≡ speedFromSheet s t x
-  unfolding sheetVerdict speedFromSheet
-  sheet-answered n e a b = answered-so sheet-sorts (sizeFrom packet (sheetFields wireChanges) 0) t x (fromSheet wireChanges s) n e a b
+  unfolding sheetVerdict speedFromSheet fromSheet fields sheetFields
+  sheet-answered n e a b = answered-so sheet-sorts (sizeFrom packet (treeSheetFields Segment) 0) t x (fromSheet wireChanges s) n e a b

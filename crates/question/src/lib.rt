@@ -3,6 +3,7 @@ ghost use mathlib.Core.Path.{_≡_};
 ghost use Rattle.question.specs.Question.{noSpeed, judgedSpeed, speedFromPacket, speedFromSheet};
 use judge::PacketVerdict;
 use judge::SheetVerdict;
+use link::Tree;
 use speed::Train;
 
 // A refusal's number, or 0 and the permitted speed in km/h.
@@ -40,7 +41,7 @@ fn refusal_of(train: Train, x: u32, lsp: u32) -> u32
 pub fn speed_from_packet(packet: &[u8], train: Train, x: u32) -> Speed
     ensures { λ r. ⌜ r ≡ speedFromPacket (now (packet .entry)) train x ⌝ }
 {
-    match judge_packet::judge_packet(packet) {
+    match judge_packet::judge_packet(Tree::Segment, packet) {
         PacketVerdict::Refused(r) => refused(r),
         PacketVerdict::SheetBytes(_) => {
             let refusal = refusal_of(train, x, ask_packet::length_of(packet));
@@ -57,7 +58,7 @@ pub fn speed_from_packet(packet: &[u8], train: Train, x: u32) -> Speed
 pub fn speed_from_sheet(sheet: &[u8], train: Train, x: u32) -> Speed
     ensures { λ r. ⌜ r ≡ speedFromSheet (now (sheet .entry)) train x ⌝ }
 {
-    match judge_sheet::judge_sheet(sheet) {
+    match judge_sheet::judge_sheet(Tree::Segment, sheet) {
         SheetVerdict::Refused(r) => refused(r),
         SheetVerdict::PacketBits(_) => {
             let start = ask_sheet::head(sheet);

@@ -130,7 +130,7 @@ ends = (refl, refl, refl)
 
 -- ---- the ends are reached
 
-abbrev item : ℕ → ℕ → Item
+abbrev pub item : ℕ → ℕ → Item
 item a v = record { sheet = a; packet = v }
 
 -- a list begun with these values, with n changes from the location x on, one centimetre apart
@@ -141,7 +141,7 @@ changed start x (suc n) = item x x ∷ start ++ changed start (suc x) n
 abbrev parted : List Item → ℕ → List Item
 parted start n = start ++ item n n ∷ changed start 2097152 n
 
-abbrev times : ℕ → List Item → List Item
+abbrev pub times : ℕ → List Item → List Item
 times zero l = []
 times (suc n) l = l ++ times n l
 
@@ -157,14 +157,14 @@ abbrev smallest : List Item
 smallest = item 6 6 ∷ times 9 (item 0 0 ∷ []) ++ item 1 1 ∷ times 10 (item 0 0 ∷ []) ++ item 0 1023 ∷ item 0 0 ∷ []
 
 -- conforming, as a test that antt computes
-abbrev matches : Option ℕ → ℕ → Bool
+abbrev pub matches : Option ℕ → ℕ → Bool
 matches none v = false
 matches (some u) v = eqb u v
 
-abbrev good : Kind → Item → Bool
+abbrev pub good : Kind → Item → Bool
 good k i = matches (k .lower (i .sheet)) (i .packet) && ltb (i .sheet) 4294967296
 
-abbrev conforms : Format → List Item → Bool
+abbrev pub conforms : Format → List Item → Bool
 conforms end [] = true
 conforms end (i ∷ l) = false
 conforms (field k next) [] = false
@@ -174,7 +174,7 @@ matched : (o : Option ℕ) (v : ℕ) → matches o v ≡ true → o ≡ some v
 matched none v e = absurd (let z : _≡_ {A = ℕ} 0 1 = cc in omega arith)
 matched (some u) v e = ap (λ (n : ℕ). some n) (eqb-true u v e)
 
-conformed : (f : Format) (l : List Item) → conforms f l ≡ true → Conforming InSheet f l
+pub conformed : (f : Format) (l : List Item) → conforms f l ≡ true → Conforming InSheet f l
 conformed end [] e = done
 conformed end (i ∷ l) e = absurd (let z : _≡_ {A = ℕ} 0 1 = cc in omega arith)
 conformed (field k next) [] e = absurd (let z : _≡_ {A = ℕ} 0 1 = cc in omega arith)

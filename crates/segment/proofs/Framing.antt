@@ -13,6 +13,7 @@ use lib.Seq.{take-at, drop-at, length-take-le, take-add, drop-drop}
 use Rattle.bits.specs.Bits.{Bytes, bitsOf, number, bitsOfBytes, bytesOfBits, fieldAt, fill}
 use Rattle.bits.proofs.Tests.{by-cases}
 use Rattle.bits.proofs.Spelling.{length-bits, number-bits, bits-number}
+use Rattle.bits.proofs.Fields.{field-small}
 use Rattle.bits.proofs.Padding.{zeros, fill-zeros, length-pack, length-bytes, unpack, pack-fill, pack-bytes}
 use Rattle.kinds.specs.declared.Item.{Item}
 use Rattle.format.specs.Format.{Format, Read, accepted, refused, read, write}
@@ -84,7 +85,7 @@ module _ (n : ℕ) (b : List Bool) (low : 96 ≤ length b) (high : length b < 96
       sym (drop-drop 16 8 (bitsOfBytes (packetOfBits n b))) ∙ ap (drop 16) after-8
       ∙ drop-at (bitsOf 16 (length b - 96)) (b ++ pad) 16 (length-bits 16 (length b - 96))
 
-  framed-number : packetNumber (packetOfBits n b) ≡ n
+  pub framed-number : packetNumber (packetOfBits n b) ≡ n
   framed-number = field-front (packetOfBits n b) 0 8 n (bitsOf 16 (length b - 96) ++ (b ++ pad)) framed-bits small
 
   framed-body : bodyBits (packetOfBits n b) ≡ length b - 96
@@ -131,6 +132,7 @@ pub record Framed (n : ℕ) (f : Format) (s : List ℕ) (l : List Item) : Type 0
   pub all : l ≡ numberItem n ∷ values
   pub good : Conforming InPacket f values
   pub bytes : s ≡ packetOfBits n (write packet f values)
+  pub few : length (write packet f values) ≤ 96 + 65535
 
 -- a field of the frame is spelled by its bits
 field-bits : (s : List ℕ) (at w : ℕ) → at + w ≤ 8 * length s → bitsOf w (fieldAt s at w) ≡ take w (drop at (bitsOfBytes s))
@@ -170,6 +172,7 @@ framed-only n f s l ok e =
       all = q;
       good = r .0;
       bytes = rw (← r .1) (sym (bytes-only s (120 + m) ok room (omega arith) none) ∙ ap bytesOfBits (sym whole));
+      few = rw (← r .1) (omega (arith, field-small s 8 16 16 (omega arith)));
     })
     (λ c. absurd (never (rw (a, b, c) at e))))
     (λ b. absurd (never (rw (a, b) at e)))

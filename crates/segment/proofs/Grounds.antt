@@ -15,13 +15,14 @@ use Rattle.kinds.specs.declared.Item.{Item}
 use Rattle.kinds.specs.Kind.{Kind}
 use Rattle.kinds.specs.Kinds.{class}
 use Rattle.format.specs.Format.{Format, Read, accepted, refused, read}
-use Rattle.format.specs.Media.{packet}
-use Rattle.format.specs.Grounds.{BitsFault, GroupsFault, atField, leftOver, Every, atEnd, each, Among, first, later}
+use Rattle.format.specs.Media.{packet, sheet}
+use Rattle.format.specs.Conforming.{InSheet}
+use Rattle.format.specs.Grounds.{BitsFault, GroupsFault, Ground, atField, leftOver, Every, atEnd, each, Among, first, later}
 use Rattle.format.proofs.Generic.{never}
 use Rattle.format.proofs.Grounds.{every-front, every-map, packet-written, packet-ground, sheet-ground}
 use Rattle.segment.specs.Segment.{entries, profile, voltage, current, changes, part, lists, body, fields, sheetFields}
-use Rattle.segment.specs.Frame.{packetNumber, bodyBits, fieldBits, padding, fromOne, padded}
-use Rattle.segment.specs.Judgement.{segmentNumber, fromPacket, fromSheet}
+use Rattle.segment.specs.Frame.{packetNumber, bodyBits, fieldBits, padding, fromOne, padded, unframed}
+use Rattle.segment.specs.Judgement.{fromSheet}
 use Rattle.segment.specs.Grounds.{WellFramed, FirstOne, PacketGround, short, otherNumber, otherSize, inFields, inPadding, SheetGround, FieldRefusal, asValue, asLocation, packetRefusals, sheetRefusals}
 
 -- ---- the first padding bit that is 1
@@ -48,50 +49,48 @@ padded-refused n rest (refused q m) r left e inside after = inside e
 padded-refused n [] (accepted l) r left e inside after = absurd (never (sym e))
 padded-refused n (b ∷ rest) (accepted l) r left e inside after = after l b rest refl refl (cc) (cc)
 
-module _ (limit : ℕ) (s : List ℕ) (r left : ℕ) where
+module _ (n : ℕ) (f : Format) (s : List ℕ) (r left : ℕ) where
   -- the fields and the padding, once the frame is judged
   inside : Read
-  inside = padded segmentNumber (fromOne (padding s)) (read packet (fields limit) (fieldBits s))
+  inside = padded n (fromOne (padding s)) (read packet f (fieldBits s))
 
-  framed-judged : WellFramed s → fromPacket limit s ≡ inside
-  unfolding fromPacket inside
+  framed-judged : WellFramed n s → unframed n f s ≡ inside
+  unfolding inside
   framed-judged w =
-      rw (le-ltb (length s) 15 (w .long), eq-eqb (packetNumber s) segmentNumber (w .number), eq-eqb (length s) (15 + (bodyBits s + 7) / 8) (w .size))
+      rw (le-ltb (length s) 15 (w .long), eq-eqb (packetNumber s) n (w .number), eq-eqb (length s) (15 + (bodyBits s + 7) / 8) (w .size))
 
-  inside-ground : WellFramed s → inside ≡ refused r left → PacketGround limit s r left
+  inside-ground : WellFramed n s → inside ≡ refused r left → PacketGround n f s r left
   unfolding inside
   inside-ground w e =
-      padded-refused segmentNumber (fromOne (padding s)) (read packet (fields limit) (fieldBits s)) r left e
-      (λ f. inFields w (packet-ground (fields limit) (fieldBits s) r left .0 f))
+      padded-refused n (fromOne (padding s)) (read packet f (fieldBits s)) r left e
+      (λ g. inFields w (packet-ground f (fieldBits s) r left .0 g))
       λ l b more a o q p.
-      inPadding w l (packet-written (fields limit) (fieldBits s) l .0 a) (rw p (one-first (padding s) b more o)) q
+      inPadding w l (packet-written f (fieldBits s) l .0 a) (rw p (one-first (padding s) b more o)) q
 
-  ground : fromPacket limit s ≡ refused r left → PacketGround limit s r left
-  unfolding fromPacket
+  ground : unframed n f s ≡ refused r left → PacketGround n f s r left
   ground e =
-      by-cases (ltb (length s) 15) (λ a. let f : refused 1 0 ≡ refused r left = rw a at e in short (ltb-true (length s) 15 a) (cc) (cc)) λ a.
+      by-cases (ltb (length s) 15) (λ a. let g : refused 1 0 ≡ refused r left = rw a at e in short (ltb-true (length s) 15 a) (cc) (cc)) λ a.
       let long : 15 ≤ length s = ltb-false (length s) 15 a in
-      by-cases (eqb (packetNumber s) segmentNumber) (λ b.
-      let number : packetNumber s ≡ segmentNumber = eqb-true (packetNumber s) segmentNumber b in
+      by-cases (eqb (packetNumber s) n) (λ b.
+      let number : packetNumber s ≡ n = eqb-true (packetNumber s) n b in
       by-cases (eqb (length s) (15 + (bodyBits s + 7) / 8)) (λ c.
-      let w : WellFramed s = record { long = long; number = number; size = eqb-true (length s) (15 + (bodyBits s + 7) / 8) c } in
+      let w : WellFramed n s = record { long = long; number = number; size = eqb-true (length s) (15 + (bodyBits s + 7) / 8) c } in
       inside-ground w (sym (framed-judged w) ∙ e))
-      (λ c. let f : refused 3 0 ≡ refused r left = rw (a, b, c) at e in otherSize long number (eqb-false (length s) (15 + (bodyBits s + 7) / 8) c) (cc) (cc)))
-      (λ b. let f : refused 2 0 ≡ refused r left = rw (a, b) at e in otherNumber long (eqb-false (packetNumber s) segmentNumber b) (cc) (cc))
+      (λ c. let g : refused 3 0 ≡ refused r left = rw (a, b, c) at e in otherSize long number (eqb-false (length s) (15 + (bodyBits s + 7) / 8) c) (cc) (cc)))
+      (λ b. let g : refused 2 0 ≡ refused r left = rw (a, b) at e in otherNumber long (eqb-false (packetNumber s) n b) (cc) (cc))
 
-  given : PacketGround limit s r left → fromPacket limit s ≡ refused r left
-  unfolding fromPacket inside
+  given : PacketGround n f s r left → unframed n f s ≡ refused r left
+  unfolding inside
   given (short h e p) = rw (lt-ltb (length s) 15 h, e, p)
-  given (otherNumber h n e p) = rw (le-ltb (length s) 15 h, ne-eqb (packetNumber s) segmentNumber n, e, p)
-  given (otherSize h n z e p) =
-      rw (le-ltb (length s) 15 h, eq-eqb (packetNumber s) segmentNumber n, ne-eqb (length s) (15 + (bodyBits s + 7) / 8) z, e, p)
-  given (inFields w g) =
-      framed-judged w ∙ ap (padded segmentNumber (fromOne (padding s))) (packet-ground (fields limit) (fieldBits s) r left .1 g)
+  given (otherNumber h d e p) = rw (le-ltb (length s) 15 h, ne-eqb (packetNumber s) n d, e, p)
+  given (otherSize h d z e p) =
+      rw (le-ltb (length s) 15 h, eq-eqb (packetNumber s) n d, ne-eqb (length s) (15 + (bodyBits s + 7) / 8) z, e, p)
+  given (inFields w g) = framed-judged w ∙ ap (padded n (fromOne (padding s))) (packet-ground f (fieldBits s) r left .1 g)
   given (inPadding w l a o e) =
-      framed-judged w ∙ rw (packet-written (fields limit) (fieldBits s) l .1 a, o .whole, first-one (o .zeros) (o .more), e, o .place)
+      framed-judged w ∙ rw (packet-written f (fieldBits s) l .1 a, o .whole, first-one (o .zeros) (o .more), e, o .place)
 
   -- "Each refusal is given then and not otherwise"
-  pub packet-grounds : (fromPacket limit s ≡ refused r left) ↔ PacketGround limit s r left
+  pub packet-grounds : (unframed n f s ≡ refused r left) ↔ PacketGround n f s r left
   packet-grounds = (ground, given)
 
 -- ---- a sheet
@@ -151,22 +150,30 @@ bits-listed f (BitsFault.unfitting h e) = rw e (later (later (later (later (late
 bits-listed f (BitsFault.unallowed v more fits whole a e) =
     listed f (λ q. rw (e, q) (later (later (later first)))) (λ q. rw (e, q) (later (later (later (later first)))))
 
-pub packet-listed : (limit : ℕ) (s : List ℕ) (r left : ℕ) → PacketGround limit s r left → Among r packetRefusals
-packet-listed limit s r left (short h e p) = rw e first
-packet-listed limit s r left (otherNumber h n e p) = rw e (later first)
-packet-listed limit s r left (otherSize h n z e p) = rw e (later (later first))
-packet-listed limit s r left (inFields w (atField a)) = bits-listed (every-front (fields-refusals limit) (a .front)) (a .fault)
-packet-listed limit s r left (inFields w (leftOver a)) = rw (a .number) (later (later (later (later (later first)))))
-packet-listed limit s r left (inPadding w l a o e) = rw e (later (later (later (later (later (later first))))))
+pub packet-listed : (n : ℕ) {f : Format} → Every FieldRefusal f → (s : List ℕ) (r left : ℕ) → PacketGround n f s r left → Among r packetRefusals
+packet-listed n every s r left (short h e p) = rw e first
+packet-listed n every s r left (otherNumber h d e p) = rw e (later first)
+packet-listed n every s r left (otherSize h d z e p) = rw e (later (later first))
+packet-listed n every s r left (inFields w (atField a)) = bits-listed (every-front every (a .front)) (a .fault)
+packet-listed n every s r left (inFields w (leftOver a)) = rw (a .number) (later (later (later (later (later first)))))
+packet-listed n every s r left (inPadding w l a o e) = rw e (later (later (later (later (later (later first))))))
+
+-- the refusals of a sheet's fields after the packet number, whose own is 2
+pub numbers-refusals : {f : Format} → Every FieldRefusal f → Every (λ k. Among (k .refusal) sheetRefusals) f
+numbers-refusals e = every-map (λ k f. listed f (λ q. rw q (later first)) (λ q. rw q (later (later first)))) e
 
 sheet-refusals : (limit : ℕ) → Every (λ k. Among (k .refusal) sheetRefusals) (sheetFields limit)
 unfolding sheetFields
-sheet-refusals limit = each first λ _. every-map (λ k f. listed f (λ q. rw q (later first)) (λ q. rw q (later (later first)))) (fields-refusals limit)
+sheet-refusals limit = each first λ _. numbers-refusals (fields-refusals limit)
 
 groups-listed : {k : Kind} {bytes : List ℕ} {r : ℕ} → Among (k .refusal) sheetRefusals → GroupsFault k bytes r → Among r sheetRefusals
 groups-listed f (GroupsFault.numberless n e) = rw e (later (later (later first)))
 groups-listed f (GroupsFault.unallowed a b l e) = rw e f
 
+-- of any tree
+pub numbers-listed : {f : Format} → Every (λ k. Among (k .refusal) sheetRefusals) f → (s : List ℕ) (r left : ℕ) → Ground sheet InSheet GroupsFault f s r left → Among r sheetRefusals
+numbers-listed every s r left (atField a) = groups-listed (every-front every (a .front)) (a .fault)
+numbers-listed every s r left (leftOver a) = rw (a .number) (later (later (later first)))
+
 pub sheet-listed : (limit : ℕ) (s : List ℕ) (r left : ℕ) → SheetGround limit s r left → Among r sheetRefusals
-sheet-listed limit s r left (atField a) = groups-listed (every-front (sheet-refusals limit) (a .front)) (a .fault)
-sheet-listed limit s r left (leftOver a) = rw (a .number) (later (later (later first)))
+sheet-listed limit s r left g = numbers-listed (sheet-refusals limit) s r left g

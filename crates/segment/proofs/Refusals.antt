@@ -10,20 +10,22 @@ use Rattle.bits.specs.Bits.{Bytes}
 use Rattle.bits.proofs.Tests.{and-left, and-right}
 use Rattle.format.specs.Format.{refused}
 use Rattle.format.specs.Grounds.{Among, first, later}
-use Rattle.segment.specs.Judgement.{fromPacket, fromSheet}
-use Rattle.segment.proofs.Grounds.{packet-grounds, sheet-grounds, packet-listed, sheet-listed}
+use Rattle.segment.specs.Segment.{fields}
+use Rattle.segment.specs.Judgement.{segmentNumber, fromPacket, fromSheet}
+use Rattle.segment.proofs.Grounds.{packet-grounds, sheet-grounds, fields-refusals, packet-listed, sheet-listed}
 
-abbrev positive : List ℕ → Bool
+abbrev pub positive : List ℕ → Bool
 positive [] = true
 positive (a ∷ l) = leb 1 a && positive l
 
-among-positive : {r : ℕ} {l : List ℕ} → Among r l → positive l ≡ true → 1 ≤ r
+pub among-positive : {r : ℕ} {l : List ℕ} → Among r l → positive l ≡ true → 1 ≤ r
 among-positive {r} (first {l = l}) e = leb-true 1 r (and-left (leb 1 r) (positive l) e)
 among-positive (later {b = b} {l = l} a) e = among-positive a (and-right (leb 1 b) (positive l) e)
 
 module _ (limit : ℕ) (s : List ℕ) (r left : ℕ) where
   pub packet-refusal : fromPacket limit s ≡ refused r left → 1 ≤ r
-  packet-refusal e = among-positive (packet-listed limit s r left (packet-grounds limit s r left .0 e)) refl
+  unfolding fromPacket
+  packet-refusal e = among-positive (packet-listed segmentNumber (fields-refusals limit) s r left (packet-grounds segmentNumber (fields limit) s r left .0 e)) refl
 
   pub sheet-refusal : Bytes s → fromSheet limit s ≡ refused r left → 1 ≤ r
   sheet-refusal ok e = among-positive (sheet-listed limit s r left (sheet-grounds limit s r left ok .0 e)) refl

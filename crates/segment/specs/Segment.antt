@@ -42,11 +42,14 @@ body limit =
     then nidC (then nidSp (then mSpVersion (then mSpVersion
     (field lSp λ lsp. then dEoAOffset (then qUtcOffset (then mSpAltitude (lists limit lsp)))))))
 
--- "Header, 120 bits", after L_PACKET_ATO, and the body
+-- "Header, 120 bits": its fields after L_PACKET_ATO, NID_OPERATIONAL 32, NID_ENGINE 24, T_Timestamp 15 + 17, N_PACKET_COUNTER 8
+abbrev pub header : Format → Format
+header f = then nidOperational (then nidEngine (then tTimestampDate (then tTimestampSeconds (then nPacketCounter f))))
+
+-- the header after L_PACKET_ATO, and the body
 unfoldable pub fields : ℕ → Format
 unfolding body
-fields limit =
-    then nidOperational (then nidEngine (then tTimestampDate (then tTimestampSeconds (then nPacketCounter (body limit)))))
+fields limit = header (body limit)
 
 -- "The numbers stand in packet order, .. without L_PACKET_ATO and padding (the packet number, 6, comes first)"
 unfoldable pub sheetFields : ℕ → Format

@@ -22,7 +22,9 @@ use Rattle.segment.specs.Judgement.{segmentNumber, fromPacket, toSheet}
 use Rattle.segment.proofs.Framing.{framed-only}
 use Rattle.segment.proofs.Ends.{sheetFields-lawful, sheet-most}
 use Rattle.convert.specs.declared.Converted.{Converted}
-use Rattle.convert.specs.Convert.{Outcome, successWith, converted, packetToSheet}
+use Rattle.link.specs.Link.{toEitherSheet}
+use Rattle.link.proofs.Segments.{segment-accepted, segment-sheet-of}
+use Rattle.convert.specs.Convert.{Outcome, successWith, fitted, converted, packetToSheet}
 use Rattle.speed.specs.Speed.{afterEntries, afterElement}
 use Rattle.sheets.specs.Numbers.{numbersIn}
 use Rattle.lines.specs.Changes.{changesOf}
@@ -70,6 +72,13 @@ module _ (s : List ℕ) (l : List Item) (ok : Bytes s) (e : fromPacket wireChang
       let r = framed-only segmentNumber (fields wireChanges) s l ok e in
       rw (r .all) (also {i = numberItem 6} (record { allowed = refl; fits = lit< tt; raised = refl }) (r .good))
 
+  -- its sheet is the same on the link
+  linked : toEitherSheet l ≡ toSheet wireChanges l
+  unfolding fromPacket
+  linked =
+      let r = framed-only segmentNumber (fields wireChanges) s l ok e in
+      rw (r .all) (segment-sheet-of (numberItem 6) (r .values) refl)
+
   pub few-changes : changesOf (sheetNumbers l) ≤ 31
   few-changes = few good
 
@@ -94,7 +103,7 @@ made s room cells answer ok e h o =
     let l = valuesOf (fromPacket wireChanges s) in
     let bytes = toSheet wireChanges l in
     let p : record { answer = answer; room = cells } ≡ successWith bytes room =
-    o ∙ ap (λ (r : Read). converted (toSheet wireChanges) r room) e ∙ rw (le-ltb (length room) (length bytes) (omega (arith, short s l ok e))) in
+    o ∙ ap (λ (r : Read). converted toEitherSheet r room) (segment-accepted s l e) ∙ ap (λ (b : List ℕ). fitted b room) (linked s l ok e) ∙ rw (le-ltb (length room) (length bytes) (omega (arith, short s l ok e))) in
     let long : answer .length ≡ length bytes = ap (λ (x : Outcome). x .answer .length) p in
     let whole : cells ≡ bytes ++ drop (length bytes) room = ap (λ (x : Outcome). x .room) p in
     let front : take (answer .length) cells ≡ bytes = rw (long, whole) (take-append-seam bytes (drop (length bytes) room)) in

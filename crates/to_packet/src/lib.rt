@@ -4,8 +4,12 @@ ghost use mathlib.Core.List.{_++_};
 ghost use Prim.Native.Nat.{_+_, _-_, _/_, _≤_, _<_, _^_};
 ghost use lib.ListN.{length, drop};
 ghost use Rattle.bits.specs.Bits.{bytesOfBits};
+ghost use Rattle.link.specs.Link.{treeNumber};
+ghost use Rattle.link.specs.Trees.{treeOfSheet};
 ghost use Rattle.convert.specs.Convert.{sheetToPacket};
-ghost use Rattle.convert.specs.Writers.{bitsOfSheet, SheetAccepted, bodyBitsOf, BodyAt, Headed};
+ghost use Rattle.convert.specs.Writers.{bitsOfSheet, SheetAccepted, bodyBitsOf, BodyAt, Headed, treeToPacket};
+ghost use Rattle.fill_element.specs.Writing.{Ready, Wrote};
+ghost use Rattle.to_packet.specs.Counted.{countedVerdict, treeBodyPart};
 use convert::Converted;
 use convert::TOO_LONG;
 use convert::done;
@@ -15,25 +19,21 @@ use frame::FIRST_FIELD;
 use frame::HEADER;
 use judge::SheetVerdict;
 use kinds::header;
+use link::Tree;
+use numbers::Number;
 
 // The bits of a packet before its body, without L_PACKET_ATO.
 const BEFORE_BODY: usize = 104;
 
-// Writes the header of an accepted sheet's packet, and returns the place of the body's first number.
-fn write_header(sheet: &[u8], header: &mut [u8], bits: u32) -> usize
-    requires { ⌜ (length (now header) ≡ 15) × (bits ≡ length (bitsOfSheet (now sheet)) - 96) × SheetAccepted (now sheet) ⌝ }
-    ensures { λ r. ⌜ Headed (now (sheet .entry)) (now (header .exit)) r ⌝ }
+// Writes the header of an accepted sheet's packet, whose packet number is this one, and returns the place of the body's first number.
+fn write_header(tree: Tree, nid: u32, sheet: &[u8], header: &mut [u8], bits: u32) -> usize
+    requires { ⌜ (length (now header) ≡ 15) × (bits ≡ length (bitsOfSheet tree (now sheet)) - 96) × SheetAccepted tree (now sheet) × (nid ≡ treeNumber tree) ⌝ }
+    ensures { λ r. ⌜ Headed tree (now (sheet .entry)) (now (header .exit)) r ⌝ }
 {
-    let number = filling::put(
-        header,
-        0,
-        0,
-        header::NidPacketAto::WIDTH,
-        header::NidPacketAto::SEGMENT,
-    );
+    let number = filling::put(header, 0, 0, header::NidPacketAto::WIDTH, nid);
     let wait = filling::put(header, 8, number, header::LPacketAto::WIDTH, bits);
     let first = Spot {
-        from: grouping::groups(header::NidPacketAto::SEGMENT) as usize,
+        from: grouping::groups(nid) as usize,
         at: FIRST_FIELD,
         wait,
     };
@@ -41,24 +41,58 @@ fn write_header(sheet: &[u8], header: &mut [u8], bits: u32) -> usize
     last.from
 }
 
+// The same with the tree's own packet number.
+fn tree_header(tree: Tree, sheet: &[u8], header: &mut [u8], bits: u32) -> usize
+    requires { ⌜ (length (now header) ≡ 15) × (bits ≡ length (bitsOfSheet tree (now sheet)) - 96) × SheetAccepted tree (now sheet) ⌝ }
+    ensures { λ r. ⌜ Headed tree (now (sheet .entry)) (now (header .exit)) r ⌝ }
+{
+    write_header(tree, link::number(tree), sheet, header, bits)
+}
+
+// The fields of the body, by its tree.
+fn tree_body(tree: Tree, sheet: &[u8], room: &mut [u8], p: Spot) -> Spot
+    requires { ⌜ Ready (treeBodyPart tree) (now sheet) (now room) p ⌝ }
+    ensures { λ r. ⌜ Wrote (treeBodyPart tree) (now (sheet .entry)) (now (room .entry)) p (now (room .exit)) r ⌝ }
+{
+    match tree {
+        Tree::Segment => write_packet::body(sheet, room, p),
+        Tree::Journey => write_journey_packet::body(sheet, room, p),
+    }
+}
+
 // Writes the body of an accepted sheet's packet, from its first number at start: so many bytes, with the padding, and none past them.
-fn write_body(sheet: &[u8], start: usize, body: &mut [u8], bytes: usize)
-    requires { ⌜ BodyAt (now sheet) start × (bytes ≡ (length (bodyBitsOf (now sheet) start) + 7) / 8) × (bytes ≤ length (now body)) × (length (bodyBitsOf (now sheet) start) < 2 ^ 31) ⌝ }
-    ensures { λ _. ⌜ now (body .exit) ≡ bytesOfBits (bodyBitsOf (now (sheet .entry)) start) ++ drop ((length (bodyBitsOf (now (sheet .entry)) start) + 7) / 8) (now (body .entry)) ⌝ }
+fn write_body(tree: Tree, sheet: &[u8], start: usize, body: &mut [u8], bytes: usize)
+    requires { ⌜ BodyAt tree (now sheet) start × (bytes ≡ (length (bodyBitsOf tree (now sheet) start) + 7) / 8) × (bytes ≤ length (now body)) × (length (bodyBitsOf tree (now sheet) start) < 2 ^ 31) ⌝ }
+    ensures { λ _. ⌜ now (body .exit) ≡ bytesOfBits (bodyBitsOf tree (now (sheet .entry)) start) ++ drop ((length (bodyBitsOf tree (now (sheet .entry)) start) + 7) / 8) (now (body .entry)) ⌝ }
 {
     let first = Spot {
         from: start,
         at: 0,
         wait: 0,
     };
-    write_packet::body(sheet, &mut body[..bytes], first);
+    tree_body(tree, sheet, &mut body[..bytes], first);
 }
 
-// The packet of a sheet, in a lent room.
-pub fn sheet_to_packet(sheet: &[u8], room: &mut [u8]) -> Converted
-    ensures { λ r. ⌜ record { answer = r; room = now (room .exit) } ≡ sheetToPacket (now (sheet .entry)) (now (room .entry)) ⌝ }
+// The verdict on a sheet, with 12: a body of more than 65,535 bits.
+fn counted(tree: Tree, sheet: &[u8]) -> SheetVerdict
+    ensures { λ r. ⌜ r ≡ countedVerdict tree (now (sheet .entry)) ⌝ }
 {
-    match judge_sheet::judge_sheet(sheet) {
+    match judge_sheet::judge_sheet(tree, sheet) {
+        SheetVerdict::Refused(r) => SheetVerdict::Refused(r),
+        SheetVerdict::PacketBits(n) => {
+            if link::MOST_BITS + BEFORE_BODY < n {
+                return SheetVerdict::Refused(link::TOO_MANY_BITS);
+            }
+            SheetVerdict::PacketBits(n)
+        }
+    }
+}
+
+// The packet of a sheet of a tree, in a lent room.
+fn tree_to_packet(tree: Tree, sheet: &[u8], room: &mut [u8]) -> Converted
+    ensures { λ r. ⌜ record { answer = r; room = now (room .exit) } ≡ treeToPacket tree (now (sheet .entry)) (now (room .entry)) ⌝ }
+{
+    match counted(tree, sheet) {
         SheetVerdict::Refused(r) => refused(r),
         SheetVerdict::PacketBits(n) => {
             let bits = n - BEFORE_BODY;
@@ -67,9 +101,26 @@ pub fn sheet_to_packet(sheet: &[u8], room: &mut [u8]) -> Converted
             if room.len() < length {
                 return refused(TOO_LONG);
             }
-            let at = write_header(sheet, &mut room[..15], bits as u32);
-            write_body(sheet, at, &mut room[15..], bytes);
+            let at = tree_header(tree, sheet, &mut room[..15], bits as u32);
+            write_body(tree, sheet, at, &mut room[15..], bytes);
             done(length as u32)
         }
     }
+}
+
+// The tree of a sheet, by its first number.
+fn tree_of(sheet: &[u8]) -> Tree
+    ensures { λ r. ⌜ r ≡ treeOfSheet (now (sheet .entry)) ⌝ }
+{
+    match numbers::number_at(sheet, 0) {
+        Number::Bad => Tree::Segment,
+        Number::Value(a) => link::tree_of(a),
+    }
+}
+
+// The packet of a sheet, in a lent room.
+pub fn sheet_to_packet(sheet: &[u8], room: &mut [u8]) -> Converted
+    ensures { λ r. ⌜ record { answer = r; room = now (room .exit) } ≡ sheetToPacket (now (sheet .entry)) (now (room .entry)) ⌝ }
+{
+    tree_to_packet(tree_of(sheet), sheet, room)
 }

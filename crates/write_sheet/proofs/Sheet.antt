@@ -22,6 +22,7 @@ use Rattle.format.proofs.Passing.{pass-read}
 use Rattle.segment.specs.Segment.{fields, wireChanges}
 use Rattle.segment.specs.Parts.{runs, headerPart, bodyPart, threeLists}
 use Rattle.segment.proofs.Parts.{header-part}
+use Rattle.link.specs.declared.Tree.the-variants.{Segment}
 use Rattle.convert.specs.Writers.{fieldsOf, FieldsWritable}
 use Rattle.write_element.specs.Writing.{writing, putting, filled, PartWritable, Wrote}
 use Rattle.write_element.proofs.Writing.{Along, along-all, along-here, along-next, along-on, along-none, along-put, field-here, field-read}
@@ -40,9 +41,10 @@ made-written (field k next) (i ∷ l) p =
 abbrev pub whole : Format → Format
 whole f = headerPart (bodyPart f)
 
-module _ (s : List ℕ) (stop : ℕ) (room : List ℕ) (start : ℕ) (h : FieldsWritable s stop room start) where
+module _ (s : List ℕ) (stop : ℕ) (room : List ℕ) (start : ℕ) (h : FieldsWritable Segment s stop room start) where
   all-written : pass packet writing (whole end) (filled room start) (bitsBetween s 24 stop)
-      ≡ Told.told (filled (sets room start (fieldsOf s stop)) (start + length (fieldsOf s stop)))
+      ≡ Told.told (filled (sets room start (fieldsOf Segment s stop)) (start + length (fieldsOf Segment s stop)))
+  unfolding fields
   all-written =
       ap (λ (f : Format). pass packet writing f (filled room start) (bitsBetween s 24 stop)) (sym header-part)
       ∙ pass-read packet writing (fields wireChanges) (filled room start) (bitsBetween s 24 stop)
@@ -55,16 +57,16 @@ module _ (s : List ℕ) (stop : ℕ) (room : List ℕ) (start : ℕ) (h : Fields
       let p = h .place in
       record {
         reads = record { before = p .before; inside = p .inside; few = p .few; long = l };
-        ahead = record { follows = end; good = rw all-written (omega (arith, h .holds, length-sets room start (fieldsOf s stop))) };
+        ahead = record { follows = end; good = rw all-written (omega (arith, h .holds, length-sets room start (fieldsOf Segment s stop))) };
       }
 
   -- and once it is, the room holds the sheet
-  pub all-held : {at : ℕ} {p : Put} → Wrote whole s stop 24 (filled room start) at p → p .bytes ≡ sets room start (fieldsOf s stop)
+  pub all-held : {at : ℕ} {p : Put} → Wrote whole s stop 24 (filled room start) at p → p .bytes ≡ sets room start (fieldsOf Segment s stop)
   all-held {at} {p} o = go (bitsBetween s at stop) (sym all-written ∙ o .over .goes end)
     where
-      go : (t : List _) → Told.told (filled (sets room start (fieldsOf s stop)) (start + length (fieldsOf s stop))) ≡ pass packet writing end p t
-          → p .bytes ≡ sets room start (fieldsOf s stop)
-      go [] e = let q : p ≡ filled (sets room start (fieldsOf s stop)) (start + length (fieldsOf s stop)) = cc in ap (λ (x : Put). x .bytes) q
+      go : (t : List _) → Told.told (filled (sets room start (fieldsOf Segment s stop)) (start + length (fieldsOf Segment s stop))) ≡ pass packet writing end p t
+          → p .bytes ≡ sets room start (fieldsOf Segment s stop)
+      go [] e = let q : p ≡ filled (sets room start (fieldsOf Segment s stop)) (start + length (fieldsOf Segment s stop)) = cc in ap (λ (x : Put). x .bytes) q
       go (b ∷ t) e = absurd (let z : _≡_ {A = ℕ} 0 1 = cc in omega arith)
 
 -- ---- part after part

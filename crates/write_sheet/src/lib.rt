@@ -5,6 +5,7 @@ ghost use lib.ListN.{length};
 ghost use lib.Seq.{sets};
 ghost use Rattle.segment.specs.Segment as segment;
 ghost use Rattle.segment.specs.Parts.{startOf, threeLists};
+ghost use Rattle.link.specs.declared.Tree.the-variants.{Segment};
 ghost use Rattle.convert.specs.Writers.{fieldsOf, FieldsWritable};
 ghost use Rattle.write_element.specs.Writing.{filled, PartWritable, Wrote};
 
@@ -105,8 +106,8 @@ fn lists(packet: &[u8], stop: usize, at: usize, lsp: u32, room: &mut [u8], n: us
 
 // Writes the numbers of a packet's fields, which end at the bit stop, from the byte start of the room on.
 pub fn write_fields(packet: &[u8], stop: usize, room: &mut [u8], start: usize)
-    requires { ⌜ FieldsWritable (now packet) stop (now room) start × (8 ≤ length (now packet)) ⌝ }
-    ensures { λ _. ⌜ now (room .exit) ≡ sets (now (room .entry)) start (fieldsOf (now (packet .entry)) stop) ⌝ }
+    requires { ⌜ FieldsWritable Segment (now packet) stop (now room) start × (8 ≤ length (now packet)) ⌝ }
+    ensures { λ _. ⌜ now (room .exit) ≡ sets (now (room .entry)) start (fieldsOf Segment (now (packet .entry)) stop) ⌝ }
 {
     let n = head::header(packet, stop, room, start);
     let m = head::identity(packet, stop, room, n);

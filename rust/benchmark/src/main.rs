@@ -1,4 +1,5 @@
-//! The archive's times beside the second program's and asn1c's: conversions and speeds, on small, middle and the largest segments.
+//! The archive's times beside the second program's and asn1c's: conversions and speeds, on small, middle and the largest segments; and
+//! beside the second program's, conversions of small and the largest journeys.
 
 mod asn1c;
 mod machine;
@@ -6,6 +7,7 @@ mod measure;
 
 use compare::archive::Archive;
 use compare::draft::{Draft, Kind};
+use compare::journeys::{journey, spread, LONGEST};
 use compare::program::{Operation, Program, Question, Train};
 use compare::random::Random;
 use compare::second_program::Second;
@@ -16,22 +18,26 @@ use std::time::Instant;
 const MIDDLE: Sizes = Sizes { changes: 10, entries: (0, 6), voltages: 3, currents: 3 };
 /// How many segments of each size: so many fields that a processor cannot learn them.
 const SIZES: [(&str, usize, Sizes); 3] = [("small", 4_000, SMALLEST), ("middle", 600, MIDDLE), ("largest", 30, LARGEST)];
-const LARGEST_RESULT: usize = 5_608;
+/// The same of journeys: a size is the segments and the timing points on them.
+const JOURNEYS: [(&str, usize, (u32, u32)); 2] = [("small", 1_500, (2, 3)), ("largest", 12, LONGEST)];
+const LARGEST_RESULT: usize = 15_226;
 const TRAIN: Train = Train { length: 20_000, cant: 150, freight_p: false, freight_g: true, passenger: false };
 
+/// The conversions first, which journeys have too.
 const OPERATIONS: [(Operation, &str); 4] = [
     (Operation::PacketToSheet, "packet to sheet"),
     (Operation::SheetToPacket, "sheet to packet"),
     (Operation::SpeedFromPacket, "speed from packet"),
     (Operation::SpeedFromSheet, "speed from sheet"),
 ];
+const CONVERSIONS: usize = 2;
 
 const HOW_TO_READ: &str = "\
 Medians of rounds taken in turn; one room for all calls, not cleared between them; speeds at the segment's last location.
 Ratio: a program's time by the archive's in the same round.
 asn1c: the codec that Debian's asn1c makes of an ASN.1 module of the packet. It reads a packet into a structure of its own, where
 the others write a sheet, and writes a packet from that structure. Reading, it refuses only a packet that ends too soon; writing, a
-value outside its range; it answers no speeds. Freeing the structures is not counted. The run stops where a packet
+value outside its range; it answers no speeds and has no journeys. Freeing the structures is not counted. The run stops where a packet
 does not come back from it unchanged.";
 
 fn main() {
@@ -43,22 +49,32 @@ fn main() {
     let mut random = Random::new(1);
     for (name, count, sizes) in SIZES {
         let drafts: Vec<Draft> = (0..count).map(|_| segment(&mut random, sizes)).collect();
-        rows(name, &drafts);
+        rows(name, &drafts, true);
+    }
+    for (name, count, size) in JOURNEYS {
+        let drafts: Vec<Draft> = (0..count).map(|_| any_journey(&mut random, size)).collect();
+        rows(name, &drafts, false);
     }
 }
 
-/// A size's four rows.
-fn rows(name: &str, drafts: &[Draft]) {
+fn any_journey(random: &mut Random, size: (u32, u32)) -> Draft {
+    let points = spread(random, size);
+    journey(random, &points)
+}
+
+/// A size's four rows; a journey's are two, without asn1c.
+fn rows(name: &str, drafts: &[Draft], segments: bool) {
     let (packets, sheets): (Vec<_>, Vec<_>) = drafts.iter().map(|draft| (draft.packet(), draft.sheet())).unzip();
     // kept, so that they fill the holes in the heap: asn1c is faster where it allocates beyond them
-    let _kept = packets.iter().map(|packet| asn1c::checked(packet)).collect::<Vec<_>>();
+    let _kept = packets.iter().filter(|_| segments).map(|packet| asn1c::checked(packet)).collect::<Vec<_>>();
     let fields = drafts.iter().map(|draft| draft.fields.len()).sum::<usize>();
     let bytes = |of: &[Vec<u8>]| of.concat().len() / of.len();
-    print!("\n{name}: {} segments, on average {} bytes of packet, ", drafts.len(), bytes(&packets));
+    print!("\n{name}: {} {}, on average ", drafts.len(), if segments { "segments" } else { "journeys" });
+    print!("{} bytes of packet, ", bytes(&packets));
     println!("{} of sheet, {} fields", bytes(&sheets), fields / drafts.len());
     print!("{:18}{:>14}{:>12}", "", "archive ns", "ns a field");
     println!("{:>14}{:>12}{:>8}{:>14}{:>12}{:>8}", "second ns", "ns a field", "ratio", "asn1c ns", "ns a field", "ratio");
-    for (operation, title) in OPERATIONS {
+    for (operation, title) in OPERATIONS.into_iter().take(if segments { OPERATIONS.len() } else { CONVERSIONS }) {
         let inputs = match operation {
             Operation::PacketToSheet | Operation::SpeedFromPacket => &packets,
             _ => &sheets,
@@ -66,8 +82,8 @@ fn rows(name: &str, drafts: &[Draft]) {
         let questions = drafts.iter().zip(inputs).map(|(draft, input)| question(operation, draft, input)).collect::<Vec<_>>();
         let mut programs = vec![round::<Archive>(&questions), round::<Second>(&questions)];
         match operation {
-            Operation::PacketToSheet => programs.push(Box::new(|| asn1c::round(&packets).0)),
-            Operation::SheetToPacket => programs.push(Box::new(|| asn1c::round(&packets).1)),
+            Operation::PacketToSheet if segments => programs.push(Box::new(|| asn1c::round(&packets).0)),
+            Operation::SheetToPacket if segments => programs.push(Box::new(|| asn1c::round(&packets).1)),
             _ => {}
         }
         row(title, &measure::medians(&mut programs), drafts.len(), fields);
@@ -75,7 +91,7 @@ fn rows(name: &str, drafts: &[Draft]) {
 }
 
 fn question<'a>(operation: Operation, draft: &Draft, input: &'a [u8]) -> Question<'a> {
-    let last = draft.fields[draft.places(Kind::Length)[0]].value - 1;
+    let last = draft.places(Kind::Length).first().map_or(0, |place| draft.fields[*place].value - 1);
     Question { operation, input, train: TRAIN, x: last }
 }
 
@@ -86,7 +102,7 @@ fn round<'a, P: Program>(questions: &'a [Question<'a>]) -> Round<'a> {
         let began = Instant::now();
         for question in questions {
             let answer = measure::unknown(P::answer(measure::unknown(question), &mut room));
-            assert!(answer.refusal == 0, "the segment is accepted");
+            assert!(answer.refusal == 0, "the question is answered");
         }
         began.elapsed()
     })

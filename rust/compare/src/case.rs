@@ -2,6 +2,7 @@
 
 use crate::damage::{spoil_fields, spoil_form, spoil_packet, spoil_sheet};
 use crate::draft::{Draft, Kind, CANTS};
+use crate::journeys::{about_the_longest, any_points, journey};
 use crate::program::Train;
 use crate::random::Random;
 use crate::segments::{any_sizes, segment, Sizes};
@@ -12,18 +13,19 @@ pub struct Case {
     pub sheet: Vec<u8>,
     /// Whether both are accepted, and the packet is the sheet's.
     pub whole: bool,
-    /// L_SP first, then the locations of changes and 0: speed questions are asked about them.
+    /// L_SP first, then the locations of changes and 0: speed questions are asked about them. A journey has 0 alone.
     pub marks: Vec<u32>,
 }
 
 impl Case {
     /// The case of a seed's generator.
     pub fn random(random: &mut Random) -> Case {
-        match random.between(0, 15) {
-            0..=5 => whole(random),
-            6..=10 => with_spoilt_fields(random),
-            11..=13 => with_spoilt_bytes(random),
-            14 => with_a_count_past_its_limit(random),
+        match random.between(0, 63) {
+            0..=23 => whole(random),
+            24..=43 => with_spoilt_fields(random),
+            44..=55 => with_spoilt_bytes(random),
+            56..=59 => with_a_count_past_its_limit(random),
+            60 => with_a_body_too_long(random),
             _ => noise(random),
         }
     }
@@ -35,23 +37,29 @@ impl Case {
     }
 }
 
-fn any_segment(random: &mut Random) -> Draft {
-    let sizes = any_sizes(random);
-    segment(random, sizes)
+/// A segment, or one time in three a journey.
+fn any_draft(random: &mut Random) -> Draft {
+    if random.one_in(3) {
+        let points = any_points(random);
+        journey(random, &points)
+    } else {
+        let sizes = any_sizes(random);
+        segment(random, sizes)
+    }
 }
 
 fn whole(random: &mut Random) -> Case {
-    Case::of("whole", &any_segment(random), true)
+    Case::of("whole", &any_draft(random), true)
 }
 
 fn with_spoilt_fields(random: &mut Random) -> Case {
-    let mut draft = any_segment(random);
+    let mut draft = any_draft(random);
     spoil_fields(random, &mut draft);
     Case::of("with spoilt fields", &draft, false)
 }
 
 fn with_spoilt_bytes(random: &mut Random) -> Case {
-    let mut draft = any_segment(random);
+    let mut draft = any_draft(random);
     let form = random.one_in(2);
     if form {
         spoil_form(random, &mut draft);
@@ -64,16 +72,38 @@ fn with_spoilt_bytes(random: &mut Random) -> Case {
     case
 }
 
-/// More changes or entries than allowed, all of them there.
+/// More changes, entries, segments or timing points than allowed, all of them there.
 fn with_a_count_past_its_limit(random: &mut Random) -> Case {
     let mut sizes = Sizes { entries: (0, 1), ..any_sizes(random) };
-    match random.between(0, 3) {
+    let mut points = None;
+    match random.between(0, 5) {
         0 => sizes.voltages = random.with_ends(24, 31),
         1 => sizes.currents = random.with_ends(24, 31),
         2 => sizes.changes = random.with_ends(32, 40),
-        _ => sizes.entries = (32, 40),
+        3 => sizes.entries = (32, 40),
+        4 => points = Some(vec![random.with_ends(32, 40)]),
+        _ => points = Some(vec![0; random.with_ends(256, 300) as usize]),
     }
-    Case::of("with a count past its limit", &segment(random, sizes), false)
+    let draft = match points {
+        Some(points) => journey(random, &points),
+        None => segment(random, sizes),
+    };
+    Case::of("with a count past its limit", &draft, false)
+}
+
+/// A journey of one timing point more than a packet holds, or some more; its sheet whole, or one time in three spoilt.
+fn with_a_body_too_long(random: &mut Random) -> Case {
+    let more = random.pick(&[1, 1, 2, 31, 400]);
+    let points = about_the_longest(random, more);
+    let mut draft = journey(random, &points);
+    if random.one_in(3) {
+        spoil_fields(random, &mut draft);
+    }
+    let mut case = Case::of("with a body too long", &draft, false);
+    if random.one_in(3) {
+        spoil_sheet(random, &mut case.sheet);
+    }
+    case
 }
 
 /// Random bytes, half of them behind a right start.
@@ -83,12 +113,12 @@ fn noise(random: &mut Random) -> Case {
     let mut packet = random.bytes(packet_size);
     let mut sheet = random.bytes(sheet_size);
     if random.one_in(2) {
-        let start = any_segment(random);
-        overwrite(&mut packet, &start.packet()[..15]);
+        let start = any_draft(random).packet();
+        overwrite(&mut packet, &start[..15]);
         let bits = packet.len().saturating_sub(15) * 8;
-        overwrite(&mut packet, &[6, (bits >> 8) as u8, bits as u8]);
+        overwrite(&mut packet, &[start[0], (bits >> 8) as u8, bits as u8]);
         sheet.iter_mut().for_each(|byte| *byte &= 0x7F);
-        overwrite(&mut sheet, &[6, 0, 0, 0, 0, 0]);
+        overwrite(&mut sheet, &[start[0], 0, 0, 0, 0, 0]);
     }
     Case { name: "noise", packet, sheet, whole: false, marks: vec![0] }
 }

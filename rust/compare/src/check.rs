@@ -2,7 +2,7 @@
 
 use crate::archive::Archive;
 use crate::case::{any_location, any_train, Case};
-use crate::program::{Answer, Operation, Program, Question, Train};
+use crate::program::{Answer, Operation, Program, Question, Train, JOURNEY};
 use crate::random::Random;
 use crate::second_program::Second;
 use crate::tally::Tally;
@@ -11,8 +11,9 @@ use crate::tally::Tally;
 const SPEEDS: usize = 3;
 /// Bytes before and after a room, which no program may touch.
 const GUARD: usize = 16;
-const LARGEST_SHEET: usize = 5_608;
-const LARGEST_PACKET: usize = 2_001;
+/// A journey's, which hold a segment's too.
+const LARGEST_SHEET: usize = 15_226;
+const LARGEST_PACKET: usize = 8_207;
 
 /// Compares the five operations on a case, every answer and every byte of the rooms; then the demands.
 pub fn check(random: &mut Random, case: &Case, tally: &mut Tally) -> Result<(), String> {
@@ -39,7 +40,7 @@ pub fn compare(random: &mut Random, question: &Question, room: usize, tally: &mu
     let mut other = lent.clone();
     let answer = Archive::answer(question, &mut lent[GUARD..GUARD + room]);
     let expected = Second::answer(question, &mut other[GUARD..GUARD + room]);
-    tally.count(question.operation, answer.refusal);
+    tally.count(question, answer.refusal);
     let asked = || format!("{:?}, {:?} at {}, room {room}", question.operation, question.train, question.x);
     if answer != expected {
         return Err(format!("{}: the archive gave {answer:?}, the second program {expected:?}", asked()));
@@ -72,6 +73,8 @@ fn round_trips(case: &Case) -> Result<Option<Vec<u8>>, String> {
     let packet = converted(Archive::sheet_to_packet, &case.sheet, LARGEST_PACKET);
     if let Some(packet) = &packet {
         let lowered = converted(Archive::packet_to_sheet, packet, LARGEST_SHEET);
+        let unchanged = lowered.as_ref() == Some(&case.sheet);
+        require(unchanged || packet[0] != JOURNEY, "a journey's sheet does not come back")?;
         let again = lowered.and_then(|sheet| converted(Archive::sheet_to_packet, &sheet, LARGEST_PACKET));
         require(again.as_ref() == Some(packet), "the lowered sheet does not make the sheet's packet")?;
     }

@@ -6,14 +6,14 @@ use crate::random::Random;
 /// The values and the numbers at which a kind's range or set ends, from both sides.
 fn edges(kind: Kind) -> (&'static [u32], &'static [u32]) {
     match kind {
-        Kind::PacketNumber => (&[0, 4, 5, 7, 255], &[0, 4, 5, 7, 256, 262]),
+        Kind::PacketNumber => (&[0, 4, 5, 6, 7, 255], &[0, 4, 5, 6, 7, 256, 260, 262]),
         Kind::Operational => (&[0x9999_9999, 0xFFFF_FFFF, 0xA, 0xE000_0000], &[0x9999_9999, 0xFFFF_FFFF, 0xA, 0xE000_0000]),
         Kind::Seconds => (&[86_399, 86_400, 131_071], &[86_399, 86_400, 131_072]),
         Kind::Length => (&[0, 1, 2, 16_777_215], &[0, 1, 2, 16_777_215, 16_777_216]),
         Kind::UtcOffset => (&[112, 113, 127], &[112, 113, 128]),
         Kind::Speed => (&[120, 121, 127], &[604, 605, 635, 640]),
         Kind::Front => (&[0, 1], &[1, 2, 3]),
-        Kind::SpeedCount => (&[0, 1, 30, 31], &[0, 1, 31, 32]),
+        Kind::Count => (&[0, 1, 30, 31], &[0, 1, 31, 32]),
         Kind::QDiff => (&[0, 1, 2, 3], &[0, 1, 2, 3, 4]),
         Kind::Cant => (&[0, 10, 11, 15], &[0, 1, 2, 10, 79, 80, 81, 300, 301]),
         Kind::Category => (&[2, 3, 10, 15], &[2, 3, 16, 80, 100, 130]),
@@ -21,6 +21,13 @@ fn edges(kind: Kind) -> (&'static [u32], &'static [u32]) {
         Kind::Traction => (&[0, 1, 512, 1_023], &[0, 1, 1_023, 1_024]),
         Kind::WireCount => (&[0, 1, 22, 23, 24, 31], &[0, 1, 22, 23, 24, 31, 32]),
         Kind::Current => (&[0, 1_000, 1_001, 1_022, 1_023], &[0, 1, 10_010, 10_011, 10_221]),
+        Kind::Status => (&[0, 4, 5, 7], &[0, 4, 5, 8]),
+        Kind::SegmentCount => (&[0, 1, 2, 255], &[0, 1, 2, 255, 256]),
+        Kind::ArrivalSeconds => (&[86_399, 86_400, 86_401, 131_071], &[86_399, 86_400, 86_401, 131_072]),
+        Kind::Alignment | Kind::StopKind => (&[0, 1, 2, 3], &[0, 1, 2, 3, 4]),
+        Kind::Information => (&[0, 1, 2, 3], &[0, 1, 2, 4]),
+        Kind::PassedBy => (&[1, u32::MAX], &[1, 2, 86_399]),
+        Kind::Constraints => (&[1, 2, 31], &[1, 31, 32]),
         // by the field's width, and by the locations about it
         Kind::Plain | Kind::Location => (&[], &[]),
     }

@@ -1,5 +1,6 @@
 //! The document's desk cases, each with the answer that the document gives.
 
+use crate::desk_journeys;
 use crate::draft::{Draft, Kind};
 use crate::program::{Answer, Operation, Question, Train};
 
@@ -42,13 +43,13 @@ fn draft(plan: Plan) -> Draft {
     start(&mut draft, plan);
     draft.speed(plan.speed);
     draft.same(Kind::Front, 1, plan.front);
-    draft.same(Kind::SpeedCount, 5, 0);
-    draft.same(Kind::SpeedCount, 5, plan.change.map_or(0, |_| 1));
+    draft.same(Kind::Count, 5, 0);
+    draft.same(Kind::Count, 5, plan.change.map_or(0, |_| 1));
     if let Some(location) = plan.change {
         draft.same(Kind::Location, 24, location);
         draft.speed(140);
         draft.same(Kind::Front, 1, 0);
-        draft.same(Kind::SpeedCount, 5, 0);
+        draft.same(Kind::Count, 5, 0);
     }
     draft.voltage(0, 0);
     draft.same(Kind::WireCount, 5, plan.voltages);
@@ -99,7 +100,7 @@ fn largest() -> Draft {
     draft.same(Kind::Plain, 24, highest(24));
     draft.same(Kind::UtcOffset, 7, 112);
     draft.same(Kind::Plain, 20, highest(20));
-    full_list(&mut draft, Kind::SpeedCount, 31, full_element);
+    full_list(&mut draft, Kind::Count, 31, full_element);
     full_list(&mut draft, Kind::WireCount, 23, |draft| draft.voltage(1, 1_023));
     full_list(&mut draft, Kind::WireCount, 23, |draft| draft.current(10_010));
     draft
@@ -117,7 +118,7 @@ fn full_list(draft: &mut Draft, kind: Kind, count: u32, item: fn(&mut Draft)) {
 fn full_element(draft: &mut Draft) {
     draft.speed(600);
     draft.same(Kind::Front, 1, 0);
-    draft.same(Kind::SpeedCount, 5, 31);
+    draft.same(Kind::Count, 5, 31);
     for _ in 0..31 {
         draft.same(Kind::QDiff, 2, 0);
         draft.cant(10);
@@ -133,20 +134,21 @@ pub fn cases() -> Vec<Desk> {
     limits(&mut cases);
     rooms(&mut cases);
     speeds(&mut cases);
+    cases.extend(desk_journeys::cases());
     cases
 }
 
-const ROOM: usize = 6_000;
+const ROOM: usize = 16_000;
 
 fn converts(name: &'static str, operation: Operation, input: Vec<u8>, refusal: u32, length: i64) -> Desk {
     Desk { name, operation, input, room: ROOM, train: TRAIN, x: 0, answer: Answer { refusal, value: length } }
 }
 
-fn packet(name: &'static str, packet: Vec<u8>, refusal: u32, length: i64) -> Desk {
+pub fn packet(name: &'static str, packet: Vec<u8>, refusal: u32, length: i64) -> Desk {
     converts(name, Operation::PacketToSheet, packet, refusal, length)
 }
 
-fn sheet(name: &'static str, sheet: Vec<u8>, refusal: u32, length: i64) -> Desk {
+pub fn sheet(name: &'static str, sheet: Vec<u8>, refusal: u32, length: i64) -> Desk {
     converts(name, Operation::SheetToPacket, sheet, refusal, length)
 }
 
@@ -176,7 +178,8 @@ fn refusals(cases: &mut Vec<Desk>) {
         packet
     };
     cases.push(packet("a padding bit", with_byte(38, 1), 7, 0));
-    cases.push(packet("another packet number", with_byte(0, 4), 2, 0));
+    cases.push(packet("another packet number", with_byte(0, 5), 2, 0));
+    cases.push(packet("a segment that calls itself a journey", with_byte(0, 4), 6, 0));
     cases.push(packet("a bit left", with_byte(2, 0xBA), 6, 0));
     cases.push(packet("a length that asks for fewer bytes", with_byte(2, 0xB8), 3, 0));
     cases.push(sheet("an empty sheet", Vec::new(), 9, 0));

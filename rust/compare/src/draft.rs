@@ -1,4 +1,4 @@
-//! A segment as a list of fields, each with its value in the packet and its number in the sheet: right ones, or any others.
+//! A segment or a journey as a list of fields, each with its value in the packet and its number in the sheet: right ones, or any others.
 
 /// The kinds of fields, as far as their ranges and sets differ.
 #[derive(Clone, Copy, Debug, PartialEq, Eq)]
@@ -12,7 +12,8 @@ pub enum Kind {
     UtcOffset,
     Speed,
     Front,
-    SpeedCount,
+    /// Of changes of speed, of entries, of timing points: 0 to 31.
+    Count,
     QDiff,
     Cant,
     Category,
@@ -21,6 +22,16 @@ pub enum Kind {
     Traction,
     WireCount,
     Current,
+    Status,
+    SegmentCount,
+    ArrivalSeconds,
+    Alignment,
+    StopKind,
+    Information,
+    /// One of the last eight fields of a passing point: 0.
+    PassedBy,
+    /// Of temporary constraints: 0.
+    Constraints,
 }
 
 #[derive(Clone)]

@@ -1,11 +1,13 @@
-//! The archive and the second program under one interface, and the segments, whole and damaged, that both are asked about.
+//! The archive and the second program under one interface, and the segments and journeys, whole and damaged, that both are asked about.
 
 pub mod archive;
 pub mod case;
 pub mod check;
 pub mod damage;
 pub mod desk;
+pub mod desk_journeys;
 pub mod draft;
+pub mod journeys;
 pub mod program;
 pub mod random;
 pub mod second_program;

@@ -2,6 +2,9 @@
 
 pub use second::Train;
 
+/// The packet number of a journey.
+pub const JOURNEY: u8 = 4;
+
 /// A refusal, or 0 with a length, a speed or an altitude.
 #[derive(Clone, Copy, Debug, PartialEq, Eq)]
 pub struct Answer {
@@ -27,14 +30,18 @@ pub const OPERATIONS: [Operation; 5] = [
 ];
 
 impl Operation {
-    /// The refusals that the operation can give, and 0.
-    pub fn refusals(self) -> &'static [u32] {
-        match self {
-            Operation::PacketToSheet => &[0, 1, 2, 3, 4, 5, 6, 7, 8],
-            Operation::SheetToPacket => &[0, 2, 4, 5, 8, 9],
-            Operation::SpeedFromPacket => &[0, 1, 2, 3, 4, 5, 6, 7, 10, 11],
-            Operation::SpeedFromSheet => &[0, 2, 4, 5, 9, 10, 11],
-            Operation::AltitudeOfPacket => &[0, 1, 2, 3, 4, 5, 6, 7],
+    /// The refusals that the operation can give, and 0: of a journey's bytes, or of all others.
+    pub fn refusals(self, journey: bool) -> &'static [u32] {
+        match (self, journey) {
+            (Operation::PacketToSheet, false) => &[0, 1, 2, 3, 4, 5, 6, 7, 8],
+            (Operation::SheetToPacket, false) => &[0, 2, 4, 5, 8, 9],
+            (Operation::SpeedFromPacket, false) => &[0, 1, 2, 3, 4, 5, 6, 7, 10, 11],
+            (Operation::SpeedFromSheet, false) => &[0, 2, 4, 5, 9, 10, 11],
+            (Operation::AltitudeOfPacket, false) => &[0, 1, 2, 3, 4, 5, 6, 7],
+            (Operation::PacketToSheet, true) => &[0, 1, 3, 4, 6, 7, 8],
+            (Operation::SheetToPacket, true) => &[0, 4, 8, 9, 12],
+            (Operation::SpeedFromPacket | Operation::AltitudeOfPacket, true) => &[1, 2],
+            (Operation::SpeedFromSheet, true) => &[2],
         }
     }
 }
@@ -48,6 +55,11 @@ pub struct Question<'a> {
 }
 
 impl<'a> Question<'a> {
+    /// Whether the bytes begin with a journey's packet number.
+    pub fn is_journey(&self) -> bool {
+        self.input.first() == Some(&JOURNEY)
+    }
+
     /// A question to an operation that looks at no train.
     pub fn without_train(operation: Operation, input: &'a [u8]) -> Question<'a> {
         let train = Train { length: 0, cant: 0, freight_p: false, freight_g: false, passenger: false };

@@ -45,17 +45,18 @@ pub fn segment(random: &mut Random, sizes: Sizes) -> Draft {
         2 => random.with_ends(least, 400_000),
         _ => random.with_ends(least, LONGEST),
     };
-    header(random, &mut draft);
-    identity(random, &mut draft, length);
-    list(random, &mut draft, length, (Kind::SpeedCount, sizes.changes), |random, draft| element(random, draft, sizes.entries));
+    header(random, &mut draft, 6);
+    identity(random, &mut draft);
+    measures(random, &mut draft, length);
+    list(random, &mut draft, length, (Kind::Count, sizes.changes), |random, draft| element(random, draft, sizes.entries));
     list(random, &mut draft, length, (Kind::WireCount, sizes.voltages), voltage);
     list(random, &mut draft, length, (Kind::WireCount, sizes.currents), current);
     draft
 }
 
-fn header(random: &mut Random, draft: &mut Draft) {
+pub fn header(random: &mut Random, draft: &mut Draft, number: u32) {
     let digits = (0..8).fold(0, |number, _| number << 4 | random.pick(&[0, 1, 2, 3, 4, 5, 6, 7, 8, 9, 15]));
-    draft.same(Kind::PacketNumber, 8, 6);
+    draft.same(Kind::PacketNumber, 8, number);
     draft.same(Kind::Operational, 32, digits);
     plain(random, draft, 24);
     plain(random, draft, 15);
@@ -63,17 +64,20 @@ fn header(random: &mut Random, draft: &mut Draft) {
     plain(random, draft, 8);
 }
 
-fn identity(random: &mut Random, draft: &mut Draft, length: u32) {
+pub fn identity(random: &mut Random, draft: &mut Draft) {
     for width in [10, 32, 8, 8] {
         plain(random, draft, width);
     }
+}
+
+fn measures(random: &mut Random, draft: &mut Draft, length: u32) {
     draft.same(Kind::Length, 24, length);
     plain(random, draft, 24);
     draft.same(Kind::UtcOffset, 7, random.with_ends(0, 112));
     plain(random, draft, 20);
 }
 
-fn plain(random: &mut Random, draft: &mut Draft, width: u32) {
+pub fn plain(random: &mut Random, draft: &mut Draft, width: u32) {
     let largest = u32::MAX >> (32 - width);
     let value = if random.one_in(2) { random.with_ends(0, largest) } else { random.of_any_size() & largest };
     draft.same(Kind::Plain, width, value);
@@ -98,7 +102,7 @@ fn element(random: &mut Random, draft: &mut Draft, (least, most): (u32, u32)) {
     let entries = random.between(least, most);
     draft.speed(random.with_ends(0, 604));
     draft.same(Kind::Front, 1, random.between(0, 1));
-    draft.same(Kind::SpeedCount, 5, entries);
+    draft.same(Kind::Count, 5, entries);
     for _ in 0..entries {
         entry(random, draft);
     }

@@ -18,9 +18,9 @@ const CURRENT: usize = 21;
 const SECONDS_BITS: (usize, u32) = (95, 17);
 const VOLTAGE_COUNT_BITS: (usize, u32) = (120 + 165, 5);
 
-const TRAIN: Train = Train { length: 200, cant: 80, freight_p: false, freight_g: false, passenger: false };
+pub const TRAIN: Train = Train { length: 200, cant: 80, freight_p: false, freight_g: false, passenger: false };
 
-fn sheet(numbers: &[u32]) -> Vec<u8> {
+pub fn sheet(numbers: &[u32]) -> Vec<u8> {
     let mut sheet = Vec::new();
     numbers.iter().for_each(|number| numbers::push(&mut sheet, *number));
     sheet
@@ -46,7 +46,7 @@ fn sample() -> Vec<u8> {
 }
 
 /// A packet with one field replaced.
-fn packet_with(packet: &[u8], (place, width): (usize, u32), value: u32) -> Vec<u8> {
+pub fn packet_with(packet: &[u8], (place, width): (usize, u32), value: u32) -> Vec<u8> {
     let mut bits = bits_of(packet);
     let mut field = Vec::new();
     push(&mut field, width, value);
@@ -54,15 +54,15 @@ fn packet_with(packet: &[u8], (place, width): (usize, u32), value: u32) -> Vec<u
     bytes_of(&bits)
 }
 
-fn packet_of(sheet: &[u8]) -> Result<Vec<u8>, Refusal> {
-    let mut room = vec![0; 2_001];
+pub fn packet_of(sheet: &[u8]) -> Result<Vec<u8>, Refusal> {
+    let mut room = vec![0; 8_207];
     let length = sheet_to_packet(sheet, &mut room)?;
     room.truncate(length);
     Ok(room)
 }
 
-fn sheet_of(packet: &[u8]) -> Result<Vec<u8>, Refusal> {
-    let mut room = vec![0; 5_608];
+pub fn sheet_of(packet: &[u8]) -> Result<Vec<u8>, Refusal> {
+    let mut room = vec![0; 15_226];
     let length = packet_to_sheet(packet, &mut room)?;
     room.truncate(length);
     Ok(room)
@@ -95,7 +95,7 @@ fn packets_are_refused_in_the_document_s_order() {
     assert_eq!(sheet_of(&[]), Err(Refusal::Short));
     assert_eq!(sheet_of(&sample()[..38]), Err(Refusal::Size));
     assert_eq!(sheet_of(&packet_with(&sample(), (38 * 8, 8), 1)), Err(Refusal::Padding));
-    assert_eq!(sheet_of(&packet_with(&sample(), (0, 8), 4)), Err(Refusal::Number));
+    assert_eq!(sheet_of(&packet_with(&sample(), (0, 8), 5)), Err(Refusal::Number));
     assert_eq!(sheet_of(&packet_with(&sample(), (8, 16), 186)), Err(Refusal::Bits));
     assert_eq!(sheet_of(&packet_with(&sample(), (8, 16), 184)), Err(Refusal::Size));
 }
@@ -105,7 +105,7 @@ fn sheets_are_refused_for_their_form() {
     assert_eq!(packet_of(&[]), Err(Refusal::Sheet));
     assert_eq!(packet_of(&[0x80, 0x00]), Err(Refusal::Sheet));
     assert_eq!(packet_of(&[sheet(&SHEET), vec![0]].concat()), Err(Refusal::Sheet));
-    assert_eq!(packet_of(&sheet_with(0, 4)), Err(Refusal::Number));
+    assert_eq!(packet_of(&sheet_with(0, 5)), Err(Refusal::Number));
     assert_eq!(sheet(&[300, 127, 128]), [0xAC, 0x02, 0x7F, 0x80, 0x01]);
     let mut reader = numbers::Numbers::new(&[0xFF, 0xFF, 0xFF, 0xFF, 0x0F, 0x80, 0x80, 0x80, 0x80, 0x10]);
     assert_eq!(reader.take(), Ok(u32::MAX));

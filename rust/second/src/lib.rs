@@ -1,9 +1,13 @@
 //! The second program: the five operations of the build definition, written from the document alone, to be compared with the proved archive.
-//! It favours plainness over speed: bits are a list, and a segment is an owned structure that every operation builds whole.
+//! It favours plainness over speed: bits are a list, and a segment or a journey is an owned structure that every operation builds whole.
 
 mod bits;
+mod carried;
 #[cfg(test)]
 mod desk;
+#[cfg(test)]
+mod desk_journeys;
+mod journey;
 mod numbers;
 mod packet_reading;
 mod packet_writing;
@@ -18,14 +22,14 @@ pub use speed::Train;
 
 /// Packet to sheet: the sheet's length, with the sheet at the start of the room.
 pub fn packet_to_sheet(packet: &[u8], room: &mut [u8]) -> Result<usize, Refusal> {
-    let segment = packet_reading::segment_of(packet)?;
-    lay(&sheet_writing::sheet_of(&segment), room)
+    let carried = packet_reading::carried_in(packet)?;
+    lay(&sheet_writing::sheet_of(&carried), room)
 }
 
 /// Sheet to packet: the packet's length, with the packet at the start of the room.
 pub fn sheet_to_packet(sheet: &[u8], room: &mut [u8]) -> Result<usize, Refusal> {
-    let segment = sheet_reading::segment_of(sheet)?;
-    lay(&packet_writing::packet_of(&segment), room)
+    let carried = sheet_reading::carried_in(sheet)?;
+    lay(&packet_writing::packet_of(&carried)?, room)
 }
 
 /// The permitted speed in km/h at location `x`, by the packet's speeds times 5.

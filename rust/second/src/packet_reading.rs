@@ -1,21 +1,42 @@
-//! Reading a packet: the frame, then field by field down into a segment.
+//! Reading a packet: the frame, then field by field down into a segment or a journey.
 
 use crate::bits::{bits_of, Reader};
+use crate::carried::Carried;
+use crate::journey::*;
 use crate::refusal::Refusal;
 use crate::segment::*;
 
 const HEADER_BYTES: usize = 15;
 
-/// The segment of a packet, or the refusal that comes first in the document's order.
+/// What a packet carries, or the refusal that comes first in the document's order.
+pub fn carried_in(packet: &[u8]) -> Result<Carried, Refusal> {
+    match number_of(packet)? {
+        SEGMENT_NUMBER => Ok(Carried::Segment(read(packet, Fields::segment)?)),
+        JOURNEY_NUMBER => Ok(Carried::Journey(read(packet, Fields::journey)?)),
+        _ => Err(Refusal::Number),
+    }
+}
+
+/// The segment of a packet, where nothing else will do.
 pub fn segment_of(packet: &[u8]) -> Result<Segment, Refusal> {
+    match number_of(packet)? {
+        SEGMENT_NUMBER => read(packet, Fields::segment),
+        _ => Err(Refusal::Number),
+    }
+}
+
+/// The packet number, where there is a header.
+fn number_of(packet: &[u8]) -> Result<u32, Refusal> {
     if packet.len() < HEADER_BYTES {
         return Err(Refusal::Short);
     }
+    Ok(packet[0].into())
+}
+
+/// Reads the rest of the header, and the body by its own rules.
+fn read<T>(packet: &[u8], rules: fn(&mut Fields, Header) -> Result<T, Refusal>) -> Result<T, Refusal> {
     let (header, body) = packet.split_at(HEADER_BYTES);
-    let mut header = Fields(Reader::new(bits_of(header)));
-    if header.any(8)? != PACKET_NUMBER {
-        return Err(Refusal::Number);
-    }
+    let mut header = Fields(Reader::new(bits_of(&header[1..])));
     let length = header.any(16)? as usize;
     if body.len() != length / 8 + usize::from(length % 8 > 0) {
         return Err(Refusal::Size);
@@ -24,11 +45,11 @@ pub fn segment_of(packet: &[u8]) -> Result<Segment, Refusal> {
     let mut bits = bits_of(body);
     let padding = bits.split_off(length);
     let mut body = Fields(Reader::new(bits));
-    let segment = body.segment(header)?;
+    let content = rules(&mut body, header)?;
     match (body.0.is_empty(), padding.contains(&true)) {
         (false, _) => Err(Refusal::Bits),
         (true, true) => Err(Refusal::Padding),
-        (true, false) => Ok(segment),
+        (true, false) => Ok(content),
     }
 }
 
@@ -65,7 +86,7 @@ impl Fields {
 
     // A structure's fields are read in the order in which they are written here, which is the packet's.
     fn segment(&mut self, header: Header) -> Result<Segment, Refusal> {
-        let identity = Identity { country: self.any(10)?, number: self.any(32)?, version: [self.any(8)?, self.any(8)?] };
+        let identity = self.identity()?;
         let length = self.field(24, |length| length > 0)?;
         Ok(Segment {
             header,
@@ -78,6 +99,10 @@ impl Fields {
             voltages: self.voltages(length)?,
             currents: self.currents(length)?,
         })
+    }
+
+    fn identity(&mut self) -> Result<Identity, Refusal> {
+        Ok(Identity { country: self.any(10)?, number: self.any(32)?, version: [self.any(8)?, self.any(8)?] })
     }
 
     /// A change's location: past the one before it, and before the segment's end.
@@ -154,5 +179,71 @@ impl Fields {
             _ => return Err(Refusal::Field),
         };
         Ok(CurrentChange { location, amperes })
+    }
+}
+
+impl Fields {
+    fn journey(&mut self, header: Header) -> Result<Journey, Refusal> {
+        let status = self.up_to(3, 4)?;
+        let count = self.any(8)?;
+        let legs = (0..count).map(|_| self.leg()).collect::<Result<_, _>>()?;
+        Ok(Journey { header, status, legs })
+    }
+
+    fn leg(&mut self) -> Result<Leg, Refusal> {
+        let identity = self.identity()?;
+        let nominal = self.flag()?;
+        let count = self.any(5)?;
+        let points = (0..count).map(|_| self.timing_point()).collect::<Result<_, _>>()?;
+        self.zero(5)?;
+        Ok(Leg { identity, nominal, points })
+    }
+
+    fn timing_point(&mut self) -> Result<TimingPoint, Refusal> {
+        let number = self.any(32)?;
+        let latest_arrival = self.moment(86_400)?;
+        let window = self.any(10)?;
+        let alignment = self.up_to(2, 2)?;
+        let kind = self.up_to(2, 2)?;
+        let ends_journey = self.up_to(2, 1)? == 1;
+        let daylight_saving = self.flag()?;
+        let stop = match kind {
+            0 => Stop::Stopping(self.halt()?),
+            1 => Stop::Skipped(self.halt()?),
+            _ => self.passing()?,
+        };
+        Ok(TimingPoint { number, latest_arrival, window, alignment, stop, ends_journey, daylight_saving })
+    }
+
+    fn halt(&mut self) -> Result<Halt, Refusal> {
+        Ok(Halt {
+            door_side: self.any(2)?,
+            centralised_opening: self.flag()?,
+            relaxed_coupler: self.flag()?,
+            train_hold: self.flag()?,
+            departure: self.moment(86_399)?,
+            dwell: self.any(10)?,
+            automatic_closing: self.flag()?,
+        })
+    }
+
+    fn passing(&mut self) -> Result<Stop, Refusal> {
+        for width in HALT_WIDTHS {
+            self.zero(width as usize)?;
+        }
+        Ok(Stop::Passing)
+    }
+
+    fn moment(&mut self, last: u32) -> Result<Moment, Refusal> {
+        Ok(Moment { date: self.any(15)?, seconds: self.up_to(17, last)? })
+    }
+
+    fn flag(&mut self) -> Result<bool, Refusal> {
+        Ok(self.any(1)? == 1)
+    }
+
+    /// A field that says nothing.
+    fn zero(&mut self, width: usize) -> Result<(), Refusal> {
+        self.up_to(width, 0).map(|_| ())
     }
 }

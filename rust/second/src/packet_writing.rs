@@ -1,24 +1,51 @@
 //! Writing a packet: the body's bits first, as the header counts them.
 
 use crate::bits::{bytes_of, push};
+use crate::carried::Carried;
+use crate::journey::*;
+use crate::refusal::Refusal;
 use crate::segment::*;
 
-/// The packet of a segment.
-pub fn packet_of(segment: &Segment) -> Vec<u8> {
+/// The packet of what is carried; refused where the header cannot count the body's bits.
+pub fn packet_of(carried: &Carried) -> Result<Vec<u8>, Refusal> {
+    let (number, head, mut body) = match carried {
+        Carried::Segment(segment) => (SEGMENT_NUMBER, &segment.header, segment_body(segment)),
+        Carried::Journey(journey) => (JOURNEY_NUMBER, &journey.header, journey_body(journey)),
+    };
+    let length = u16::try_from(body.len()).map_err(|_| Refusal::Body)?;
+    let mut packet = header(number, length, head);
+    packet.append(&mut body);
+    Ok(bytes_of(&packet))
+}
+
+fn segment_body(segment: &Segment) -> Vec<bool> {
     let mut body = Vec::new();
-    identity(&mut body, segment);
+    identity(&mut body, &segment.identity);
+    measures(&mut body, segment);
     elements(&mut body, &segment.elements);
     voltages(&mut body, &segment.voltages);
     currents(&mut body, &segment.currents);
-    let mut packet = header(&segment.header, body.len() as u32);
-    packet.append(&mut body);
-    bytes_of(&packet)
+    body
 }
 
-fn header(header: &Header, length: u32) -> Vec<bool> {
+fn journey_body(journey: &Journey) -> Vec<bool> {
+    let mut body = Vec::new();
+    push(&mut body, 3, journey.status);
+    push(&mut body, 8, journey.legs.len() as u32);
+    for leg in &journey.legs {
+        identity(&mut body, &leg.identity);
+        push(&mut body, 1, u32::from(leg.nominal));
+        push(&mut body, 5, leg.points.len() as u32);
+        leg.points.iter().for_each(|point| timing_point(&mut body, point));
+        push(&mut body, 5, 0);
+    }
+    body
+}
+
+fn header(number: u32, length: u16, header: &Header) -> Vec<bool> {
     let mut bits = Vec::new();
-    push(&mut bits, 8, PACKET_NUMBER);
-    push(&mut bits, 16, length);
+    push(&mut bits, 8, number);
+    push(&mut bits, 16, length.into());
     push(&mut bits, 32, header.operational);
     push(&mut bits, 24, header.engine);
     push(&mut bits, 15, header.date);
@@ -27,11 +54,14 @@ fn header(header: &Header, length: u32) -> Vec<bool> {
     bits
 }
 
-fn identity(body: &mut Vec<bool>, segment: &Segment) {
-    push(body, 10, segment.identity.country);
-    push(body, 32, segment.identity.number);
-    push(body, 8, segment.identity.version[0]);
-    push(body, 8, segment.identity.version[1]);
+fn identity(body: &mut Vec<bool>, identity: &Identity) {
+    push(body, 10, identity.country);
+    push(body, 32, identity.number);
+    push(body, 8, identity.version[0]);
+    push(body, 8, identity.version[1]);
+}
+
+fn measures(body: &mut Vec<bool>, segment: &Segment) {
     push(body, 24, segment.length);
     push(body, 24, segment.eoa_offset);
     push(body, 7, segment.utc_offset);
@@ -89,6 +119,20 @@ fn currents(body: &mut Vec<bool>, currents: &[CurrentChange]) {
             push(body, 10, change.amperes.map_or(1_023, |amperes| amperes / 10));
         },
     );
+}
+
+fn timing_point(body: &mut Vec<bool>, point: &TimingPoint) {
+    push(body, 32, point.number);
+    push(body, 15, point.latest_arrival.date);
+    push(body, 17, point.latest_arrival.seconds);
+    push(body, 10, point.window);
+    push(body, 2, point.alignment);
+    push(body, 2, point.stop.kind());
+    push(body, 2, u32::from(point.ends_journey));
+    push(body, 1, u32::from(point.daylight_saving));
+    for (width, value) in HALT_WIDTHS.into_iter().zip(point.stop.halt()) {
+        push(body, width, value);
+    }
 }
 
 /// The place of a figure that is known to stand in the list.

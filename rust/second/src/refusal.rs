@@ -4,11 +4,11 @@
 pub enum Refusal {
     /// A packet has fewer than 15 bytes.
     Short = 1,
-    /// The packet number is not 6.
+    /// The packet number is neither 4 nor 6, or is 4 where a segment is needed.
     Number = 2,
     /// The bytes are not 15 + L_PACKET_ATO / 8, rounded up.
     Size = 3,
-    /// A field outside its range or set, or NID_CTRACTION not 0 at voltage 0.
+    /// A field outside its range or set, or not 0: NID_CTRACTION at voltage 0, the last eight fields at a passing point.
     Field = 4,
     /// A change's location that does not rise, is 0, or is at or past L_SP.
     Location = 5,
@@ -24,4 +24,6 @@ pub enum Refusal {
     Train = 10,
     /// x is at or past L_SP.
     Place = 11,
+    /// A sheet's body would exceed 65,535 bits.
+    Body = 12,
 }

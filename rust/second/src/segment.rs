@@ -1,7 +1,7 @@
 //! A segment as an owned structure, in the units of the railway: centimetres, km/h, millimetres, volts, amperes.
 
-/// The packet number on this link.
-pub const PACKET_NUMBER: u32 = 6;
+/// A segment's packet number on this link.
+pub const SEGMENT_NUMBER: u32 = 6;
 
 /// The cant deficiencies in millimetres; NC_CDDIFF is the place in this list.
 pub const CANTS: [u32; 11] = [80, 100, 130, 150, 165, 180, 210, 225, 245, 275, 300];

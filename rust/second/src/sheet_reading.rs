@@ -1,18 +1,33 @@
-//! Reading a sheet: number by number down into a segment.
+//! Reading a sheet: number by number down into a segment or a journey.
 
+use crate::carried::Carried;
+use crate::journey::*;
 use crate::numbers::Numbers;
 use crate::refusal::Refusal;
 use crate::segment::*;
 
-/// The segment of a sheet, or the refusal that comes first in the document's order.
+/// What a sheet carries, or the refusal that comes first in the document's order.
+pub fn carried_in(sheet: &[u8]) -> Result<Carried, Refusal> {
+    let mut numbers = Numbers::new(sheet);
+    match numbers.take()? {
+        SEGMENT_NUMBER => Ok(Carried::Segment(to_the_end(numbers, segment)?)),
+        JOURNEY_NUMBER => Ok(Carried::Journey(to_the_end(numbers, journey)?)),
+        _ => Err(Refusal::Number),
+    }
+}
+
+/// The segment of a sheet, where nothing else will do.
 pub fn segment_of(sheet: &[u8]) -> Result<Segment, Refusal> {
     let mut numbers = Numbers::new(sheet);
-    let segment = segment(&mut numbers)?;
-    if numbers.is_empty() {
-        Ok(segment)
-    } else {
-        Err(Refusal::Sheet)
-    }
+    require(numbers.take()? == SEGMENT_NUMBER, Refusal::Number)?;
+    to_the_end(numbers, segment)
+}
+
+/// Reads all numbers that are left.
+fn to_the_end<T>(mut numbers: Numbers, read: fn(&mut Numbers) -> Result<T, Refusal>) -> Result<T, Refusal> {
+    let content = read(&mut numbers)?;
+    require(numbers.is_empty(), Refusal::Sheet)?;
+    Ok(content)
 }
 
 /// The next number, from `smallest` to `largest`.
@@ -43,7 +58,6 @@ fn among(numbers: &mut Numbers, list: &[u32]) -> Result<u32, Refusal> {
 }
 
 fn segment(numbers: &mut Numbers) -> Result<Segment, Refusal> {
-    require(numbers.take()? == PACKET_NUMBER, Refusal::Number)?;
     let header = header(numbers)?;
     let identity = identity(numbers)?;
     let length = within(numbers, 1, 16_777_215)?;
@@ -91,7 +105,7 @@ fn list<T>(numbers: &mut Numbers, end: u32, most: u32, item: Item<T>) -> Result<
 
 fn element(numbers: &mut Numbers, start: u32) -> Result<Element, Refusal> {
     let speed = within(numbers, 0, 604)?;
-    let front = within(numbers, 0, 1)? == 1;
+    let front = flag(numbers)?;
     let mut entries = Vec::new();
     for _ in 0..within(numbers, 0, 31)? {
         entries.push(entry(numbers)?);
@@ -118,4 +132,67 @@ fn voltage(numbers: &mut Numbers, location: u32) -> Result<VoltageChange, Refusa
 fn current(numbers: &mut Numbers, location: u32) -> Result<CurrentChange, Refusal> {
     let number = within(numbers, 0, 10_010)?;
     Ok(CurrentChange { location, amperes: number.checked_sub(1) })
+}
+
+fn journey(numbers: &mut Numbers) -> Result<Journey, Refusal> {
+    let header = header(numbers)?;
+    let status = within(numbers, 0, 4)?;
+    let mut legs = Vec::new();
+    for _ in 0..fitting(numbers, 8)? {
+        legs.push(leg(numbers)?);
+    }
+    Ok(Journey { header, status, legs })
+}
+
+fn leg(numbers: &mut Numbers) -> Result<Leg, Refusal> {
+    let identity = identity(numbers)?;
+    let nominal = flag(numbers)?;
+    let mut points = Vec::new();
+    for _ in 0..fitting(numbers, 5)? {
+        points.push(timing_point(numbers)?);
+    }
+    within(numbers, 0, 0)?;
+    Ok(Leg { identity, nominal, points })
+}
+
+fn timing_point(numbers: &mut Numbers) -> Result<TimingPoint, Refusal> {
+    let number = numbers.take()?;
+    let latest_arrival = moment(numbers, 86_400)?;
+    let window = fitting(numbers, 10)?;
+    let alignment = within(numbers, 0, 2)?;
+    let kind = within(numbers, 0, 2)?;
+    let ends_journey = flag(numbers)?;
+    let daylight_saving = flag(numbers)?;
+    let stop = match kind {
+        0 => Stop::Stopping(halt(numbers)?),
+        1 => Stop::Skipped(halt(numbers)?),
+        _ => passing(numbers)?,
+    };
+    Ok(TimingPoint { number, latest_arrival, window, alignment, stop, ends_journey, daylight_saving })
+}
+
+fn halt(numbers: &mut Numbers) -> Result<Halt, Refusal> {
+    let door_side = fitting(numbers, 2)?;
+    let centralised_opening = flag(numbers)?;
+    let relaxed_coupler = flag(numbers)?;
+    let train_hold = flag(numbers)?;
+    let departure = moment(numbers, 86_399)?;
+    let dwell = fitting(numbers, 10)?;
+    let automatic_closing = flag(numbers)?;
+    Ok(Halt { door_side, centralised_opening, relaxed_coupler, train_hold, departure, dwell, automatic_closing })
+}
+
+fn passing(numbers: &mut Numbers) -> Result<Stop, Refusal> {
+    for _ in HALT_WIDTHS {
+        within(numbers, 0, 0)?;
+    }
+    Ok(Stop::Passing)
+}
+
+fn moment(numbers: &mut Numbers, last: u32) -> Result<Moment, Refusal> {
+    Ok(Moment { date: fitting(numbers, 15)?, seconds: within(numbers, 0, last)? })
+}
+
+fn flag(numbers: &mut Numbers) -> Result<bool, Refusal> {
+    Ok(within(numbers, 0, 1)? == 1)
 }

@@ -1,10 +1,41 @@
 //! Writing a sheet: the numbers in packet order, without L_PACKET_ATO and padding.
 
+use crate::carried::Carried;
+use crate::journey::*;
 use crate::numbers::push;
 use crate::segment::*;
 
-/// The sheet of a segment.
-pub fn sheet_of(segment: &Segment) -> Vec<u8> {
+/// The sheet of what is carried.
+pub fn sheet_of(carried: &Carried) -> Vec<u8> {
+    let numbers = match carried {
+        Carried::Segment(segment) => segment_numbers(segment),
+        Carried::Journey(journey) => journey_numbers(journey),
+    };
+    let mut sheet = Vec::new();
+    numbers.into_iter().for_each(|number| push(&mut sheet, number));
+    sheet
+}
+
+fn journey_numbers(journey: &Journey) -> Vec<u32> {
+    let mut numbers = header(JOURNEY_NUMBER, &journey.header).to_vec();
+    numbers.extend([journey.status, journey.legs.len() as u32]);
+    for leg in &journey.legs {
+        numbers.extend(identity(&leg.identity));
+        numbers.extend([u32::from(leg.nominal), leg.points.len() as u32]);
+        leg.points.iter().for_each(|point| timing_point(&mut numbers, point));
+        numbers.push(0);
+    }
+    numbers
+}
+
+fn timing_point(numbers: &mut Vec<u32>, point: &TimingPoint) {
+    let Moment { date, seconds } = point.latest_arrival;
+    numbers.extend([point.number, date, seconds, point.window, point.alignment, point.stop.kind()]);
+    numbers.extend([u32::from(point.ends_journey), u32::from(point.daylight_saving)]);
+    numbers.extend(point.stop.halt());
+}
+
+fn segment_numbers(segment: &Segment) -> Vec<u32> {
     let mut numbers = start(segment);
     for (place, element) in segment.elements.iter().enumerate() {
         place_of(&mut numbers, place, element.start);
@@ -22,29 +53,22 @@ pub fn sheet_of(segment: &Segment) -> Vec<u8> {
         numbers.push(change.amperes.map_or(0, |amperes| amperes + 1));
         count_after_first(&mut numbers, place, segment.currents.len());
     }
-    let mut sheet = Vec::new();
-    numbers.into_iter().for_each(|number| push(&mut sheet, number));
-    sheet
+    numbers
 }
 
 fn start(segment: &Segment) -> Vec<u32> {
-    let (header, identity) = (&segment.header, &segment.identity);
-    vec![
-        PACKET_NUMBER,
-        header.operational,
-        header.engine,
-        header.date,
-        header.seconds,
-        header.counter,
-        identity.country,
-        identity.number,
-        identity.version[0],
-        identity.version[1],
-        segment.length,
-        segment.eoa_offset,
-        segment.utc_offset,
-        (segment.altitude + ALTITUDE_ADDED) as u32,
-    ]
+    let mut numbers = header(SEGMENT_NUMBER, &segment.header).to_vec();
+    numbers.extend(identity(&segment.identity));
+    numbers.extend([segment.length, segment.eoa_offset, segment.utc_offset, (segment.altitude + ALTITUDE_ADDED) as u32]);
+    numbers
+}
+
+fn header(number: u32, header: &Header) -> [u32; 6] {
+    [number, header.operational, header.engine, header.date, header.seconds, header.counter]
+}
+
+fn identity(identity: &Identity) -> [u32; 4] {
+    [identity.country, identity.number, identity.version[0], identity.version[1]]
 }
 
 fn entry(entry: &Entry) -> [u32; 3] {

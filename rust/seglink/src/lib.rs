@@ -1,5 +1,7 @@
 //! The segment link in safe Rust: packets to sheets and back, permitted speeds and the altitude, by the proved static library.
 //!
+//! Packets and sheets are a segment's (packet number 6) or a journey's (4). The conversions take both, the questions a segment's alone.
+//!
 //! Any bytes may be handed over. An operation answers, or gives the one [`Refusal`] that the build definition names,
 //! and then a lent room keeps every byte it had.
 //!
@@ -27,12 +29,16 @@ mod train;
 pub use refusal::Refusal;
 pub use train::Train;
 
-/// The smallest packet's count of bytes.
+/// The count of bytes of a segment's smallest packet.
 pub const SMALLEST_PACKET: usize = 39;
-/// The largest packet's count of bytes: a room of this size holds any packet.
+/// The count of bytes of a segment's largest packet: a room of this size holds any segment's.
 pub const LARGEST_PACKET: usize = 2001;
-/// The largest sheet's count of bytes: a room of this size holds any sheet.
+/// The count of bytes of a segment's largest sheet: a room of this size holds any segment's.
 pub const LARGEST_SHEET: usize = 5608;
+/// The count of bytes of a journey's largest packet: a room of this size holds any packet.
+pub const LARGEST_JOURNEY_PACKET: usize = 8207;
+/// A count of bytes that no journey's sheet exceeds: a room of this size holds any sheet.
+pub const LARGEST_JOURNEY_SHEET: usize = 15226;
 
 /// Writes the sheet of a packet to the start of the room and answers its length; the room's bytes past it stay.
 pub fn packet_to_sheet(packet: &[u8], room: &mut [u8]) -> Result<usize, Refusal> {
@@ -48,7 +54,7 @@ pub fn sheet_to_packet(sheet: &[u8], room: &mut [u8]) -> Result<usize, Refusal> 
 
 /// The sheet of a packet, in a room of its own: never refused with [`Refusal::ShortRoom`].
 pub fn sheet_of(packet: &[u8]) -> Result<Vec<u8>, Refusal> {
-    let mut room = vec![0; LARGEST_SHEET];
+    let mut room = vec![0; LARGEST_JOURNEY_SHEET];
     let length = packet_to_sheet(packet, &mut room)?;
     room.truncate(length);
     Ok(room)
@@ -56,7 +62,7 @@ pub fn sheet_of(packet: &[u8]) -> Result<Vec<u8>, Refusal> {
 
 /// The packet of a sheet, in a room of its own: never refused with [`Refusal::ShortRoom`].
 pub fn packet_of(sheet: &[u8]) -> Result<Vec<u8>, Refusal> {
-    let mut room = vec![0; LARGEST_PACKET];
+    let mut room = vec![0; LARGEST_JOURNEY_PACKET];
     let length = sheet_to_packet(sheet, &mut room)?;
     room.truncate(length);
     Ok(room)

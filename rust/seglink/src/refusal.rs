@@ -8,11 +8,11 @@ use std::fmt;
 pub enum Refusal {
     /// 1: a packet has fewer than 15 bytes.
     ShortPacket = 1,
-    /// 2: the packet number is not 6.
+    /// 2: the packet number is neither 4 nor 6, or is 4 where a segment is needed.
     PacketNumber = 2,
     /// 3: the packet's bytes are not 15 + L_PACKET_ATO / 8, rounded up.
     PacketLength = 3,
-    /// 4: a field is outside its range or set, or NID_CTRACTION is not 0 at voltage 0.
+    /// 4: a field is outside its range or set, or not 0: NID_CTRACTION at voltage 0, the last eight fields at a passing point.
     FieldValue = 4,
     /// 5: a change's location does not rise, is 0, or is at or past L_SP.
     ChangeLocation = 5,
@@ -28,14 +28,19 @@ pub enum Refusal {
     TrainValue = 10,
     /// 11: x is at or past L_SP.
     PastEnd = 11,
+    /// 12: a sheet's body would exceed 65,535 bits.
+    LongBody = 12,
 }
 
 /// Each refusal with its ground, in the words of the C header.
-const GROUNDS: [(Refusal, &str); 11] = [
+const GROUNDS: [(Refusal, &str); 12] = [
     (Refusal::ShortPacket, "a packet has fewer than 15 bytes"),
-    (Refusal::PacketNumber, "the packet number is not 6"),
+    (Refusal::PacketNumber, "the packet number is neither 4 nor 6, or is 4 where a segment is needed"),
     (Refusal::PacketLength, "the packet's bytes are not 15 + L_PACKET_ATO / 8, rounded up"),
-    (Refusal::FieldValue, "a field is outside its range or set, or NID_CTRACTION is not 0 at voltage 0"),
+    (
+        Refusal::FieldValue,
+        "a field is outside its range or set, or not 0: NID_CTRACTION at voltage 0, the last eight fields at a passing point",
+    ),
     (Refusal::ChangeLocation, "a change's location does not rise, is 0, or is at or past L_SP"),
     (Refusal::BodyBits, "a field does not fit in the body's remaining bits, or bits remain after the last field"),
     (Refusal::PaddingBit, "a padding bit is 1"),
@@ -46,10 +51,11 @@ const GROUNDS: [(Refusal, &str); 11] = [
     ),
     (Refusal::TrainValue, "the train's length or cant deficiency is not allowed"),
     (Refusal::PastEnd, "x is at or past L_SP"),
+    (Refusal::LongBody, "a sheet's body would exceed 65,535 bits"),
 ];
 
 impl Refusal {
-    /// The build definition's number, 1 to 11.
+    /// The build definition's number, 1 to 12.
     pub fn number(self) -> u32 {
         self as u32
     }

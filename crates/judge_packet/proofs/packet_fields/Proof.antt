@@ -5,8 +5,8 @@ use borrow.Author.Needs.{needs}
 use Rattle.judge_packet.proofs.packet_fields.Statement.{statement}
 use Rattle.judge_packet.proofs.packet_fields.Tie as tie
 
-segment-requires : tie.Need-segment-requires
-segment-requires c κs = let a = c .before .args in first (now (a .s)) (a .stop) (c .before .pre .0) (c .before .pre .1)
+fields-requires : tie.Need-fields-requires
+fields-requires c κs = let a = c .before .args in first (now (a .s)) (a .stop) (c .before .pre .0) (c .before .pre .1)
 
 enum-known-r : tie.Need-enum-known-r
 enum-known-r c = search needs
@@ -17,18 +17,18 @@ enum-known-at c = search needs
 returns : tie.Need-returns
 returns c =
     let a = c .before .before .before .before .before .before .args in
-    accepted-whole (now (a .s)) (a .stop) (rw (c .before .before .at .given .1) at (c .before .before .before .before .segment .ensures)) (c .if1 .taken)
+    accepted-whole (a .tree) (now (a .s)) (a .stop) (rw (c .before .before .at .given .1) at (c .before .before .before .before .fields .ensures)) (c .if1 .taken)
 
 returns-2 : tie.Need-returns-2
 returns-2 c =
     let a = c .before .before .before .before .before .args in
-    refused-whole (now (a .s)) (a .stop) (rw (c .before .r .given .1) at (c .before .before .before .segment .ensures))
+    refused-whole (a .tree) (now (a .s)) (a .stop) (rw (c .before .r .given .1) at (c .before .before .before .fields .ensures))
 
 returns-3 : tie.Need-returns-3
 returns-3 c =
     let a = c .before .before .before .before .before .before .args in
-    left-whole (now (a .s)) (a .stop) (rw (c .before .before .at .given .1) at (c .before .before .before .before .segment .ensures)) (c .if1 .left)
+    left-whole (a .tree) (now (a .s)) (a .stop) (rw (c .before .before .at .given .1) at (c .before .before .before .before .fields .ensures)) (c .if1 .left)
 
 pub packet-fields-spec : {M : Type 1} → statement M
 packet-fields-spec =
-    tie.close (tie.spec segment-requires enum-known-r enum-known-at returns returns-2 returns-3)
+    tie.close (tie.spec fields-requires enum-known-r enum-known-at returns returns-2 returns-3)

@@ -7,8 +7,8 @@ use denote.Ref.{now}
 use Rattle.judge_sheet.proofs.judge_sheet.Statement.{statement}
 use Rattle.judge_sheet.proofs.judge_sheet.Tie as tie
 
-numbers-of-requires : tie.Need-numbers-of-requires
-numbers-of-requires c κs = record { bytes = bytes-of (now (c .before .args .s)) (λ i. c .shared-slice-known .given i .fits); inside = omega arith }
+tree-numbers-requires : tie.Need-tree-numbers-requires
+tree-numbers-requires c κs = record { bytes = bytes-of (now (c .before .args .s)) (λ i. c .shared-slice-known .given i .fits); inside = omega arith }
 
 enum-known-r : tie.Need-enum-known-r
 enum-known-r c = search needs
@@ -16,26 +16,26 @@ enum-known-r c = search needs
 enum-known-at : tie.Need-enum-known-at
 enum-known-at c = search needs
 
-cast-t9 : tie.Need-cast-t9
-cast-t9 c = omega arith
+cast-t10 : tie.Need-cast-t10
+cast-t10 c = omega arith
 
 returns : tie.Need-returns
 returns c =
     let a = c .before .before .before .before .before .before .args in
     let ok = bytes-of (now (a .s)) (λ i. c .before .before .before .before .before .shared-slice-known .given i .fits) in
-    accepted-whole (now (a .s)) ok (rw (c .before .before .at .given .1) at (c .before .before .before .before .numbers-of .ensures)) (c .if1 .taken)
+    accepted-whole (a .tree) (now (a .s)) ok (rw (c .before .before .at .given .1) at (c .before .before .before .before .tree-numbers .ensures)) (c .if1 .taken)
 
 returns-2 : tie.Need-returns-2
 returns-2 c =
     let a = c .before .before .before .before .before .args in
     let ok = bytes-of (now (a .s)) (λ i. c .before .before .before .before .shared-slice-known .given i .fits) in
-    refused-whole (now (a .s)) ok (rw (c .before .r .given .1) at (c .before .before .before .numbers-of .ensures))
+    refused-whole (a .tree) (now (a .s)) ok (rw (c .before .r .given .1) at (c .before .before .before .tree-numbers .ensures))
 
 returns-3 : tie.Need-returns-3
 returns-3 c =
     let a = c .before .before .before .before .before .before .args in
     let ok = bytes-of (now (a .s)) (λ i. c .before .before .before .before .before .shared-slice-known .given i .fits) in
-    left-whole (now (a .s)) ok (rw (c .before .before .at .given .1) at (c .before .before .before .before .numbers-of .ensures)) (c .if1 .left)
+    left-whole (a .tree) (now (a .s)) ok (rw (c .before .before .at .given .1) at (c .before .before .before .before .tree-numbers .ensures)) (c .if1 .left)
 
 pub judge-sheet-spec : {M : Type 1} → statement M
-judge-sheet-spec = tie.close (tie.spec numbers-of-requires enum-known-r enum-known-at cast-t9 returns returns-2 returns-3)
+judge-sheet-spec = tie.close (tie.spec tree-numbers-requires enum-known-r enum-known-at cast-t10 returns returns-2 returns-3)

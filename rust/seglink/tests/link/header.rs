@@ -1,5 +1,5 @@
 //! The C header and this crate name the same refusals, grounds and sizes.
-use seglink::{Refusal, LARGEST_PACKET, LARGEST_SHEET, SMALLEST_PACKET};
+use seglink::{Refusal, LARGEST_JOURNEY_PACKET, LARGEST_JOURNEY_SHEET, LARGEST_PACKET, LARGEST_SHEET, SMALLEST_PACKET};
 
 const HEADER: &str = include_str!("../../../../include/seglink.h");
 
@@ -23,7 +23,7 @@ fn in_rust(name: &str) -> String {
 #[test]
 fn every_refusal_has_its_name_number_and_ground_in_both() {
     let named: Vec<_> = constants().into_iter().filter(|(_, _, comment)| !comment.is_empty()).collect();
-    assert_eq!(named.iter().map(|&(_, number, _)| number).collect::<Vec<_>>(), (1..=11).collect::<Vec<_>>());
+    assert_eq!(named.iter().map(|&(_, number, _)| number).collect::<Vec<_>>(), (1..=12).collect::<Vec<_>>());
     for (name, number, ground) in named {
         let refusal = Refusal::from_number(number).unwrap();
         assert_eq!(refusal.number(), number);
@@ -34,7 +34,7 @@ fn every_refusal_has_its_name_number_and_ground_in_both() {
 
 #[test]
 fn no_other_number_is_a_refusal() {
-    for number in [0, 12, u32::MAX] {
+    for number in [0, 13, u32::MAX] {
         assert_eq!(Refusal::from_number(number), None);
     }
 }
@@ -45,4 +45,6 @@ fn the_sizes_are_the_same_in_both() {
     assert_eq!(size("SMALLEST_PACKET"), SMALLEST_PACKET);
     assert_eq!(size("LARGEST_PACKET"), LARGEST_PACKET);
     assert_eq!(size("LARGEST_SHEET"), LARGEST_SHEET);
+    assert_eq!(size("LARGEST_JOURNEY_PACKET"), LARGEST_JOURNEY_PACKET);
+    assert_eq!(size("LARGEST_JOURNEY_SHEET"), LARGEST_JOURNEY_SHEET);
 }

@@ -37,8 +37,10 @@ fn short_packet() {
 
 #[test]
 fn packet_number() {
-    refuses_packet(&desk_packet_with(0, 7), Refusal::PacketNumber);
-    refuses_sheet(&[7], Refusal::PacketNumber);
+    for number in [0, 5, 7] {
+        refuses_packet(&desk_packet_with(0, number), Refusal::PacketNumber);
+        refuses_sheet(&[number], Refusal::PacketNumber);
+    }
 }
 
 #[test]

@@ -21,7 +21,7 @@ const CANT: [u32; 11] = [80, 100, 130, 150, 165, 180, 210, 225, 245, 275, 300];
 /// The fields of the sheet that stand in the packet's header, beside L_PACKET_ATO.
 const HEADER_FIELDS: usize = 6;
 
-fn same(width: usize, value: u32) -> Field {
+pub fn same(width: usize, value: u32) -> Field {
     Field { width, value, number: value }
 }
 

@@ -1,0 +1,36 @@
+// A number of an accepted sheet, read group by group. Its form and its size are not judged again.
+ghost use mathlib.Core.Path.{_≡_};
+ghost use Rattle.accepted.specs.Accepted.{There, Reads};
+
+// A number, and the place after it.
+pub struct Taken {
+    pub value: u32,
+    pub next: usize,
+}
+
+fn wide(x: u8) -> u32
+    ensures { λ r. ⌜ r ≡ x ⌝ }
+{
+    x as u32
+}
+
+// The number at the byte from.
+pub fn number(s: &[u8], from: usize) -> Taken
+    requires { ⌜ There (now s) from ⌝ }
+    ensures { λ r. ⌜ Reads (now (s .entry)) from r ⌝ }
+{
+    let mut at = from;
+    let mut value: u32 = 0;
+    let mut scale: u32 = 1;
+    let mut b = wide(s[at]);
+    while 128 <= b {
+        value += (b - 128) * scale;
+        scale *= 128;
+        at += 1;
+        b = wide(s[at]);
+    }
+    Taken {
+        value: value + b * scale,
+        next: at + 1,
+    }
+}

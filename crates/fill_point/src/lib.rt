@@ -1,0 +1,81 @@
+// A timing point of an accepted journey sheet, put into its packet: its rows of fields in pieces of at most 32 bits.
+ghost use Rattle.rows.specs.Rows.{row};
+ghost use Rattle.journey.specs.Journey.{timingPoint};
+ghost use Rattle.journey.specs.Parts.{arrivalWidths, arrivalMost, stoppingWidths, stoppingMost};
+ghost use Rattle.fill_element.specs.Writing.{Ready, Wrote};
+use fill_element::Spot;
+use fill_row::number;
+use fill_row::piece;
+use journey_kinds::NidTp;
+use journey_kinds::QAutomaticClosing;
+use journey_kinds::QCentralisedOpening;
+use journey_kinds::QDayLightSaving;
+use journey_kinds::QOpeningDoorSide;
+use journey_kinds::QRelaxedCoupler;
+use journey_kinds::QStopSkipPasses;
+use journey_kinds::QTpAlignment;
+use journey_kinds::QTpInformation;
+use journey_kinds::QTrainHold;
+use journey_kinds::TArrivalWindow;
+use journey_kinds::TDepartureDate;
+use journey_kinds::TDepartureSeconds;
+use journey_kinds::TLatestArrivalDate;
+use journey_kinds::TLatestArrivalSeconds;
+use journey_kinds::TMinimumDwellTime;
+
+// The bits of the pieces in which the rows are put, where a piece has more than one field.
+const LATEST: u32 = TLatestArrivalDate::WIDTH + TLatestArrivalSeconds::WIDTH;
+
+const WINDOW: u32 = TArrivalWindow::WIDTH + QTpAlignment::WIDTH;
+
+const DOORS: u32 = QTpInformation::WIDTH
+    + QDayLightSaving::WIDTH
+    + QOpeningDoorSide::WIDTH
+    + QCentralisedOpening::WIDTH
+    + QRelaxedCoupler::WIDTH
+    + QTrainHold::WIDTH;
+
+const DEPARTURE: u32 = TDepartureDate::WIDTH + TDepartureSeconds::WIDTH;
+
+const DWELL: u32 = TMinimumDwellTime::WIDTH + QAutomaticClosing::WIDTH;
+
+// NID_TP to Q_TP_Alignment of a timing point.
+fn arrival(sheet: &[u8], room: &mut [u8], p: Spot) -> Spot
+    requires { ⌜ Ready (row arrivalWidths arrivalMost) (now sheet) (now room) p ⌝ }
+    ensures { λ r. ⌜ Wrote (row arrivalWidths arrivalMost) (now (sheet .entry)) (now (room .entry)) p (now (room .exit)) r ⌝ }
+{
+    let widths = journey::arrival_widths();
+    let most = journey::arrival_most();
+    let name = piece(sheet, room, p, &widths[0..1], &most[0..1], NidTp::WIDTH);
+    let latest = piece(sheet, room, name, &widths[1..3], &most[1..3], LATEST);
+    piece(sheet, room, latest, &widths[3..5], &most[3..5], WINDOW)
+}
+
+// Q_TP_Information to Q_Automatic_Closing, by the kind of the stop.
+fn stopping(sheet: &[u8], room: &mut [u8], p: Spot, stop: u32) -> Spot
+    requires { ⌜ Ready (row stoppingWidths (stoppingMost stop)) (now sheet) (now room) p ⌝ }
+    ensures { λ r. ⌜ Wrote (row stoppingWidths (stoppingMost stop)) (now (sheet .entry)) (now (room .entry)) p (now (room .exit)) r ⌝ }
+{
+    let widths = journey::stopping_widths();
+    let most = journey::stopping_most(stop);
+    let doors = piece(sheet, room, p, &widths[0..6], &most[0..6], DOORS);
+    let departure = piece(sheet, room, doors, &widths[6..8], &most[6..8], DEPARTURE);
+    piece(sheet, room, departure, &widths[8..10], &most[8..10], DWELL)
+}
+
+// A timing point.
+pub fn point(sheet: &[u8], room: &mut [u8], p: Spot) -> Spot
+    requires { ⌜ Ready timingPoint (now sheet) (now room) p ⌝ }
+    ensures { λ r. ⌜ Wrote timingPoint (now (sheet .entry)) (now (room .entry)) p (now (room .exit)) r ⌝ }
+{
+    let first = arrival(sheet, room, p);
+    let stop = number(
+        sheet,
+        room,
+        first,
+        QStopSkipPasses::WIDTH,
+        QStopSkipPasses::LARGEST,
+    );
+    let next = stop.next;
+    stopping(sheet, room, next, stop.value)
+}

@@ -1,0 +1,62 @@
+// Fields of an accepted sheet whose numbers are their values, put into a packet: one alone, and those of a row in one piece.
+ghost use mathlib.Core.Path.{_≡_};
+ghost use mathlib.Core.Bool.{true};
+ghost use Prim.Native.Nat.{_^_, _≤_, _<_};
+ghost use Rattle.kinds.specs.Kind.{upTo};
+ghost use Rattle.rows.specs.Rows.{row, fits};
+ghost use Rattle.fill_element.specs.Writing.{Ready, Wrote};
+ghost use Rattle.fill_row.specs.Alone.{Offers, Gives};
+ghost use Rattle.fill_row.specs.Pieces.{rowBits};
+use fill_element::Spot;
+
+// A field's value, and the place after it.
+pub struct Given {
+    pub value: u32,
+    pub next: Spot,
+}
+
+// One field, on whose value what follows may depend. Its largest value is for the contract alone.
+pub fn number(sheet: &[u8], room: &mut [u8], p: Spot, width: u32, most: u32) -> Given
+    requires { ⌜ Offers (upTo width most) (now sheet) (now room) p × (1 ≤ width) × (width ≤ 32) × (most < 2 ^ width) ⌝ }
+    ensures { λ r. ⌜ Gives (upTo width most) (now (sheet .entry)) (now (room .entry)) p (now (room .exit)) r ⌝ }
+{
+    let a = accepted::number(sheet, p.from);
+    let wait = filling::put(room, p.at, p.wait, width, a.value);
+    Given {
+        value: a.value,
+        next: Spot {
+            from: a.next,
+            at: p.at + width as usize,
+            wait,
+        },
+    }
+}
+
+// The fields of a row of at most 32 bits, put at once. Their largest values are for the contract alone.
+pub fn piece(
+    sheet: &[u8],
+    room: &mut [u8],
+    p: Spot,
+    widths: &[u32],
+    most: &[u32],
+    total: u32,
+) -> Spot
+    requires { ⌜ Ready (row (now widths) (now most)) (now sheet) (now room) p × (fits (now widths) (now most) ≡ true) × (rowBits (now widths) ≡ total) × (1 ≤ total) × (total ≤ 32) ⌝ }
+    ensures { λ r. ⌜ Wrote (row (now (widths .entry)) (now (most .entry))) (now (sheet .entry)) (now (room .entry)) p (now (room .exit)) r ⌝ }
+{
+    let mut from = p.from;
+    let mut bits: u64 = 0;
+    let mut i: usize = 0;
+    while i < widths.len() {
+        let a = accepted::number(sheet, from);
+        bits = (bits << widths[i]) + a.value as u64;
+        from = a.next;
+        i += 1;
+    }
+    let wait = filling::put(room, p.at, p.wait, total, bits as u32);
+    Spot {
+        from,
+        at: p.at + total as usize,
+        wait,
+    }
+}

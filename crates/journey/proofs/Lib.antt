@@ -1,0 +1,4 @@
+pub mod Parts
+pub mod Tree
+pub mod Weighed
+pub mod Ends

@@ -1,0 +1,52 @@
+-- The fields of a journey, in the order of document 02 and of 002's journey table, over the limit of temporary constraints.
+-- Assumes nothing.
+use Prim.Native.Nat.{ℕ, zero, suc}
+use Rattle.kinds.specs.Kinds.{nidC, nidSp, mSpVersion, nIter}
+use Rattle.format.specs.Format.{Format, end, field, then}
+use Rattle.segment.specs.Segment.{header}
+use Rattle.journey_kinds.specs.Kinds.{journeyNumber, qJpStatus, nIterSp, qSpDir, nidTp, tLatestArrivalDate, tLatestArrivalSeconds, tArrivalWindow, qTpAlignment, qStopSkipPasses, qTpInformation, qDayLightSaving, qOpeningDoorSide, qCentralisedOpening, qRelaxedCoupler, qTrainHold, tDepartureDate, tDepartureSeconds, tMinimumDwellTime, qAutomaticClosing}
+
+-- "the last eight fields (48 bits, from the door side on)", by the kind of the stop
+abbrev pub stoppingPoint : ℕ → Format → Format
+stoppingPoint stop f =
+    then (qOpeningDoorSide stop) (then (qCentralisedOpening stop) (then (qRelaxedCoupler stop) (then (qTrainHold stop)
+    (then (tDepartureDate stop) (then (tDepartureSeconds stop) (then (tMinimumDwellTime stop) (then (qAutomaticClosing stop) f)))))))
+
+-- "A timing point has 129 bits, .. from NID_TP to Q_Automatic_Closing, all always sent"
+abbrev pub timingPoint : Format → Format
+timingPoint f =
+    then nidTp (then tLatestArrivalDate (then tLatestArrivalSeconds (then tArrivalWindow (then qTpAlignment
+    (field qStopSkipPasses λ stop. then qTpInformation (then qDayLightSaving (stoppingPoint stop f)))))))
+
+-- n timing points
+unfoldable pub timingPoints : ℕ → Format → Format
+timingPoints zero f = f
+timingPoints (suc n) f = timingPoint (timingPoints n f)
+
+-- "NID_C 10, NID_SP 32, version 8 + 8, Q_SP_DIR 1, N_ITER 5 timing points, and a 5-bit count of temporary constraints"
+abbrev pub journeySegment : ℕ → Format → Format
+journeySegment limit f =
+    then nidC (then nidSp (then mSpVersion (then mSpVersion (then qSpDir (field (nIter 31) λ n. timingPoints n (then (nIter limit) f))))))
+
+-- n segments
+unfoldable pub journeySegments : ℕ → ℕ → Format → Format
+journeySegments limit zero f = f
+journeySegments limit (suc n) f = journeySegment limit (journeySegments limit n f)
+
+-- "Q_JP_Status 3 bits (0 to 4), N_ITER_SP 8, then per segment"
+unfoldable pub journeyBody : ℕ → Format
+journeyBody limit = then qJpStatus (field nIterSp λ n. journeySegments limit n end)
+
+-- the header after L_PACKET_ATO, and the body
+unfoldable pub journeyFields : ℕ → Format
+unfolding journeyBody
+journeyFields limit = header (journeyBody limit)
+
+-- "It has a sheet too, one number per field": the packet number, 4, comes first
+unfoldable pub journeySheet : ℕ → Format
+unfolding journeyFields
+journeySheet limit = then journeyNumber (journeyFields limit)
+
+-- "a 5-bit count of temporary constraints that must be 0 for now"
+abbrev pub constraints : ℕ
+constraints = 0

@@ -1,0 +1,2 @@
+pub mod Journey
+pub mod Parts

@@ -1,0 +1,44 @@
+-- The parts of a journey's tree, as its passes take them. What the code below a promise is held to; no promise names them.
+-- Assumes nothing.
+use mathlib.Core.List.{List, [], _∷_}
+use Prim.Native.Nat.{ℕ}
+use Rattle.format.specs.Format.{Format, field, then}
+use Rattle.segment.specs.Segment.{header}
+use Rattle.journey_kinds.specs.Kinds.{qJpStatus, nIterSp, mostAt}
+use Rattle.journey.specs.Journey.{journeySegments, constraints}
+
+-- NID_ENGINE to N_PACKET_COUNTER, after NID_OPERATIONAL
+abbrev pub headerWidths : List ℕ
+headerWidths = 24 ∷ 15 ∷ 17 ∷ 8 ∷ []
+
+abbrev pub headerMost : List ℕ
+headerMost = 16777215 ∷ 32767 ∷ 86399 ∷ 255 ∷ []
+
+-- NID_C to Q_SP_DIR of a segment
+abbrev pub segmentWidths : List ℕ
+segmentWidths = 10 ∷ 32 ∷ 8 ∷ 8 ∷ 1 ∷ []
+
+abbrev pub segmentMost : List ℕ
+segmentMost = 1023 ∷ 4294967295 ∷ 255 ∷ 255 ∷ 1 ∷ []
+
+-- NID_TP to Q_TP_Alignment of a timing point
+abbrev pub arrivalWidths : List ℕ
+arrivalWidths = 32 ∷ 15 ∷ 17 ∷ 10 ∷ 2 ∷ []
+
+abbrev pub arrivalMost : List ℕ
+arrivalMost = 4294967295 ∷ 32767 ∷ 86400 ∷ 1023 ∷ 2 ∷ []
+
+-- Q_TP_Information to Q_Automatic_Closing, by the kind of the stop
+abbrev pub stoppingWidths : List ℕ
+stoppingWidths = 2 ∷ 1 ∷ 2 ∷ 1 ∷ 1 ∷ 1 ∷ 15 ∷ 17 ∷ 10 ∷ 1 ∷ []
+
+abbrev pub stoppingMost : ℕ → List ℕ
+stoppingMost stop =
+    1 ∷ 1 ∷ mostAt stop 3 ∷ mostAt stop 1 ∷ mostAt stop 1 ∷ mostAt stop 1 ∷ mostAt stop 32767 ∷ mostAt stop 86399 ∷ mostAt stop 1023 ∷ mostAt stop 1 ∷ []
+
+-- the body's fields, and all fields after L_PACKET_ATO, with whatever follows
+abbrev pub journeyBodyPart : Format → Format
+journeyBodyPart f = then qJpStatus (field nIterSp λ n. journeySegments constraints n f)
+
+abbrev pub journeyPart : Format → Format
+journeyPart f = header (journeyBodyPart f)

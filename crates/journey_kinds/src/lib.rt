@@ -1,0 +1,294 @@
+// The field kinds of a journey, in the order of a packet's body: a type each, with its width and its largest value, and the rule that judges its values.
+ghost use mathlib.Core.Path.{_≡_};
+ghost use Rattle.kinds.specs.Kind.{upTo};
+ghost use Rattle.kinds.specs.Rules.{Keeps, meaning};
+ghost use Rattle.journey_kinds.specs.Kinds as kind;
+ghost use Rattle.journey_kinds.specs.Kinds.{mostAt};
+use kinds::Rule;
+use kinds::up_to;
+
+pub struct QJpStatus;
+
+impl QJpStatus {
+    pub const WIDTH: u32 = 3;
+
+    pub const LARGEST: u32 = 4;
+
+    pub fn rule() -> Rule
+        ensures { λ r. do ⌜ Keeps kind.qJpStatus (← ⟦QJpStatus::WIDTH⟧ .entry) (← ⟦QJpStatus::LARGEST⟧ .entry) r ⌝ }
+    {
+        up_to(Self::WIDTH, Self::LARGEST)
+    }
+}
+
+// How many segments follow.
+pub struct NIterSp;
+
+impl NIterSp {
+    pub const WIDTH: u32 = 8;
+
+    pub const LARGEST: u32 = 255;
+
+    pub fn rule() -> Rule
+        ensures { λ r. do ⌜ Keeps kind.nIterSp (← ⟦NIterSp::WIDTH⟧ .entry) (← ⟦NIterSp::LARGEST⟧ .entry) r ⌝ }
+    {
+        up_to(Self::WIDTH, Self::LARGEST)
+    }
+}
+
+pub struct QSpDir;
+
+impl QSpDir {
+    pub const WIDTH: u32 = 1;
+
+    pub const LARGEST: u32 = 1;
+
+    pub fn rule() -> Rule
+        ensures { λ r. do ⌜ Keeps kind.qSpDir (← ⟦QSpDir::WIDTH⟧ .entry) (← ⟦QSpDir::LARGEST⟧ .entry) r ⌝ }
+    {
+        up_to(Self::WIDTH, Self::LARGEST)
+    }
+}
+
+pub struct NidTp;
+
+impl NidTp {
+    pub const WIDTH: u32 = 32;
+
+    pub const LARGEST: u32 = 4294967295;
+
+    pub fn rule() -> Rule
+        ensures { λ r. do ⌜ Keeps kind.nidTp (← ⟦NidTp::WIDTH⟧ .entry) (← ⟦NidTp::LARGEST⟧ .entry) r ⌝ }
+    {
+        up_to(Self::WIDTH, Self::LARGEST)
+    }
+}
+
+pub struct TLatestArrivalDate;
+
+impl TLatestArrivalDate {
+    pub const WIDTH: u32 = 15;
+
+    pub const LARGEST: u32 = 32767;
+
+    pub fn rule() -> Rule
+        ensures { λ r. do ⌜ Keeps kind.tLatestArrivalDate (← ⟦TLatestArrivalDate::WIDTH⟧ .entry) (← ⟦TLatestArrivalDate::LARGEST⟧ .entry) r ⌝ }
+    {
+        up_to(Self::WIDTH, Self::LARGEST)
+    }
+}
+
+// 24:00:00 is among them.
+pub struct TLatestArrivalSeconds;
+
+impl TLatestArrivalSeconds {
+    pub const WIDTH: u32 = 17;
+
+    pub const LARGEST: u32 = 86400;
+
+    pub fn rule() -> Rule
+        ensures { λ r. do ⌜ Keeps kind.tLatestArrivalSeconds (← ⟦TLatestArrivalSeconds::WIDTH⟧ .entry) (← ⟦TLatestArrivalSeconds::LARGEST⟧ .entry) r ⌝ }
+    {
+        up_to(Self::WIDTH, Self::LARGEST)
+    }
+}
+
+pub struct TArrivalWindow;
+
+impl TArrivalWindow {
+    pub const WIDTH: u32 = 10;
+
+    pub const LARGEST: u32 = 1023;
+
+    pub fn rule() -> Rule
+        ensures { λ r. do ⌜ Keeps kind.tArrivalWindow (← ⟦TArrivalWindow::WIDTH⟧ .entry) (← ⟦TArrivalWindow::LARGEST⟧ .entry) r ⌝ }
+    {
+        up_to(Self::WIDTH, Self::LARGEST)
+    }
+}
+
+pub struct QTpAlignment;
+
+impl QTpAlignment {
+    pub const WIDTH: u32 = 2;
+
+    pub const LARGEST: u32 = 2;
+
+    pub fn rule() -> Rule
+        ensures { λ r. do ⌜ Keeps kind.qTpAlignment (← ⟦QTpAlignment::WIDTH⟧ .entry) (← ⟦QTpAlignment::LARGEST⟧ .entry) r ⌝ }
+    {
+        up_to(Self::WIDTH, Self::LARGEST)
+    }
+}
+
+pub struct QStopSkipPasses;
+
+impl QStopSkipPasses {
+    pub const WIDTH: u32 = 2;
+
+    pub const LARGEST: u32 = 2;
+
+    pub const PASSING: u32 = 2;
+
+    pub fn rule() -> Rule
+        ensures { λ r. do ⌜ Keeps kind.qStopSkipPasses (← ⟦QStopSkipPasses::WIDTH⟧ .entry) (← ⟦QStopSkipPasses::LARGEST⟧ .entry) r ⌝ }
+    {
+        up_to(Self::WIDTH, Self::LARGEST)
+    }
+}
+
+pub struct QTpInformation;
+
+impl QTpInformation {
+    pub const WIDTH: u32 = 2;
+
+    pub const LARGEST: u32 = 1;
+
+    pub fn rule() -> Rule
+        ensures { λ r. do ⌜ Keeps kind.qTpInformation (← ⟦QTpInformation::WIDTH⟧ .entry) (← ⟦QTpInformation::LARGEST⟧ .entry) r ⌝ }
+    {
+        up_to(Self::WIDTH, Self::LARGEST)
+    }
+}
+
+pub struct QDayLightSaving;
+
+impl QDayLightSaving {
+    pub const WIDTH: u32 = 1;
+
+    pub const LARGEST: u32 = 1;
+
+    pub fn rule() -> Rule
+        ensures { λ r. do ⌜ Keeps kind.qDayLightSaving (← ⟦QDayLightSaving::WIDTH⟧ .entry) (← ⟦QDayLightSaving::LARGEST⟧ .entry) r ⌝ }
+    {
+        up_to(Self::WIDTH, Self::LARGEST)
+    }
+}
+
+// The largest value of a field that is 0 at a passing point, by the kind of the stop.
+fn most_at(stop: u32, most: u32) -> u32
+    ensures { λ r. ⌜ r ≡ mostAt stop most ⌝ }
+{
+    if stop == QStopSkipPasses::PASSING {
+        return 0;
+    }
+    most
+}
+
+fn at_stop(stop: u32, width: u32, largest: u32) -> Rule
+    ensures { λ r. ⌜ meaning r ≡ upTo width (mostAt stop largest) ⌝ }
+{
+    up_to(width, most_at(stop, largest))
+}
+
+pub struct QOpeningDoorSide;
+
+impl QOpeningDoorSide {
+    pub const WIDTH: u32 = 2;
+
+    pub const LARGEST: u32 = 3;
+
+    pub fn rule(stop: u32) -> Rule
+        ensures { λ r. ⌜ meaning r ≡ kind.qOpeningDoorSide stop ⌝ }
+    {
+        at_stop(stop, Self::WIDTH, Self::LARGEST)
+    }
+}
+
+pub struct QCentralisedOpening;
+
+impl QCentralisedOpening {
+    pub const WIDTH: u32 = 1;
+
+    pub const LARGEST: u32 = 1;
+
+    pub fn rule(stop: u32) -> Rule
+        ensures { λ r. ⌜ meaning r ≡ kind.qCentralisedOpening stop ⌝ }
+    {
+        at_stop(stop, Self::WIDTH, Self::LARGEST)
+    }
+}
+
+pub struct QRelaxedCoupler;
+
+impl QRelaxedCoupler {
+    pub const WIDTH: u32 = 1;
+
+    pub const LARGEST: u32 = 1;
+
+    pub fn rule(stop: u32) -> Rule
+        ensures { λ r. ⌜ meaning r ≡ kind.qRelaxedCoupler stop ⌝ }
+    {
+        at_stop(stop, Self::WIDTH, Self::LARGEST)
+    }
+}
+
+pub struct QTrainHold;
+
+impl QTrainHold {
+    pub const WIDTH: u32 = 1;
+
+    pub const LARGEST: u32 = 1;
+
+    pub fn rule(stop: u32) -> Rule
+        ensures { λ r. ⌜ meaning r ≡ kind.qTrainHold stop ⌝ }
+    {
+        at_stop(stop, Self::WIDTH, Self::LARGEST)
+    }
+}
+
+pub struct TDepartureDate;
+
+impl TDepartureDate {
+    pub const WIDTH: u32 = 15;
+
+    pub const LARGEST: u32 = 32767;
+
+    pub fn rule(stop: u32) -> Rule
+        ensures { λ r. ⌜ meaning r ≡ kind.tDepartureDate stop ⌝ }
+    {
+        at_stop(stop, Self::WIDTH, Self::LARGEST)
+    }
+}
+
+pub struct TDepartureSeconds;
+
+impl TDepartureSeconds {
+    pub const WIDTH: u32 = 17;
+
+    pub const LARGEST: u32 = 86399;
+
+    pub fn rule(stop: u32) -> Rule
+        ensures { λ r. ⌜ meaning r ≡ kind.tDepartureSeconds stop ⌝ }
+    {
+        at_stop(stop, Self::WIDTH, Self::LARGEST)
+    }
+}
+
+pub struct TMinimumDwellTime;
+
+impl TMinimumDwellTime {
+    pub const WIDTH: u32 = 10;
+
+    pub const LARGEST: u32 = 1023;
+
+    pub fn rule(stop: u32) -> Rule
+        ensures { λ r. ⌜ meaning r ≡ kind.tMinimumDwellTime stop ⌝ }
+    {
+        at_stop(stop, Self::WIDTH, Self::LARGEST)
+    }
+}
+
+pub struct QAutomaticClosing;
+
+impl QAutomaticClosing {
+    pub const WIDTH: u32 = 1;
+
+    pub const LARGEST: u32 = 1;
+
+    pub fn rule(stop: u32) -> Rule
+        ensures { λ r. ⌜ meaning r ≡ kind.qAutomaticClosing stop ⌝ }
+    {
+        at_stop(stop, Self::WIDTH, Self::LARGEST)
+    }
+}

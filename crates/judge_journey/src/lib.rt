@@ -1,0 +1,121 @@
+// A journey's fields judged, with the bytes of their sheet counted. Nothing is written.
+ghost use Prim.Native.Nat.{_-_, _≤_};
+ghost use Rattle.journey.specs.Journey.{journeySegment, journeySegments, constraints};
+ghost use Rattle.journey.specs.Parts.{journeyBodyPart, journeyPart};
+ghost use Rattle.judge_field.specs.Judging.{Standing, Over, Gave};
+ghost use Rattle.judge_journey.specs.Head.{segmentHead};
+use journey_kinds::NIterSp;
+use journey_kinds::QJpStatus;
+use judge_field::Next;
+use judge_field::Step;
+use kinds::body;
+
+// NID_C to Q_SP_DIR field by field, and the count of the timing points.
+fn cut_head(s: &[u8], stop: usize, at: usize, n: usize) -> Next
+    requires { ⌜ Standing (now s) stop at n ⌝ }
+    ensures { λ r. ⌜ Gave segmentHead (now (s .entry)) stop at n r ⌝ }
+{
+    let widths = journey::segment_widths();
+    let most = journey::segment_most();
+    match judge_row::row(s, stop, at, n, &widths, &most) {
+        Step::Refused(r) => Next::Refused(r),
+        Step::On(at2, n2) => judge_field::count(s, stop, at2, n2, body::NIter::LARGEST),
+    }
+}
+
+// Where NID_SP and the two versions start in a segment, and the bits up to its timing points.
+const IDENTITY: usize = 10;
+
+const VERSIONS: usize = 42;
+
+const HEAD: usize = 64;
+
+// The same where their bits are all there: none can be refused.
+fn whole_head(s: &[u8], stop: usize, at: usize, n: usize) -> Next
+    requires { ⌜ Standing (now s) stop at n × (64 ≤ stop - at) ⌝ }
+    ensures { λ r. ⌜ Gave segmentHead (now (s .entry)) stop at n r ⌝ }
+{
+    let country = counts::short(bits::read_window(s, at, body::NidC::WIDTH));
+    let identity = grouping::groups(bits::read_window(s, at + IDENTITY, body::NidSp::WIDTH));
+    let t = bits::read_window(s, at + VERSIONS, 22);
+    let major = counts::short(t / 16384);
+    let minor = counts::short(t / 64 % 256);
+    let bytes = country + identity + major + minor + 2;
+    Next::Is(t % 32, at + HEAD, n + bytes as usize)
+}
+
+// NID_C to Q_SP_DIR, and the count of the timing points.
+fn segment_head(s: &[u8], stop: usize, at: usize, n: usize) -> Next
+    requires { ⌜ Standing (now s) stop at n ⌝ }
+    ensures { λ r. ⌜ Gave segmentHead (now (s .entry)) stop at n r ⌝ }
+{
+    if stop - at < HEAD {
+        return cut_head(s, stop, at, n);
+    }
+    whole_head(s, stop, at, n)
+}
+
+// A segment: its head, its timing points, and the count of temporary constraints.
+fn segment(s: &[u8], stop: usize, at: usize, n: usize) -> Step
+    requires { ⌜ Standing (now s) stop at n ⌝ }
+    ensures { λ r. ⌜ Over (journeySegment constraints) (now (s .entry)) stop at n r ⌝ }
+{
+    match segment_head(s, stop, at, n) {
+        Next::Refused(r) => Step::Refused(r),
+        Next::Is(count, at2, n2) => match judge_point::points(s, stop, at2, n2, count) {
+            Step::Refused(r) => Step::Refused(r),
+            Step::On(at3, n3) => match judge_field::count(s, stop, at3, n3, journey::CONSTRAINTS) {
+                Next::Refused(r) => Step::Refused(r),
+                Next::Is(_, at4, n4) => Step::On(at4, n4),
+            },
+        },
+    }
+}
+
+// The segments of a journey.
+fn segments(s: &[u8], stop: usize, at: usize, n: usize, count: u32) -> Step
+    requires { ⌜ Standing (now s) stop at n ⌝ }
+    ensures { λ r. ⌜ Over (journeySegments constraints count) (now (s .entry)) stop at n r ⌝ }
+{
+    let mut to = at;
+    let mut m = n;
+    let mut left = count;
+    while 0 < left {
+        match segment(s, stop, to, m) {
+            Step::Refused(r) => {
+                return Step::Refused(r);
+            }
+            Step::On(a, b) => {
+                to = a;
+                m = b;
+                left -= 1;
+            }
+        }
+    }
+    Step::On(to, m)
+}
+
+// Q_JP_Status, and the count of the segments with the segments.
+fn body(s: &[u8], stop: usize, at: usize, n: usize) -> Step
+    requires { ⌜ Standing (now s) stop at n ⌝ }
+    ensures { λ r. ⌜ Over journeyBodyPart (now (s .entry)) stop at n r ⌝ }
+{
+    match judge_field::plain(s, stop, at, n, QJpStatus::rule()) {
+        Step::Refused(r) => Step::Refused(r),
+        Step::On(at2, n2) => match judge_field::field(s, stop, at2, n2, NIterSp::rule()) {
+            Next::Refused(r) => Step::Refused(r),
+            Next::Is(count, at3, n3) => segments(s, stop, at3, n3, count),
+        },
+    }
+}
+
+// Every field of a journey after L_PACKET_ATO.
+pub fn fields(s: &[u8], stop: usize) -> Step
+    requires { ⌜ Standing (now s) stop 24 1 ⌝ }
+    ensures { λ r. ⌜ Over journeyPart (now (s .entry)) stop 24 1 r ⌝ }
+{
+    match judge_head::header_fields(s, stop) {
+        Step::Refused(r) => Step::Refused(r),
+        Step::On(at, n) => body(s, stop, at, n),
+    }
+}

@@ -1,0 +1,141 @@
+// The sheet of a journey judged part by part, with the bits of its packet counted. Nothing is written.
+ghost use Rattle.kinds.specs.Kinds.{nIter};
+ghost use Rattle.format.specs.Format.{then};
+ghost use Rattle.rows.specs.Rows as rows;
+ghost use Rattle.journey.specs.Journey as journey;
+ghost use Rattle.journey.specs.Parts as parts;
+ghost use Rattle.sheet_fields.specs.Judging.{Standing, Over};
+use journey::CONSTRAINTS;
+use journey_kinds::NIterSp;
+use journey_kinds::QJpStatus;
+use kinds::OUT_OF_RANGE;
+use kinds::body::NIter;
+use sheet_fields::Next;
+use sheet_fields::Step;
+use sheet_fields::operational;
+use sheet_fields::ranged;
+use sheet_points::points;
+use sheet_row::row;
+
+// "a 5-bit count of temporary constraints that must be 0 for now".
+fn constraints(s: &[u8], at: usize, n: u32) -> Step
+    requires { ⌜ Standing (now s) at ⌝ }
+    ensures { λ r. ⌜ Over (then (nIter journey.constraints)) (now (s .entry)) at n r ⌝ }
+{
+    match ranged(s, at, n, NIter::WIDTH, 0, CONSTRAINTS, OUT_OF_RANGE) {
+        Next::Refused(r) => Step::Refused(r),
+        Next::Is(_, at2, n2) => Step::On(at2, n2),
+    }
+}
+
+// NID_C to Q_SP_DIR of a segment.
+fn segment_row(s: &[u8], at: usize, n: u32) -> Step
+    requires { ⌜ Standing (now s) at ⌝ }
+    ensures { λ r. ⌜ Over (rows.row parts.segmentWidths parts.segmentMost) (now (s .entry)) at n r ⌝ }
+{
+    let widths = journey::segment_widths();
+    let most = journey::segment_most();
+    row(s, at, n, &widths, &most)
+}
+
+// A segment: its names, its timing points, and no constraint.
+fn segment(s: &[u8], at: usize, n: u32) -> Step
+    requires { ⌜ Standing (now s) at ⌝ }
+    ensures { λ r. ⌜ Over (journey.journeySegment journey.constraints) (now (s .entry)) at n r ⌝ }
+{
+    match segment_row(s, at, n) {
+        Step::Refused(r) => Step::Refused(r),
+        Step::On(at2, n2) => match ranged(
+            s,
+            at2,
+            n2,
+            NIter::WIDTH,
+            0,
+            NIter::LARGEST,
+            OUT_OF_RANGE,
+        ) {
+            Next::Refused(r) => Step::Refused(r),
+            Next::Is(count, at3, n3) => match points(s, at3, n3, count) {
+                Step::Refused(r) => Step::Refused(r),
+                Step::On(at4, n4) => constraints(s, at4, n4),
+            },
+        },
+    }
+}
+
+// The segments of a journey.
+fn segments(s: &[u8], at: usize, n: u32, count: u32) -> Step
+    requires { ⌜ Standing (now s) at ⌝ }
+    ensures { λ r. ⌜ Over (journey.journeySegments journey.constraints count) (now (s .entry)) at n r ⌝ }
+{
+    let mut to = at;
+    let mut m = n;
+    let mut left = count;
+    while 0 < left {
+        match segment(s, to, m) {
+            Step::Refused(r) => {
+                return Step::Refused(r);
+            }
+            Step::On(a, b) => {
+                to = a;
+                m = b;
+                left -= 1;
+            }
+        }
+    }
+    Step::On(to, m)
+}
+
+// Q_JP_Status, and the count of the segments with the segments.
+fn body(s: &[u8], at: usize, n: u32) -> Step
+    requires { ⌜ Standing (now s) at ⌝ }
+    ensures { λ r. ⌜ Over parts.journeyBodyPart (now (s .entry)) at n r ⌝ }
+{
+    match ranged(
+        s,
+        at,
+        n,
+        QJpStatus::WIDTH,
+        0,
+        QJpStatus::LARGEST,
+        OUT_OF_RANGE,
+    ) {
+        Next::Refused(r) => Step::Refused(r),
+        Next::Is(_, at2, n2) => match ranged(
+            s,
+            at2,
+            n2,
+            NIterSp::WIDTH,
+            0,
+            NIterSp::LARGEST,
+            OUT_OF_RANGE,
+        ) {
+            Next::Refused(r) => Step::Refused(r),
+            Next::Is(count, at3, n3) => segments(s, at3, n3, count),
+        },
+    }
+}
+
+// NID_ENGINE to N_PACKET_COUNTER.
+fn header_row(s: &[u8], at: usize, n: u32) -> Step
+    requires { ⌜ Standing (now s) at ⌝ }
+    ensures { λ r. ⌜ Over (rows.row parts.headerWidths parts.headerMost) (now (s .entry)) at n r ⌝ }
+{
+    let widths = journey::header_widths();
+    let most = journey::header_most();
+    row(s, at, n, &widths, &most)
+}
+
+// Every field after the packet number.
+pub fn fields(s: &[u8], at: usize, n: u32) -> Step
+    requires { ⌜ Standing (now s) at ⌝ }
+    ensures { λ r. ⌜ Over parts.journeyPart (now (s .entry)) at n r ⌝ }
+{
+    match operational(s, at, n) {
+        Step::Refused(r) => Step::Refused(r),
+        Step::On(at2, n2) => match header_row(s, at2, n2) {
+            Step::Refused(r) => Step::Refused(r),
+            Step::On(at3, n3) => body(s, at3, n3),
+        },
+    }
+}

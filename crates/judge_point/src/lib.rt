@@ -1,0 +1,116 @@
+// A journey's timing points judged, with the bytes of their sheet counted. Nothing is written.
+ghost use Prim.Native.Nat.{_-_, _≤_};
+ghost use Rattle.rows.specs.Rows.{row};
+ghost use Rattle.journey.specs.Journey.{timingPoint, timingPoints};
+ghost use Rattle.journey.specs.Parts.{arrivalWidths, arrivalMost, stoppingWidths, stoppingMost};
+ghost use Rattle.judge_field.specs.Judging.{Standing, Over};
+use journey_kinds::NidTp;
+use journey_kinds::QStopSkipPasses;
+use judge_field::Next;
+use judge_field::Step;
+use kinds::OUT_OF_RANGE;
+
+// NID_TP to Q_TP_Alignment.
+fn arrival(s: &[u8], stop: usize, at: usize, n: usize) -> Step
+    requires { ⌜ Standing (now s) stop at n ⌝ }
+    ensures { λ r. ⌜ Over (row arrivalWidths arrivalMost) (now (s .entry)) stop at n r ⌝ }
+{
+    let widths = journey::arrival_widths();
+    let most = journey::arrival_most();
+    judge_row::row(s, stop, at, n, &widths, &most)
+}
+
+// Q_TP_Information to Q_Automatic_Closing, by the kind of the stop.
+fn stopping(s: &[u8], stop: usize, at: usize, n: usize, kind: u32) -> Step
+    requires { ⌜ Standing (now s) stop at n ⌝ }
+    ensures { λ r. ⌜ Over (row stoppingWidths (stoppingMost kind)) (now (s .entry)) stop at n r ⌝ }
+{
+    let widths = journey::stopping_widths();
+    let most = journey::stopping_most(kind);
+    judge_row::row(s, stop, at, n, &widths, &most)
+}
+
+// A timing point field by field.
+fn cut_point(s: &[u8], stop: usize, at: usize, n: usize) -> Step
+    requires { ⌜ Standing (now s) stop at n ⌝ }
+    ensures { λ r. ⌜ Over timingPoint (now (s .entry)) stop at n r ⌝ }
+{
+    match arrival(s, stop, at, n) {
+        Step::Refused(r) => Step::Refused(r),
+        Step::On(at2, n2) => {
+            match judge_field::field(s, stop, at2, n2, QStopSkipPasses::rule()) {
+                Next::Refused(r) => Step::Refused(r),
+                Next::Is(kind, at3, n3) => stopping(s, stop, at3, n3, kind),
+            }
+        }
+    }
+}
+
+// Where the latest arrival, T_Arrival_Window, the door side and the departure's seconds start in a point, and its bits.
+const LATEST: usize = 32;
+
+const MARKS: usize = 64;
+
+const DOORS: usize = 81;
+
+const LEAVING: usize = 101;
+
+const POINT: usize = 129;
+
+// The same where its bits are all there: they are read at once.
+fn whole_point(s: &[u8], stop: usize, at: usize, n: usize) -> Step
+    requires { ⌜ Standing (now s) stop at n × (129 ≤ stop - at) ⌝ }
+    ensures { λ r. ⌜ Over timingPoint (now (s .entry)) stop at n r ⌝ }
+{
+    let latest = point_bytes::latest_bytes(bits::read_window(s, at + LATEST, 32));
+    if latest == 0 {
+        return Step::Refused(OUT_OF_RANGE);
+    }
+    let t = bits::read_window(s, at + MARKS, 17);
+    let marks = point_bytes::marks_bytes(t);
+    if marks == 0 {
+        return Step::Refused(OUT_OF_RANGE);
+    }
+    let doors = bits::read_window(s, at + DOORS, 20);
+    let leaving = bits::read_window(s, at + LEAVING, 28);
+    let eight = point_bytes::eight_bytes(t / 8 % 4, doors, leaving);
+    if eight == 0 {
+        return Step::Refused(OUT_OF_RANGE);
+    }
+    let name = grouping::groups(bits::read_window(s, at, NidTp::WIDTH));
+    Step::On(at + POINT, n + (name + latest + marks + eight) as usize)
+}
+
+// A timing point.
+fn point(s: &[u8], stop: usize, at: usize, n: usize) -> Step
+    requires { ⌜ Standing (now s) stop at n ⌝ }
+    ensures { λ r. ⌜ Over timingPoint (now (s .entry)) stop at n r ⌝ }
+{
+    if stop - at < POINT {
+        return cut_point(s, stop, at, n);
+    }
+    whole_point(s, stop, at, n)
+}
+
+// The timing points of a segment.
+pub fn points(s: &[u8], stop: usize, at: usize, n: usize, count: u32) -> Step
+    requires { ⌜ Standing (now s) stop at n ⌝ }
+    ensures { λ r. ⌜ Over (timingPoints count) (now (s .entry)) stop at n r ⌝ }
+{
+    let mut to = at;
+    let mut m = n;
+    let mut left = count;
+    while 0 < left {
+        match point(s, stop, to, m) {
+            Step::Refused(r) => {
+                return Step::Refused(r);
+            }
+            Step::On(a, b) => {
+                to = a;
+                m = b;
+                left -= 1;
+            }
+        }
+    }
+    Step::On(to, m)
+}

@@ -1,0 +1,124 @@
+-- A packet and a sheet of the link are refused exactly on their grounds, and the refusals are those listed.
+-- Assumes nothing.
+use mathlib.Core.Path.{_≡_, refl, sym, ap, _∙_}
+use mathlib.Core.List.{List, [], _∷_, _++_}
+use mathlib.Core.Logic.{_↔_}
+use Prim.Native.Nat.{ℕ, zero, suc, _+_, _-_, _<_}
+use native.Mathlib.Omega.{arith}
+use borrow.Author.Tests.{eqb-true, eqb-false, ne-eqb, ltb-true, lt-ltb}
+use lib.Dec.{eqb, ltb}
+use lib.ListN.{length}
+use Rattle.bits.specs.Bits.{Bytes}
+use Rattle.bits.proofs.Tests.{by-cases}
+use Rattle.kinds.specs.declared.Item.{Item}
+use Rattle.format.specs.Format.{Format, Read, accepted, refused, read}
+use Rattle.format.specs.Media.{sheet}
+use Rattle.format.specs.Grounds.{Every, atEnd, each, Among, first, later}
+use Rattle.format.proofs.Generic.{never}
+use Rattle.format.proofs.Grounds.{sheet-ground, sheet-written}
+use Rattle.segment.specs.Segment.{fields}
+use Rattle.segment.specs.Frame.{packetNumber, unframed}
+use Rattle.segment.specs.Grounds.{FieldRefusal, asValue, packetRefusals, sheetRefusals}
+use Rattle.segment.proofs.Grounds.{packet-grounds, packet-listed, numbers-refusals, numbers-listed, fields-refusals}
+use Rattle.journey.specs.Journey.{timingPoints, journeySegments, journeyBody}
+use Rattle.link.specs.declared.Tree.{Tree}
+use Rattle.link.specs.declared.Tree.the-variants.{Segment, Journey}
+use Rattle.link.specs.Link.{treeNumber, treeFields, treeOf, linkFields, linkBits, fromEitherPacket, withinCount, fromEitherSheet}
+use Rattle.link.specs.Grounds.{EitherPacketGround, ofJourney, ofSegment, EitherSheetGround, inNumbers, tooLong, eitherSheetRefusals}
+
+module _ (s : List ℕ) where
+  abbrev judgedBy : Tree → Read
+  judgedBy t = unframed (treeNumber t) (treeFields t) s
+
+  journey-judged : packetNumber s ≡ 4 → fromEitherPacket s ≡ judgedBy Journey
+  unfolding fromEitherPacket
+  journey-judged e = ap (λ (n : ℕ). judgedBy (treeOf n)) e
+
+  segment-tree : (packetNumber s ≡ 4 → ⊥) → treeOf (packetNumber s) ≡ Segment
+  segment-tree n = rw (ne-eqb (packetNumber s) 4 n)
+
+  pub segment-judged : (packetNumber s ≡ 4 → ⊥) → fromEitherPacket s ≡ judgedBy Segment
+  unfolding fromEitherPacket
+  segment-judged n = ap judgedBy (segment-tree n)
+
+module _ (s : List ℕ) (r left : ℕ) where
+  pub either-packet-grounds : (fromEitherPacket s ≡ refused r left) ↔ EitherPacketGround s r left
+  either-packet-grounds = (there, back)
+    where
+      there : fromEitherPacket s ≡ refused r left → EitherPacketGround s r left
+      there e =
+          by-cases (eqb (packetNumber s) 4)
+          (λ d. let n = eqb-true (packetNumber s) 4 d in
+          ofJourney n (packet-grounds (treeNumber Journey) (treeFields Journey) s r left .0 (sym (journey-judged s n) ∙ e)))
+          (λ d. let n = eqb-false (packetNumber s) 4 d in
+          ofSegment n (packet-grounds (treeNumber Segment) (treeFields Segment) s r left .0 (sym (segment-judged s n) ∙ e)))
+
+      back : EitherPacketGround s r left → fromEitherPacket s ≡ refused r left
+      back (ofJourney n g) = journey-judged s n ∙ packet-grounds (treeNumber Journey) (treeFields Journey) s r left .1 g
+      back (ofSegment n g) = segment-judged s n ∙ packet-grounds (treeNumber Segment) (treeFields Segment) s r left .1 g
+
+  -- what the count of bits refuses
+  count-refused : {C : Type 0} (t : Read) → withinCount t ≡ refused r left → (t ≡ refused r left → C)
+      → ((l : List Item) → t ≡ accepted l → 96 + 65535 < length (linkBits l) → r ≡ 12 → left ≡ 0 → C) → C
+  count-refused (refused q m) e own long = own e
+  count-refused (accepted l) e own long =
+      by-cases (ltb 65535 (length (linkBits l) - 96))
+      (λ d. let p : refused 12 0 ≡ refused r left = rw d at e in long l refl (omega (arith, ltb-true 65535 (length (linkBits l) - 96) d)) (cc) (cc))
+      (λ d. absurd (never (sym (rw d at e))))
+
+  pub either-sheet-grounds : Bytes s → (fromEitherSheet s ≡ refused r left) ↔ EitherSheetGround s r left
+  unfolding fromEitherSheet
+  either-sheet-grounds ok = (there, back)
+    where
+      there : withinCount (read sheet linkFields s) ≡ refused r left → EitherSheetGround s r left
+      there e =
+          count-refused (read sheet linkFields s) e (λ g. inNumbers (sheet-ground linkFields s r left ok .0 g))
+          λ l a long q p. tooLong l (sheet-written linkFields s l ok .0 a) long q p
+
+      back : EitherSheetGround s r left → withinCount (read sheet linkFields s) ≡ refused r left
+      back (inNumbers g) = ap withinCount (sheet-ground linkFields s r left ok .1 g)
+      back (tooLong l w long q p) =
+          ap withinCount (sheet-written linkFields s l ok .1 w) ∙ rw (lt-ltb 65535 (length (linkBits l) - 96) (omega arith), q, p)
+
+-- ---- every field of a journey is refused with 4
+
+points-refusals : (n : ℕ) (f : Format) → Every FieldRefusal f → Every FieldRefusal (timingPoints n f)
+unfolding timingPoints
+points-refusals zero f e = e
+points-refusals (suc n) f e =
+    each (asValue refl) λ _. each (asValue refl) λ _. each (asValue refl) λ _. each (asValue refl) λ _. each (asValue refl) λ _.
+    each (asValue refl) λ stop. each (asValue refl) λ _. each (asValue refl) λ _.
+    each (asValue refl) λ _. each (asValue refl) λ _. each (asValue refl) λ _. each (asValue refl) λ _.
+    each (asValue refl) λ _. each (asValue refl) λ _. each (asValue refl) λ _. each (asValue refl) λ _. points-refusals n f e
+
+segments-refusals : (limit n : ℕ) (f : Format) → Every FieldRefusal f → Every FieldRefusal (journeySegments limit n f)
+unfolding journeySegments
+segments-refusals limit zero f e = e
+segments-refusals limit (suc n) f e =
+    each (asValue refl) λ _. each (asValue refl) λ _. each (asValue refl) λ _. each (asValue refl) λ _. each (asValue refl) λ _.
+    each (asValue refl) λ m. points-refusals m _ (each (asValue refl) λ _. segments-refusals limit n f e)
+
+tree-refusals : (t : Tree) → Every FieldRefusal (treeFields t)
+unfolding fields journeyBody
+tree-refusals Segment = fields-refusals 23
+tree-refusals Journey =
+    each (asValue refl) λ _. each (asValue refl) λ _. each (asValue refl) λ _. each (asValue refl) λ _. each (asValue refl) λ _.
+    each (asValue refl) λ _. each (asValue refl) λ n. segments-refusals 0 n _ atEnd
+
+-- ---- the refusals are those listed
+
+pub either-packet-listed : (s : List ℕ) (r left : ℕ) → EitherPacketGround s r left → Among r packetRefusals
+either-packet-listed s r left (ofJourney n g) = packet-listed (treeNumber Journey) (tree-refusals Journey) s r left g
+either-packet-listed s r left (ofSegment n g) = packet-listed (treeNumber Segment) (tree-refusals Segment) s r left g
+
+link-refusals : Every (λ k. Among (k .refusal) sheetRefusals) linkFields
+unfolding linkFields
+link-refusals = each first λ n. numbers-refusals (tree-refusals (treeOf n))
+
+among-more : {r : ℕ} {l : List ℕ} (m : List ℕ) → Among r l → Among r (l ++ m)
+among-more m first = first
+among-more m (later a) = later (among-more m a)
+
+pub either-sheet-listed : (s : List ℕ) (r left : ℕ) → EitherSheetGround s r left → Among r eitherSheetRefusals
+either-sheet-listed s r left (inNumbers g) = among-more (12 ∷ []) (numbers-listed link-refusals s r left g)
+either-sheet-listed s r left (tooLong l w long q p) = rw q (later (later (later (later first))))

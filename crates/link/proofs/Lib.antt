@@ -1,0 +1,6 @@
+pub mod Trees
+pub mod Values
+pub mod Grounds
+pub mod Sheets
+pub mod Ends
+pub mod Segments

@@ -1,0 +1,45 @@
+-- The ends of a journey are reached: no segment, and a packet of 8,207 bytes.
+-- Assumes nothing.
+use mathlib.Core.Path.{_≡_, refl, _∙_}
+use mathlib.Core.List.{List, [], _∷_, _++_}
+use Prim.Native.Nat.{ℕ, _+_, _*_}
+use native.Mathlib.Omega.{arith}
+use lib.ListN.{length, replicate}
+use Rattle.numbers.specs.Numbers.{groupsIn}
+use Rattle.kinds.specs.declared.Item.{Item}
+use Rattle.kinds.specs.Kinds.{digits}
+use Rattle.segment.proofs.Ends.{item, times, conformed}
+use Rattle.segment.proofs.Framing.{framed-length}
+use Rattle.journey.specs.Journey.{timingPoints, journeySegments, journeyBody}
+use Rattle.link.specs.Link.{linkFields, linkBits, toEitherPacket, toEitherSheet}
+use Rattle.link.specs.Grounds.{EitherSheetValues}
+
+-- a sheet's values with a body of so many bits, a packet and a sheet of so many bytes
+pub record Reaches (l : List Item) (bits packet sheet : ℕ) : Type 0 where
+  pub values : EitherSheetValues l
+  pub body : length (linkBits l) ≡ 96 + bits
+  pub packetBytes : length (toEitherPacket l) ≡ packet
+  pub sheetBytes : length (toEitherSheet l) ≡ sheet
+
+abbrev smallest : List Item
+smallest = item 4 4 ∷ replicate 7 (item 0 0)
+
+-- a segment with n timing points, every field 0
+abbrev segmentWith : ℕ → List Item
+segmentWith n = replicate 5 (item 0 0) ++ item n n ∷ replicate (16 * n) (item 0 0) ++ item 0 0 ∷ []
+
+-- 41 segments with 486 timing points
+abbrev largest : List Item
+largest = item 4 4 ∷ replicate 6 (item 0 0) ++ item 41 41 ∷ times 15 (segmentWith 31) ++ segmentWith 21 ++ times 25 (segmentWith 0)
+
+pub smallest-journey : Reaches smallest 11 17 8
+unfolding groupsIn digits timingPoints journeySegments journeyBody linkFields toEitherPacket toEitherSheet
+smallest-journey =
+    let b : length (linkBits smallest) ≡ 96 + 11 = refl in
+    record { values = record { good = conformed linkFields smallest refl; few = omega arith }; body = b; packetBytes = framed-length 4 (linkBits smallest) ∙ omega arith; sheetBytes = refl }
+
+pub largest-journey : Reaches largest 65534 8207 8071
+unfolding groupsIn digits timingPoints journeySegments journeyBody linkFields toEitherPacket toEitherSheet
+largest-journey =
+    let b : length (linkBits largest) ≡ 96 + 65534 = refl in
+    record { values = record { good = conformed linkFields largest refl; few = omega arith }; body = b; packetBytes = framed-length 4 (linkBits largest) ∙ omega arith; sheetBytes = refl }

@@ -1,0 +1,88 @@
+-- What is promised of a segment's sizes, beside those of whatever is on the link: a caller of segments sizes a room by these.
+-- Assumes nothing.
+use mathlib.Core.Path.{_≡_, refl, sym, ap, _∙_}
+use mathlib.Core.Bool.{true, false}
+use mathlib.Core.List.{List, _∷_}
+use Prim.Native.Nat.{ℕ, _-_, _≤_}
+use native.Mathlib.Omega.{arith}
+use borrow.Author.Tests.{ne-eqb, le-ltb}
+use lib.Dec.{lit≤}
+use lib.ListN.{length}
+use Rattle.bits.specs.Bits.{Bytes}
+use Rattle.numbers.specs.declared.Number.{Number}
+use Rattle.numbers.specs.declared.Number.the-variants.{Value, Bad}
+use Rattle.numbers.specs.Numbers.{numberIn}
+use Rattle.kinds.specs.declared.Item.{Item}
+use Rattle.format.specs.Format.{Read, accepted, refused}
+use Rattle.format.specs.Conforming.{also, givenBack}
+use Rattle.format.proofs.Sized.{size-least, sheet-priced}
+use Rattle.segment.specs.Segment.{fields, sheetFields, wireChanges}
+use Rattle.segment.specs.Frame.{packetNumber}
+use Rattle.segment.specs.Judgement.{segmentNumber, fromPacket, fromSheet, toPacket, toSheet}
+use Rattle.segment.proofs.Ends.{sheet-groups, sheet-most, packet-least, packet-most}
+use Rattle.segment.proofs.Grounds.{packet-grounds, sheet-grounds, fields-refusals, packet-listed, sheet-listed}
+use Rattle.link.specs.declared.Tree.{Tree}
+use Rattle.link.specs.declared.Tree.the-variants.{Segment}
+use Rattle.link.specs.Link.{linkBits, withinCount, fromEitherSheet, toEitherPacket, toEitherSheet}
+use Rattle.link.specs.Trees.{treeSheet, byNumber}
+use Rattle.link.proofs.Grounds.{segment-judged}
+use Rattle.link.proofs.Sheets.{sheet-by-tree}
+use Rattle.link.proofs.Segments.{on-link}
+use Rattle.convert.specs.Convert.{converted, fitted, packetToSheet, sheetToPacket}
+use Rattle.promises.specs.Promised.{SegmentPacketValues, SegmentSheetValues}
+use Rattle.promises.proofs.Values.{packet-values, sheet-values, lowered-packet, lowered-good}
+use Rattle.promises.proofs.Ranges.{good-sheet}
+use Rattle.promises.proofs.Refused.{among-member}
+
+-- "A sheet has at most 5,608 bytes", and 23 at least
+pub segment-sheet-size : (l : List Item) → SegmentPacketValues l → (23 ≤ length (toEitherSheet l)) × (length (toEitherSheet l) ≤ 5608)
+unfolding toSheet
+segment-sheet-size l c =
+    let g = good-sheet c in
+    rw (on-link g .sameSheet) (size-least sheet-priced (sheet-groups wireChanges (lit≤ tt)) g, sheet-most wireChanges (lit≤ tt) g)
+
+-- "packet of 39 bytes", "2,001 bytes"
+own-size : (l : List Item) → SegmentPacketValues l → (39 ≤ length (toPacket wireChanges l)) × (length (toPacket wireChanges l) ≤ 2001)
+unfolding toPacket sheetFields
+own-size (i ∷ l) (also g c) = (packet-least wireChanges (lit≤ tt) c, packet-most wireChanges (lit≤ tt) c)
+
+pub segment-packet-size : (l : List Item) → SegmentSheetValues l → (39 ≤ length (toEitherPacket l)) × (length (toEitherPacket l) ≤ 2001)
+segment-packet-size l c = rw (on-link c .samePacket, ← lowered-packet l) (own-size (givenBack (sheetFields wireChanges) l) (lowered-good c))
+
+never-8 : {r : ℕ} → false ≡ true → r ≡ 8 → ⊥
+never-8 e _ = let z : _≡_ {A = ℕ} 0 1 = cc in omega arith
+
+-- a room that holds a result is not too short for it
+fits : (bytes room : List ℕ) → length bytes ≤ length room → fitted bytes room .answer .refusal ≡ 8 → ⊥
+fits bytes room h e = let z : _≡_ {A = ℕ} 0 8 = rw (le-ltb (length room) (length bytes) h) at e in omega arith
+
+module _ (s room : List ℕ) (ok : Bytes s) where
+  -- a packet of another number than a journey's is never refused with 8 where the room has 5,608 bytes
+  pub largest-segment-sheet-room : (packetNumber s ≡ 4 → ⊥) → 5608 ≤ length room → packetToSheet s room .answer .refusal ≡ 8 → ⊥
+  unfolding packetToSheet fromPacket fields
+  largest-segment-sheet-room n h e = go (fromPacket wireChanges s) refl (sym (ap (λ (r : Read). converted toEitherSheet r room .answer .refusal) (segment-judged s n)) ∙ e)
+    where
+      go : (r : Read) → fromPacket wireChanges s ≡ r → converted toEitherSheet r room .answer .refusal ≡ 8 → ⊥
+      go (accepted l) a d = fits (toEitherSheet l) room (omega (arith, segment-sheet-size l (packet-values s l ok a .0) .1)) d
+      go (refused q left) a d =
+          let g = packet-listed segmentNumber (fields-refusals wireChanges) s q left (packet-grounds segmentNumber (fields wireChanges) s q left .0 a) in
+          never-8 (rw d at (among-member g)) d
+
+  -- nor is a sheet with another first number where the room has 2,001
+  pub largest-segment-packet-room : (numberIn s ≡ Value 4 → ⊥) → 2001 ≤ length room → sheetToPacket s room .answer .refusal ≡ 8 → ⊥
+  unfolding sheetToPacket fromEitherSheet fromSheet sheetFields fields
+  largest-segment-packet-room n h e =
+      go (fromSheet wireChanges s) refl
+      (sym (ap (λ (r : Read). converted toEitherPacket (withinCount r) room .answer .refusal) (sheet-by-tree s ∙ ap (λ (t : Tree). treeSheet t s) (tree (numberIn s) n))) ∙ e)
+    where
+      tree : (m : Number) → (m ≡ Value 4 → ⊥) → byNumber m ≡ Segment
+      tree Bad d = refl
+      tree (Value a) d = rw (ne-eqb a 4 (λ q. d (ap Value q)))
+
+      go : (r : Read) → fromSheet wireChanges s ≡ r → converted toEitherPacket (withinCount r) room .answer .refusal ≡ 8 → ⊥
+      go (accepted l) a d =
+          let c = sheet-values s l ok a .0 in
+          let v = on-link c .values in
+          let taken : withinCount (accepted l) ≡ accepted l = rw (le-ltb 65535 (length (linkBits l) - 96) (omega (arith, v .few))) in
+          fits (toEitherPacket l) room (omega (arith, segment-packet-size l c .1)) (sym (ap (λ (r : Read). converted toEitherPacket r room .answer .refusal) taken) ∙ d)
+      go (refused q left) a d = never-8 (rw d at (among-member (sheet-listed wireChanges s q left (sheet-grounds wireChanges s q left ok .0 a)))) d

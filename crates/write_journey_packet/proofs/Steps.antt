@@ -1,0 +1,82 @@
+-- The parts of a journey's body, step by step: what may be written next, and what is written once all steps are taken.
+-- Assumes nothing.
+use mathlib.Core.List.{List}
+use Prim.Native.Nat.{ℕ}
+use Rattle.kinds.specs.Kinds.{nIter}
+use Rattle.format.specs.Format.{Format, field, then}
+use Rattle.rows.specs.Rows.{row}
+use Rattle.journey_kinds.specs.Kinds.{qJpStatus, nIterSp}
+use Rattle.journey.specs.Journey.{timingPoints, journeySegment, journeySegments, constraints}
+use Rattle.journey.specs.Parts.{segmentWidths, segmentMost, journeyBodyPart}
+use Rattle.journey.proofs.Parts.{segment-rows}
+use Rattle.fill_element.specs.declared.Spot.{Spot}
+use Rattle.fill_element.specs.Writing.{Ready, Wrote}
+use Rattle.fill_element.proofs.Writing.{Along, along-all, along-as, along-next, along-on, along-none}
+use Rattle.fill_row.specs.declared.Given.{Given}
+use Rattle.fill_row.specs.Alone.{Offers, Gives}
+use Rattle.fill_row.proofs.Alone.{along-offers, along-gives}
+
+-- ---- a segment
+
+abbrev names : Format → Format
+names f = row segmentWidths segmentMost f
+
+abbrev last : Format → Format
+last f = then (nIter constraints) f
+
+abbrev rest : Format → Format
+rest f = field (nIter 31) λ n. timingPoints n (last f)
+
+module _ {s room : List ℕ} {p : Spot} (h : Ready (journeySegment constraints) s room p) where
+  segment-all : Along (journeySegment constraints) (λ f. names (rest f)) s room p room p
+  segment-all = along-as (λ f. names (rest f)) (segment-rows constraints) (along-all h)
+
+  pub segment-names : Ready names s room p
+  segment-names = along-next names rest segment-all h
+
+  module _ {mid : List ℕ} {q : Spot} (a : Wrote names s room p mid q) where
+    pub segment-count : Offers (nIter 31) s mid q
+    segment-count = along-offers (nIter 31) (λ n f. timingPoints n (last f)) (along-on names rest segment-all a) h
+
+    module _ {end : List ℕ} {r : Given} (g : Gives (nIter 31) s mid q end r) where
+      after-count : Along (journeySegment constraints) (λ f. timingPoints (r .value) (last f)) s room p end (r .next)
+      after-count = along-gives (nIter 31) (λ n f. timingPoints n (last f)) (along-on names rest segment-all a) g
+
+      pub segment-points : Ready (timingPoints (r .value)) s end (r .next)
+      segment-points = along-next (timingPoints (r .value)) last after-count h
+
+      module _ {far : List ℕ} {t : Spot} (w : Wrote (timingPoints (r .value)) s end (r .next) far t) where
+        after-points : Along (journeySegment constraints) last s room p far t
+        after-points = along-on (timingPoints (r .value)) last after-count w
+
+        pub segment-last : Offers (nIter constraints) s far t
+        segment-last = along-offers (nIter constraints) (λ n f. f) after-points h
+
+        pub segment-wrote : {done : List ℕ} {z : Given} → Gives (nIter constraints) s far t done z → Wrote (journeySegment constraints) s room p done (z .next)
+        segment-wrote g2 = along-none (along-gives (nIter constraints) (λ n f. f) after-points g2)
+
+-- ---- the body
+
+abbrev counted : Format → Format
+counted f = field nIterSp λ n. journeySegments constraints n f
+
+module _ {s room : List ℕ} {p : Spot} (h : Ready journeyBodyPart s room p) where
+  pub body-status : Offers qJpStatus s room p
+  body-status = along-offers qJpStatus (λ n. counted) (along-all h) h
+
+  module _ {mid : List ℕ} {q : Given} (a : Gives qJpStatus s room p mid q) where
+    after-status : Along journeyBodyPart counted s room p mid (q .next)
+    after-status = along-gives qJpStatus (λ n. counted) (along-all h) a
+
+    pub body-count : Offers nIterSp s mid (q .next)
+    body-count = along-offers nIterSp (journeySegments constraints) after-status h
+
+    module _ {end : List ℕ} {r : Given} (g : Gives nIterSp s mid (q .next) end r) where
+      after-segments : Along journeyBodyPart (journeySegments constraints (r .value)) s room p end (r .next)
+      after-segments = along-gives nIterSp (journeySegments constraints) after-status g
+
+      pub body-segments : Ready (journeySegments constraints (r .value)) s end (r .next)
+      body-segments = along-next (journeySegments constraints (r .value)) (λ f. f) after-segments h
+
+      pub body-wrote : {far : List ℕ} {t : Spot} → Wrote (journeySegments constraints (r .value)) s end (r .next) far t → Wrote journeyBodyPart s room p far t
+      body-wrote w = along-none (along-on (journeySegments constraints (r .value)) (λ f. f) after-segments w)

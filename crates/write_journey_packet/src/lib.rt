@@ -1,0 +1,92 @@
+// The body of an accepted journey sheet's packet, written part by part. What was accepted is not judged again.
+ghost use Rattle.fill_element.specs.Writing.{Ready, Wrote};
+ghost use Rattle.journey.specs.Journey as tree;
+ghost use Rattle.journey.specs.Journey.{constraints};
+ghost use Rattle.journey.specs.Parts.{segmentWidths, segmentMost, journeyBodyPart};
+ghost use Rattle.rows.specs.Rows.{row};
+use fill_element::Spot;
+use fill_point::point;
+use fill_row::number;
+use fill_row::piece;
+use journey_kinds::NIterSp;
+use journey_kinds::QJpStatus;
+use journey_kinds::QSpDir;
+use kinds::body::MSpVersion;
+use kinds::body::NIter;
+use kinds::body::NidC;
+use kinds::body::NidSp;
+
+// The bits of the versions and Q_SP_DIR, put at once.
+const VERSION: u32 = MSpVersion::WIDTH + MSpVersion::WIDTH + QSpDir::WIDTH;
+
+// The timing points of a segment.
+fn points(sheet: &[u8], room: &mut [u8], from: Spot, count: u32) -> Spot
+    requires { ⌜ Ready (tree.timingPoints count) (now sheet) (now room) from ⌝ }
+    ensures { λ r. ⌜ Wrote (tree.timingPoints count) (now (sheet .entry)) (now (room .entry)) from (now (room .exit)) r ⌝ }
+{
+    let mut p = from;
+    let mut left = count;
+    while 0 < left {
+        p = point(sheet, room, p);
+        left -= 1;
+    }
+    p
+}
+
+// NID_C to Q_SP_DIR of a segment.
+fn names(sheet: &[u8], room: &mut [u8], p: Spot) -> Spot
+    requires { ⌜ Ready (row segmentWidths segmentMost) (now sheet) (now room) p ⌝ }
+    ensures { λ r. ⌜ Wrote (row segmentWidths segmentMost) (now (sheet .entry)) (now (room .entry)) p (now (room .exit)) r ⌝ }
+{
+    let widths = journey::segment_widths();
+    let most = journey::segment_most();
+    let country = piece(sheet, room, p, &widths[0..1], &most[0..1], NidC::WIDTH);
+    let name = piece(
+        sheet,
+        room,
+        country,
+        &widths[1..2],
+        &most[1..2],
+        NidSp::WIDTH,
+    );
+    piece(sheet, room, name, &widths[2..5], &most[2..5], VERSION)
+}
+
+// A segment: its names, its timing points, and the count of its temporary constraints.
+fn segment(sheet: &[u8], room: &mut [u8], p: Spot) -> Spot
+    requires { ⌜ Ready (tree.journeySegment constraints) (now sheet) (now room) p ⌝ }
+    ensures { λ r. ⌜ Wrote (tree.journeySegment constraints) (now (sheet .entry)) (now (room .entry)) p (now (room .exit)) r ⌝ }
+{
+    let next = names(sheet, room, p);
+    let count = number(sheet, room, next, NIter::WIDTH, NIter::LARGEST);
+    let first = count.next;
+    let last = points(sheet, room, first, count.value);
+    let none = number(sheet, room, last, NIter::WIDTH, journey::CONSTRAINTS);
+    none.next
+}
+
+// The segments of the journey.
+fn segments(sheet: &[u8], room: &mut [u8], from: Spot, count: u32) -> Spot
+    requires { ⌜ Ready (tree.journeySegments constraints count) (now sheet) (now room) from ⌝ }
+    ensures { λ r. ⌜ Wrote (tree.journeySegments constraints count) (now (sheet .entry)) (now (room .entry)) from (now (room .exit)) r ⌝ }
+{
+    let mut p = from;
+    let mut rest = count;
+    while 0 < rest {
+        p = segment(sheet, room, p);
+        rest -= 1;
+    }
+    p
+}
+
+// The fields of the body.
+pub fn body(sheet: &[u8], room: &mut [u8], p: Spot) -> Spot
+    requires { ⌜ Ready journeyBodyPart (now sheet) (now room) p ⌝ }
+    ensures { λ r. ⌜ Wrote journeyBodyPart (now (sheet .entry)) (now (room .entry)) p (now (room .exit)) r ⌝ }
+{
+    let status = number(sheet, room, p, QJpStatus::WIDTH, QJpStatus::LARGEST);
+    let next = status.next;
+    let count = number(sheet, room, next, NIterSp::WIDTH, NIterSp::LARGEST);
+    let first = count.next;
+    segments(sheet, room, first, count.value)
+}

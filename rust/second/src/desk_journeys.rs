@@ -1,0 +1,159 @@
+//! Journeys like the desk cases: their bytes by hand, their limits, and the order of their refusals.
+
+use crate::desk::{packet_of, packet_with, sheet, sheet_of, TRAIN};
+use crate::*;
+
+/// A journey over one segment with one timing point, as numbers; the places of some are named below.
+const JOURNEY: [u32; 31] = [
+    4, 0x12345, 1, 0, 0, 7, 1, 1, 345, 0x89ABCDEF, 17, 130, 1, 1, 0x76543210, 12_345, 86_400, 601, 1, 0, 1, 1, 2, 1, 0, 1,
+    23_456, 86_399, 777, 1, 0,
+];
+const STATUS: usize = 6;
+const LEGS: usize = 7;
+const LEG: usize = 8;
+const POINT: usize = 14;
+const HALT: usize = 22;
+const CONSTRAINTS: usize = 30;
+
+/// The widths of those numbers in the packet, where L_PACKET_ATO follows the first.
+const WIDTHS: [u32; 31] =
+    [8, 32, 24, 15, 17, 8, 3, 8, 10, 32, 8, 8, 1, 5, 32, 15, 17, 10, 2, 2, 2, 1, 2, 1, 1, 1, 15, 17, 10, 1, 5];
+
+const PACKET: [u8; 42] = [
+    0x04, 0x00, 0xD1, 0x00, 0x01, 0x23, 0x45, 0x00, 0x00, 0x01, 0x00, 0x00, 0x00, 0x00, 0x07, // header
+    0x20, 0x2A, 0xCC, 0x4D, 0x5E, 0x6F, 0x78, 0x8C, 0x14, 0x2E, 0xCA, 0x86, 0x42, 0x0C, 0x0E, 0x6A, 0x30, 0x12, 0xCA, 0x3A, 0xDB,
+    0xA0, 0xA8, 0xBF, 0xE1, 0x30, 0x00,
+];
+
+/// The journey with one number replaced, as a sheet and as a packet.
+fn with(place: usize, value: u32) -> (Vec<u8>, Vec<u8>) {
+    edited(&JOURNEY, place, value)
+}
+
+fn edited(numbers: &[u32; 31], place: usize, value: u32) -> (Vec<u8>, Vec<u8>) {
+    let mut numbers = *numbers;
+    numbers[place] = value;
+    let mut packet = PACKET.to_vec();
+    for (place, value) in numbers.iter().enumerate() {
+        let before: u32 = WIDTHS[..place].iter().sum();
+        let start = before as usize + if place > 0 { 16 } else { 0 };
+        packet = packet_with(&packet, (start, WIDTHS[place]), *value);
+    }
+    (sheet(&numbers), packet)
+}
+
+fn accepted((sheet, packet): (Vec<u8>, Vec<u8>)) {
+    assert_eq!(packet_of(&sheet), Ok(packet.clone()));
+    assert_eq!(sheet_of(&packet), Ok(sheet));
+}
+
+fn refused((sheet, packet): (Vec<u8>, Vec<u8>), refusal: Refusal) {
+    assert_eq!(packet_of(&sheet), Err(refusal));
+    assert_eq!(sheet_of(&packet), Err(refusal));
+}
+
+/// The sheet of a journey with so many segments and timing points, at most 31 a segment, all numbers else 0.
+fn long(legs: u32, points: u32) -> Vec<u8> {
+    let mut numbers = vec![4, 0, 0, 0, 0, 0, 0, legs];
+    let mut left = points;
+    for _ in 0..legs {
+        let here = left.min(31);
+        left -= here;
+        numbers.extend([0, 0, 0, 0, 0, here]);
+        numbers.resize(numbers.len() + here as usize * 16 + 1, 0);
+    }
+    assert_eq!(left, 0);
+    sheet(&numbers)
+}
+
+#[test]
+fn a_journey_goes_both_ways() {
+    assert_eq!(with(0, 4).1, PACKET);
+    accepted(with(0, 4));
+    let (shortest, packet) = (sheet(&[4, 0x12345, 1, 0, 0, 7, 1, 0]), [&PACKET[..2], &[11], &PACKET[3..15], &[0x20, 0]].concat());
+    assert_eq!(shortest, [0x04, 0xC5, 0xC6, 0x04, 0x01, 0, 0, 0x07, 0x01, 0x00]);
+    accepted((shortest, packet));
+}
+
+#[test]
+fn the_packet_number_says_what_follows() {
+    for number in [0, 5, 7] {
+        refused(with(0, number), Refusal::Number);
+    }
+    let shortest = |number| (sheet(&[number, 0, 0, 0, 0, 0, 0, 0]), [&[number as u8, 0, 11][..], &[0; 14]].concat());
+    accepted(shortest(4));
+    assert_eq!(packet_of(&shortest(6).0), Err(Refusal::Sheet));
+    assert_eq!(sheet_of(&shortest(6).1), Err(Refusal::Bits));
+}
+
+#[test]
+fn a_segment_is_needed_for_a_question() {
+    let sheet = sheet(&JOURNEY);
+    let train = Train { length: 0, ..TRAIN };
+    assert_eq!(speed_from_sheet(&sheet, &train, 0), Err(Refusal::Number));
+    assert_eq!(speed_from_packet(&PACKET, &train, 0), Err(Refusal::Number));
+    assert_eq!(altitude_of_packet(&PACKET), Err(Refusal::Number));
+    assert_eq!(altitude_of_packet(&PACKET[..41]), Err(Refusal::Number));
+    assert_eq!(altitude_of_packet(&PACKET[..14]), Err(Refusal::Short));
+    assert_eq!(speed_from_sheet(&[4], &train, 0), Err(Refusal::Number));
+}
+
+#[test]
+fn ranges_end_where_the_request_says() {
+    let last = |place: usize, most: u32| {
+        accepted(with(place, most));
+        refused(with(place, most + 1), Refusal::Field);
+    };
+    last(STATUS, 4);
+    last(POINT + 2, 86_400);
+    last(POINT + 4, 2);
+    last(POINT + 6, 1);
+    last(HALT + 5, 86_399);
+    last(CONSTRAINTS, 0);
+    refused(with(POINT + 5, 3), Refusal::Field);
+}
+
+#[test]
+fn numbers_fit_the_packet_s_fields() {
+    for place in [LEG, LEG + 2, LEG + 3, LEG + 4, POINT + 1, POINT + 3, POINT + 7, HALT, HALT + 1, HALT + 4, HALT + 6, HALT + 7] {
+        let most = (1 << WIDTHS[place]) - 1;
+        accepted(with(place, most));
+        assert_eq!(packet_of(&with(place, most + 1).0), Err(Refusal::Field));
+    }
+    accepted(with(POINT, u32::MAX));
+    assert_eq!(packet_of(&with(LEGS, 256).0), Err(Refusal::Field));
+    assert_eq!(packet_of(&with(LEG + 5, 32).0), Err(Refusal::Field));
+}
+
+#[test]
+fn a_passing_point_says_nothing_of_a_halt() {
+    let mut passing = JOURNEY;
+    passing[POINT + 5] = 2;
+    passing[HALT..CONSTRAINTS].fill(0);
+    accepted(edited(&passing, 0, 4));
+    for place in HALT..CONSTRAINTS {
+        refused(edited(&passing, place, 1), Refusal::Field);
+    }
+    accepted(with(POINT + 5, 1));
+    refused(with(POINT + 5, 2), Refusal::Field);
+}
+
+#[test]
+fn bodies_are_at_most_65_535_bits() {
+    // 11 + 69 * 41 + 129 * 486 = 65,534, and 11 + 69 * 56 + 129 * 478 = 65,537: no body has one between
+    let longest = packet_of(&long(41, 486)).unwrap();
+    assert_eq!((longest.len(), &longest[..3]), (8_207, &[4, 0xFF, 0xFE][..]));
+    assert_eq!(sheet_of(&longest), Ok(long(41, 486)));
+    for (legs, points) in [(56, 478), (42, 486), (41, 487), (255, 31 * 255)] {
+        assert_eq!(packet_of(&long(legs, points)), Err(Refusal::Body));
+    }
+}
+
+#[test]
+fn a_long_body_is_judged_after_the_sheet_and_before_the_room() {
+    let long = long(42, 486);
+    assert_eq!(sheet_to_packet(&long, &mut []), Err(Refusal::Body));
+    assert_eq!(packet_of(&[&long[..], &[0]].concat()), Err(Refusal::Sheet));
+    assert_eq!(packet_of(&long[..long.len() - 1]), Err(Refusal::Sheet));
+    assert_eq!(packet_of(&[&long[..long.len() - 1], &[1]].concat()), Err(Refusal::Field));
+}

@@ -1,0 +1,153 @@
+//! Journeys, written from the request that brought them: both conversions, their limits, and the questions, which need a segment.
+use crate::segments::{packet, same, sheet, Field};
+use seglink::{
+    altitude_of_packet, packet_of, packet_to_sheet, sheet_of, sheet_to_packet, speed_from_packet, speed_from_sheet, Refusal,
+    Train, LARGEST_JOURNEY_PACKET, LARGEST_JOURNEY_SHEET,
+};
+
+/// A journey over one segment with one timing point.
+const PACKET: [u8; 42] = [
+    0x04, 0x00, 0xD1, 0x00, 0x01, 0x23, 0x45, 0x00, 0x00, 0x01, 0x00, 0x00, 0x00, 0x00, 0x07, // header
+    0x20, 0x2A, 0xCC, 0x4D, 0x5E, 0x6F, 0x78, 0x8C, 0x14, 0x2E, 0xCA, 0x86, 0x42, 0x0C, 0x0E, 0x6A, 0x30, 0x12, 0xCA, 0x3A, 0xDB,
+    0xA0, 0xA8, 0xBF, 0xE1, 0x30, 0x00,
+];
+const SHEET: [u8; 52] = [
+    0x04, 0xC5, 0xC6, 0x04, 0x01, 0x00, 0x00, 0x07, // header
+    0x01, 0x01, 0xD9, 0x02, 0xEF, 0x9B, 0xAF, 0xCD, 0x08, 0x11, 0x82, 0x01, 0x01, 0x01, // status, the segment
+    0x90, 0xE4, 0xD0, 0xB2, 0x07, 0xB9, 0x60, 0x80, 0xA3, 0x05, 0xD9, 0x04, 0x01, 0x00, 0x01, 0x01, // arrival
+    0x02, 0x01, 0x00, 0x01, 0xA0, 0xB7, 0x01, 0xFF, 0xA2, 0x05, 0x89, 0x06, 0x01, // departure
+    0x00, // temporary constraints
+];
+
+/// The widths of a timing point's fields, and their largest values at a stopping point.
+const POINT: [(usize, u32); 16] = [
+    (32, u32::MAX),
+    (15, 32_767),
+    (17, 86_400),
+    (10, 1023),
+    (2, 2),
+    (2, 0),
+    (2, 1),
+    (1, 1),
+    (2, 3),
+    (1, 1),
+    (1, 1),
+    (1, 1),
+    (15, 32_767),
+    (17, 86_399),
+    (10, 1023),
+    (1, 1),
+];
+const STOP: usize = 5;
+/// Where the first timing point of a journey stands, and the first of its last eight fields.
+const FIRST: usize = 14;
+const DOOR_SIDE: usize = FIRST + 8;
+
+/// So many segments and timing points, at most 31 a segment, every number of as many groups as its field allows.
+fn journey(segments: u32, points: u32) -> Vec<Field> {
+    let mut fields = vec![same(8, 4), same(32, u32::MAX), same(24, 16_777_215), same(15, 32_767), same(17, 86_399), same(8, 255)];
+    fields.extend([same(3, 4), same(8, segments)]);
+    let mut left = points;
+    for _ in 0..segments {
+        let here = left.min(31);
+        left -= here;
+        fields.extend([same(10, 1023), same(32, u32::MAX), same(8, 255), same(8, 255), same(1, 1), same(5, here)]);
+        for _ in 0..here {
+            fields.extend(POINT.map(|(width, value)| same(width, value)));
+        }
+        fields.push(same(5, 0));
+    }
+    assert_eq!(left, 0);
+    fields
+}
+
+fn refuses(fields: &[Field], refusal: Refusal) {
+    assert_eq!(sheet_of(&packet(fields)), Err(refusal));
+    assert_eq!(packet_of(&sheet(fields)), Err(refusal));
+}
+
+fn converts(fields: &[Field]) {
+    let (packet, sheet) = (packet(fields), sheet(fields));
+    assert_eq!(sheet_of(&packet).unwrap(), sheet);
+    assert_eq!(packet_of(&sheet).unwrap(), packet);
+}
+
+#[test]
+fn a_journey_goes_both_ways() {
+    assert_eq!(sheet_of(&PACKET).unwrap(), SHEET);
+    assert_eq!(packet_of(&SHEET).unwrap(), PACKET);
+    converts(&journey(0, 0));
+    converts(&journey(3, 40));
+}
+
+#[test]
+fn the_room_is_exact_or_stays_as_it_was() {
+    assert_eq!(packet_to_sheet(&PACKET, &mut [0; 52]), Ok(52));
+    assert_eq!(sheet_to_packet(&SHEET, &mut [0; 42]), Ok(42));
+    let mut room = [0xA5; 51];
+    assert_eq!(packet_to_sheet(&PACKET, &mut room), Err(Refusal::ShortRoom));
+    assert_eq!(sheet_to_packet(&SHEET, &mut room[..41]), Err(Refusal::ShortRoom));
+    assert_eq!(room, [0xA5; 51]);
+}
+
+#[test]
+fn the_longest_journeys_fit_the_largest_rooms() {
+    let most_bits = journey(41, 486);
+    assert_eq!(packet(&most_bits).len(), LARGEST_JOURNEY_PACKET);
+    converts(&most_bits);
+    // the most numbers of many groups in the fewest bits: timing points, 31 a segment
+    let most_bytes = journey(18, 498);
+    assert!((15_212..=LARGEST_JOURNEY_SHEET).contains(&sheet(&most_bytes).len()));
+    converts(&most_bytes);
+}
+
+#[test]
+fn a_long_body_is_refused_after_9_and_4_and_before_8() {
+    // 65,537 bits, the next after 65,534; a segment more; the most that the counts allow
+    for (segments, points) in [(56, 478), (42, 486), (255, 31 * 255)] {
+        let long = sheet(&journey(segments, points));
+        assert_eq!(packet_of(&long), Err(Refusal::LongBody));
+        assert_eq!(sheet_to_packet(&long, &mut []), Err(Refusal::LongBody));
+        assert_eq!(packet_of(&[&long[..], &[0]].concat()), Err(Refusal::SheetForm));
+        let (&last, before) = long.split_last().unwrap();
+        assert_eq!(packet_of(before), Err(Refusal::SheetForm));
+        assert_eq!(packet_of(&[before, &[last + 1]].concat()), Err(Refusal::FieldValue));
+    }
+}
+
+#[test]
+fn the_eight_fields_of_a_halt_are_0_at_a_passing_point() {
+    let mut passing = journey(1, 1);
+    passing[FIRST + STOP] = same(2, 2);
+    refuses(&passing, Refusal::FieldValue);
+    for place in DOOR_SIDE..FIRST + POINT.len() {
+        passing[place] = same(POINT[place - FIRST].0, 0);
+    }
+    converts(&passing);
+    for place in DOOR_SIDE..FIRST + POINT.len() {
+        let mut one = passing.clone();
+        one[place] = same(POINT[place - FIRST].0, 1);
+        refuses(&one, Refusal::FieldValue);
+    }
+}
+
+#[test]
+fn ranges_end_where_the_request_says() {
+    let past =
+        [(6, 3, 5), (FIRST + 2, 17, 86_401), (FIRST + 4, 2, 3), (FIRST + 5, 2, 3), (FIRST + 6, 2, 2), (FIRST + 13, 17, 86_400)];
+    for (place, width, value) in past.into_iter().chain([(FIRST + POINT.len(), 5, 1)]) {
+        let mut fields = journey(1, 1);
+        fields[place] = same(width, value);
+        refuses(&fields, Refusal::FieldValue);
+    }
+}
+
+#[test]
+fn a_question_needs_a_segment() {
+    let train = Train { length: 0, cant: 0, freight_p: false, freight_g: false, passenger: false };
+    for fields in [journey(0, 0), journey(1, 1)] {
+        assert_eq!(speed_from_packet(&packet(&fields), train, 0), Err(Refusal::PacketNumber));
+        assert_eq!(speed_from_sheet(&sheet(&fields), train, 0), Err(Refusal::PacketNumber));
+        assert_eq!(altitude_of_packet(&packet(&fields)), Err(Refusal::PacketNumber));
+    }
+}
