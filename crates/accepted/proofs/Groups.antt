@@ -2,7 +2,7 @@
 -- Assumes nothing.
 use mathlib.Core.Path.{_≡_, refl, _∙_}
 use mathlib.Core.List.{List}
-use Prim.Native.Nat.{ℕ, zero, suc, _+_, _*_, _-_, _^_, _≤_, _<_}
+use Prim.Native.Nat.{ℕ, zero, suc, _+_, _*_, _/_, _%_, _-_, _^_, _≤_, _<_}
 use native.Mathlib.Nat.{mul-le-mul-left, mul-add, mul-assoc, mul-comm}
 use native.Mathlib.Omega.{arith}
 use borrow.Author.Tests.{ltb-true, ltb-false}
@@ -12,6 +12,7 @@ use Rattle.bits.proofs.Tests.{by-cases}
 use Rattle.numbers.specs.declared.Number.{Number}
 use Rattle.numbers.specs.declared.Number.the-variants.{Value, Bad}
 use Rattle.numbers.specs.Numbers.{joined, groupsAt, below, numberOf, numberIn, groupsIn}
+use Rattle.accepted.specs.Accepted.{There, Reads}
 use Rattle.numbers.proofs.Counting.{last-count, count-more}
 use Rattle.numbers.proofs.Reading.{number-none, number-end, number-last, number-more}
 
@@ -46,8 +47,12 @@ pub record Rest (s : List ℕ) (from at value scale b : ℕ) : Type 0 where
   pub group : b ≡ getD s at 0
   pub byte : b < 256
 
-pub inside : (s : List ℕ) (at most v : ℕ) → numberOf most (drop at s) ≡ Value v → at < length s
+inside : (s : List ℕ) (at most v : ℕ) → numberOf most (drop at s) ≡ Value v → at < length s
 inside s at most v e = by-cases (ltb at (length s)) (λ d. ltb-true at (length s) d) (λ d. bad (number-end s at most (ltb-false at (length s) d) ∙ e))
+
+pub there-inside : {s : List ℕ} {at : ℕ} → There s at → at < length s
+unfolding numberOf
+there-inside {s} {at} t = inside s at 5 (t .value) (t .is)
 
 pub rest-start : (s : List ℕ) (at v b : ℕ) → numberIn (drop at s) ≡ Value v → b ≡ getD s at 0 → b < 256 → Rest s at at 0 1 b
 unfolding numberOf
@@ -67,6 +72,9 @@ module _ {s : List ℕ} {from at value scale b : ℕ} (r : Rest s from at value 
       let e : Value b ≡ Value (r .rest) = rw (r .group) (number-last s at (r .most) some rest-inside (rw (r .group) at h) ∙ r .is) in
       let q : r .rest ≡ b = cc in
       (rw (← mul-comm scale b) (rw q at (r .parts)), omega (arith, rw q at (r .place), last-count b h))
+
+  pub rest-reads : {n to : ℕ} → r .v ≡ n → to ≡ from + length (groupsIn (r .v)) → Reads s from (record { value = n; next = to })
+  rest-reads q p = record { is = rw q at (r .whole); next = rw q at p }
 
   module _ (h : 128 ≤ b) where
     -- what follows the group
@@ -100,3 +108,36 @@ module _ {s : List ℕ} {from at value scale b : ℕ} (r : Rest s from at value 
           group = e;
           byte = k;
         }
+
+-- one group or two: the second place to look at is the first where one is all
+module _ {s : List ℕ} {from b : ℕ} (t : There s from) (g : b ≡ getD s from 0) (h : getD s from 0 < 256) where
+  start : Rest s from from 0 1 b
+  start = rest-start s from (t .value) b (t .is) g (omega arith)
+
+  pub short-inside : from + b / 128 < length s
+  short-inside =
+      by-cases (ltb b 128)
+      (λ d. let l = ltb-true b 128 d in omega (arith, rest-inside start))
+      (λ d. let l = ltb-false b 128 d in omega (arith, rest-next start l))
+
+  pub short-small : (a : ℕ) → a < 128 → a * (b / 128 * 128) < 16384
+  short-small a k =
+      by-cases (ltb b 128)
+      (λ d. let l = ltb-true b 128 d in let o : b / 128 ≡ 0 = omega arith in rw o (omega arith))
+      (λ d. let l = ltb-false b 128 d in let o : b / 128 ≡ 1 = omega arith in rw o (omega arith))
+
+  pub short-reads : (a : ℕ) → a ≡ getD s (from + b / 128) 0 → a < 128 → Reads s from (record { value = b % 128 + a * (b / 128 * 128); next = from + 1 + b / 128 })
+  short-reads a e k =
+      by-cases (ltb b 128)
+      (λ d.
+      let l = ltb-true b 128 d in
+      let o : b / 128 ≡ 0 = omega arith in
+      let w = rest-last start l in
+      rest-reads start (rw o (omega (arith, w .0))) (rw o (omega (arith, w .1))))
+      (λ d.
+      let l = ltb-false b 128 d in
+      let o : b / 128 ≡ 1 = omega arith in
+      let r = rest-more start l a (rw o at e) (omega arith) in
+      let w = rest-last r k in
+      let q : a * (b / 128 * 128) ≡ a * 128 = rw o in
+      rest-reads r (omega (arith, w .0, q)) (omega (arith, w .1)))

@@ -1,4 +1,4 @@
-// A number of an accepted sheet, read group by group. Its form and its size are not judged again.
+// A number of an accepted sheet, read. Its form and its size are not judged again.
 ghost use mathlib.Core.Path.{_≡_};
 ghost use Rattle.accepted.specs.Accepted.{There, Reads};
 
@@ -14,8 +14,8 @@ fn wide(x: u8) -> u32
     x as u32
 }
 
-// The number at the byte from.
-pub fn number(s: &[u8], from: usize) -> Taken
+// The number at the byte from, group by group.
+fn longer(s: &[u8], from: usize) -> Taken
     requires { ⌜ There (now s) from ⌝ }
     ensures { λ r. ⌜ Reads (now (s .entry)) from r ⌝ }
 {
@@ -33,4 +33,21 @@ pub fn number(s: &[u8], from: usize) -> Taken
         value: value + b * scale,
         next: at + 1,
     }
+}
+
+// The number at the byte from: mostly of one group or two, which no branch tells apart.
+pub fn number(s: &[u8], from: usize) -> Taken
+    requires { ⌜ There (now s) from ⌝ }
+    ensures { λ r. ⌜ Reads (now (s .entry)) from r ⌝ }
+{
+    let b = wide(s[from]);
+    let more = b / 128;
+    let last = wide(s[from + more as usize]);
+    if last < 128 {
+        return Taken {
+            value: b % 128 + last * (more * 128),
+            next: from + 1 + more as usize,
+        };
+    }
+    longer(s, from)
 }

@@ -4,7 +4,7 @@ use mathlib.Core.Path.{_≡_, refl, sym, ap, ap₂, _∙_}
 use mathlib.Core.Bool.{Bool, true, false}
 use mathlib.Core.List.{List, [], _++_, append-assoc, append-nil}
 use mathlib.Core.Option.{Option, none, some}
-use Prim.Native.Nat.{ℕ, _+_, _*_, _/_, _%_, _^_, _≤_, _<_}
+use Prim.Native.Nat.{ℕ, _+_, _*_, _^_, _≤_, _<_}
 use native.Mathlib.Nat.{mod-eq-of-lt}
 use native.Mathlib.Omega.{arith}
 use lib.ListN.{length, drop, length-append, length-drop}
@@ -14,9 +14,10 @@ use Rattle.bits.proofs.Spelling.{bits-append, bits-low}
 use Rattle.numbers.specs.declared.Number.{Number}
 use Rattle.numbers.specs.declared.Number.the-variants.{Value, Bad}
 use Rattle.numbers.specs.Numbers.{numberIn, groupsIn}
-use Rattle.numbers.specs.Groups.{counted}
 use Rattle.numbers.proofs.Counting.{count-some}
 use Rattle.numbers.proofs.Reading.{number-only}
+use Rattle.accepted.specs.declared.Taken.{Taken}
+use Rattle.accepted.specs.Accepted.{There, Reads}
 use Rattle.filling.specs.Filling.{Filling}
 use Rattle.kinds.specs.Kind.{Kind, when}
 use Rattle.kinds.specs.Judged.{numberInSheet}
@@ -34,8 +35,7 @@ use Rattle.format.proofs.Passing.{pass-read, sheet-seen}
 use Rattle.format.proofs.Tasks.{made-record}
 use Rattle.format.proofs.Ways.{took-is, took-off, left-all, left-as, left-none, left-on, left-value, ahead-first, ahead-left, ahead-never}
 use Rattle.fill_element.specs.declared.Spot.{Spot}
-use Rattle.fill_element.specs.declared.TakenNumber.{TakenNumber}
-use Rattle.fill_element.specs.Writing.{Takes, writer, Few, Ready, Puts, Wrote}
+use Rattle.fill_element.specs.Writing.{writer, Few, Ready, Puts, Wrote}
 
 -- ---- bits
 
@@ -83,21 +83,24 @@ module _ (k : Kind) (part : ℕ → Format → Format) (s : List ℕ) (ok : Byte
       go none q = let z : Refused (k .refusal) ≡ takenAt (numberInSheet k b) (at + length (groupsIn b)) = rw q in never (z ∙ number-found k s at e)
       go (some u) q = refl
 
-  number-here : (m : Number) → numberIn (drop at s) ≡ m → (n to : ℕ) → n ≡ counted m % 4294967296 → to ≡ at + counted m / 4294967296 → Has k s at n to (lowered k n)
-  number-here Bad e n to p q = never (number-none k s at e)
-  number-here (Value b) e n to p q =
-      let w = number-only (drop at s) b (bytes-drop at s ok) e in
-      let g : ℕ = length (groupsIn b) in
-      let v : n ≡ b = omega (arith, p, w .small) in
-      let d : to ≡ at + g = omega (arith, q, w .small) in
-      let l : at + g ≤ length s = omega (arith, ap length (w .bytes), length-append (groupsIn b) (drop g (drop at s)), length-drop at s, count-some b) in
-      let o = lower-some b e in
-      let i : Is (record { sheet = b; packet = lowered k b }) (at + g) ≡ takenAt (numberInSheet k b) (at + g) = rw o in
-      rw (v, d)
-      record { lower = o; took = λ y. took-is (sheet-seen s) (recording packet) (λ n z. n ≤ length s) k tt (i ∙ number-found k s at e) l }
+  -- what is accepted has a number here
+  pub number-there : There s at
+  number-there = go (numberIn (drop at s)) refl
+    where
+      go : (m : Number) → numberIn (drop at s) ≡ m → There s at
+      go Bad e = never (number-none k s at e)
+      go (Value v) e = record { value = v; is = e }
 
-  pub number-there : {r : TakenNumber} → Takes s at r → Has k s at (r .value) (r .next) (lowered k (r .value))
-  number-there {r} t = number-here (numberIn (drop at s)) refl (r .value) (r .next) (t .value) (t .next)
+  pub number-has : {r : Taken} → Reads s at r → Has k s at (r .value) (r .next) (lowered k (r .value))
+  number-has {r} t =
+      let b : ℕ = r .value in
+      let g : ℕ = length (groupsIn b) in
+      let w = number-only (drop at s) b (bytes-drop at s ok) (t .is) in
+      let l : at + g ≤ length s = omega (arith, ap length (w .bytes), length-append (groupsIn b) (drop g (drop at s)), length-drop at s, count-some b) in
+      let o = lower-some b (t .is) in
+      let i : Is (record { sheet = b; packet = lowered k b }) (at + g) ≡ takenAt (numberInSheet k b) (at + g) = rw o in
+      rw (t .next)
+      record { lower = o; took = λ y. took-is (sheet-seen s) (recording packet) (λ n z. n ≤ length s) k tt (i ∙ number-found k s at (t .is)) l }
 
 same-is : (b : Bool) (n v : ℕ) → when b n ≡ some v → v ≡ n
 same-is true n v e = cc
@@ -124,9 +127,13 @@ module _ {s : List ℕ} {p : Format → Format} {from to : ℕ} {bits : List Boo
   gone-as r e g x = left-as r e (g x)
 
   -- a number that is there
-  pub gone-has : {room : List ℕ} {u : Spot} → Ready p s room u → u .from ≡ from → (k : Kind) (part : ℕ → Format → Format)
-      → Gone s p (λ f. field k (λ v. part v f)) from to bits → {r : TakenNumber} → Takes s to r → Has k s to (r .value) (r .next) (lowered k (r .value))
-  gone-has h e k part g t = number-there k part s (h .bytes) to (ahead-left (g (h .bits)) (rw e at (h .ahead))) t
+  module _ {room : List ℕ} {u : Spot} (h : Ready p s room u) (e : u .from ≡ from) (k : Kind) (part : ℕ → Format → Format)
+      (g : Gone s p (λ f. field k (λ v. part v f)) from to bits) where
+    pub gone-there : There s to
+    gone-there = number-there k part s (h .bytes) to (ahead-left (g (h .bits)) (rw e at (h .ahead)))
+
+    pub gone-has : {r : Taken} → Reads s to r → Has k s to (r .value) (r .next) (lowered k (r .value))
+    gone-has t = number-has k part s (h .bytes) to (ahead-left (g (h .bits)) (rw e at (h .ahead))) t
 
   -- it is taken
   pub gone-field : (k : Kind) (part : ℕ → Format → Format) → Gone s p (λ f. field k (λ v. part v f)) from to bits → {n after v : ℕ} → Has k s to n after v
@@ -196,23 +203,24 @@ module _ {s room : List ℕ} {u : Spot} where
       → Filling room (u .at) (u .wait) w v end r → Along p q s room u end (record { from = to; at = u .at + w; wait = r })
   along-once g {w} {v} e f = record { bits = bitsOf w v; gone = λ x. rw e at (g x); puts = puts-field puts-none f }
 
-pub along-inside : {p q : Format → Format} {s room mid : List ℕ} {u v : Spot} → Along p q s room u mid v → v .from ≤ length s
-along-inside l = l .gone [] .stands
-
 -- ---- a field that is put alone, and whose number in the sheet is its value
 
 pub along-small : {p q : Format → Format} {s room mid : List ℕ} {u v : Spot} → Along p q s room u mid v → Ready p s room u → v .at < 2 ^ 32
 along-small {q = q} l h = at-small (along-next q (λ f. f) l h)
 
 module _ {s room mid : List ℕ} {u v : Spot} {p : Format → Format} (k : Kind) (part : ℕ → Format → Format) (l : Along p (λ f. field k (λ x. part x f)) s room u mid v)
-    (h : Ready p s room u) {t : TakenNumber} (d : Takes s (v .from) t) (b : Bool) (e : k .lower (t .value) ≡ when b (t .value)) where
-  here : Has k s (v .from) (t .value) (t .next) (t .value)
-  here = has-same (gone-has h refl k part (l .gone) d) b e
+    (h : Ready p s room u) where
+  pub along-there : There s (v .from)
+  along-there = gone-there h refl k part (l .gone)
 
-  pub plain-small : LawfulKind k → t .value < 2 ^ k .width
-  plain-small w = has-small here w
+  module _ {t : Taken} (d : Reads s (v .from) t) (b : Bool) (e : k .lower (t .value) ≡ when b (t .value)) where
+    here : Has k s (v .from) (t .value) (t .next) (t .value)
+    here = has-same (gone-has h refl k part (l .gone) d) b e
 
-  pub along-put : {w : ℕ} → k .width ≡ w → {end : List ℕ} {r : ℕ} → Filling mid (v .at) (v .wait) w (t .value) end r
-      → Along p (part (t .value)) s room u end (record { from = t .next; at = v .at + w; wait = r })
-  along-put {w} q f =
-      record { bits = l .bits ++ bitsOf w (t .value); gone = rw q at (gone-field k part (l .gone) here); puts = puts-field (l .puts) f }
+    pub plain-small : LawfulKind k → t .value < 2 ^ k .width
+    plain-small w = has-small here w
+
+    pub along-put : {w : ℕ} → k .width ≡ w → {end : List ℕ} {r : ℕ} → Filling mid (v .at) (v .wait) w (t .value) end r
+        → Along p (part (t .value)) s room u end (record { from = t .next; at = v .at + w; wait = r })
+    along-put {w} q f =
+        record { bits = l .bits ++ bitsOf w (t .value); gone = rw q at (gone-field k part (l .gone) here); puts = puts-field (l .puts) f }

@@ -3,24 +3,15 @@
 use mathlib.Core.Path.{_≡_}
 use mathlib.Core.Bool.{Bool}
 use mathlib.Core.List.{List, _++_}
-use Prim.Native.Nat.{ℕ, _+_, _/_, _%_, _^_, _≤_, _<_}
+use Prim.Native.Nat.{ℕ, _^_, _≤_, _<_}
 use lib.ListN.{length, drop}
 use Rattle.bits.specs.Bits.{Bytes}
-use Rattle.numbers.specs.Numbers.{numberIn}
-use Rattle.numbers.specs.Groups.{counted}
 use Rattle.filling.specs.Filling.{Filled}
 use Rattle.format.specs.Format.{Format}
 use Rattle.format.specs.Media.{packet, sheet}
 use Rattle.format.specs.Tasks.{Told, recording}
 use Rattle.format.specs.Ways.{Way, passing, Went, Over, Ahead}
 use Rattle.fill_element.specs.declared.Spot.{Spot}
-use Rattle.fill_element.specs.declared.TakenNumber.{TakenNumber}
-
--- the number at a place: its value, and the place after it
-pub record Takes (s : List ℕ) (from : ℕ) (r : TakenNumber) : Type 0 where
-  pub value : r .value ≡ counted (numberIn (drop from s)) % 4294967296
-  pub next : r .next ≡ from + counted (numberIn (drop from s)) / 4294967296
-  pub near : r .next < from + 2 ^ 32
 
 -- the bits so far are carried from number to number
 abbrev pub writer : List ℕ → Way (List Bool) (Told (List Bool))

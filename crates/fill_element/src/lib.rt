@@ -1,11 +1,10 @@
-// An element of a list of an accepted sheet, put into its packet: a place in both, a number taken, and what an element begins with.
+// An element of a list of an accepted sheet, put into its packet: a place in both, and what an element begins with.
 ghost use mathlib.Core.Path.{_≡_};
-ghost use Prim.Native.Nat.{_+_, _^_, _≤_};
 ghost use Rattle.kinds.specs.Tables.{cantFigures};
 ghost use Rattle.segment.specs.Segment as segment;
 ghost use Rattle.segment.specs.Parts as parts;
 ghost use Rattle.segment.specs.Parts.{startOf};
-ghost use Rattle.fill_element.specs.Writing.{Takes, Ready, Wrote};
+ghost use Rattle.fill_element.specs.Writing.{Ready, Wrote};
 use fields::tables;
 use kinds::body;
 use segment::Part;
@@ -17,32 +16,14 @@ pub struct Spot {
     pub wait: u64,
 }
 
-// A number of the sheet, and the place after it.
-pub struct TakenNumber {
-    pub value: u32,
-    pub next: usize,
-}
-
-// The number at a place of the sheet.
-pub fn take(sheet: &[u8], from: usize) -> TakenNumber
-    requires { ⌜ from + 2 ^ 32 ≤ 2 ^ 64 ⌝ }
-    ensures { λ r. ⌜ Takes (now (sheet .entry)) from r ⌝ }
-{
-    let a = numbers::counted_at(sheet, from);
-    TakenNumber {
-        value: (a % 4294967296) as u32,
-        next: from + (a / 4294967296) as usize,
-    }
-}
-
 // Q_DIFF, class and V_DIFF, put at once.
 fn entry(sheet: &[u8], figures: &[u32; 11], room: &mut [u8], p: Spot) -> Spot
     requires { ⌜ Ready parts.entry (now sheet) (now room) p × (now figures ≡ cantFigures) ⌝ }
     ensures { λ r. ⌜ Wrote parts.entry (now (sheet .entry)) (now (room .entry)) p (now (room .exit)) r ⌝ }
 {
-    let q = take(sheet, p.from);
-    let a = take(sheet, q.next);
-    let v = take(sheet, a.next);
+    let q = accepted::number(sheet, p.from);
+    let a = accepted::number(sheet, q.next);
+    let v = accepted::number(sheet, a.next);
     let class = lowering::class_place(figures, q.value, a.value);
     let bits = q.value * 2048 + class * 128 + lowering::speed_steps(v.value);
     let wait = filling::put(room, p.at, p.wait, 13, bits);
@@ -73,9 +54,9 @@ fn profile(sheet: &[u8], room: &mut [u8], p: Spot) -> Spot
     requires { ⌜ Ready segment.profile (now sheet) (now room) p ⌝ }
     ensures { λ r. ⌜ Wrote segment.profile (now (sheet .entry)) (now (room .entry)) p (now (room .exit)) r ⌝ }
 {
-    let v = take(sheet, p.from);
-    let q = take(sheet, v.next);
-    let n = take(sheet, q.next);
+    let v = accepted::number(sheet, p.from);
+    let q = accepted::number(sheet, v.next);
+    let n = accepted::number(sheet, q.next);
     let bits = lowering::speed_steps(v.value) * 64 + q.value * 32 + n.value;
     let wait = filling::put(room, p.at, p.wait, 13, bits);
     let first = Spot {
@@ -91,8 +72,8 @@ fn wire(sheet: &[u8], room: &mut [u8], p: Spot) -> Spot
     requires { ⌜ Ready segment.voltage (now sheet) (now room) p ⌝ }
     ensures { λ r. ⌜ Wrote segment.voltage (now (sheet .entry)) (now (room .entry)) p (now (room .exit)) r ⌝ }
 {
-    let u = take(sheet, p.from);
-    let n = take(sheet, u.next);
+    let u = accepted::number(sheet, p.from);
+    let n = accepted::number(sheet, u.next);
     let bits = lowering::volts_place(u.value) * 1024 + n.value;
     let wait = filling::put(room, p.at, p.wait, 14, bits);
     Spot {
@@ -107,7 +88,7 @@ fn amperes(sheet: &[u8], room: &mut [u8], p: Spot) -> Spot
     requires { ⌜ Ready segment.current (now sheet) (now room) p ⌝ }
     ensures { λ r. ⌜ Wrote segment.current (now (sheet .entry)) (now (room .entry)) p (now (room .exit)) r ⌝ }
 {
-    let a = take(sheet, p.from);
+    let a = accepted::number(sheet, p.from);
     let wait = filling::put(
         room,
         p.at,

@@ -4,65 +4,30 @@ use mathlib.Core.Path.{_≡_, refl}
 use mathlib.Core.Bool.{Bool}
 use mathlib.Core.List.{List, _++_, append-assoc}
 use Prim.Native.Nat.{ℕ, _≤_, _<_, _^_, _+_}
-use native.Mathlib.Omega.{arith}
-use lib.ListN.{length, drop}
-use Rattle.bits.specs.Bits.{Bytes, bitsOf}
+use Rattle.bits.specs.Bits.{bitsOf}
 use Rattle.filling.specs.Filling.{Filling}
-use Rattle.numbers.specs.declared.Number.{Number}
-use Rattle.numbers.specs.declared.Number.the-variants.{Value, Bad}
-use Rattle.numbers.specs.Numbers.{numberIn}
-use Rattle.numbers.proofs.Counting.{count-five}
-use Rattle.numbers.proofs.Reading.{number-only}
-use Rattle.accepted.specs.declared.Taken as read
+use Rattle.accepted.specs.declared.Taken.{Taken}
 use Rattle.accepted.specs.Accepted.{There, Reads}
 use Rattle.kinds.specs.Kind.{Kind, upTo}
 use Rattle.fields.proofs.Lawful.{upTo-lawful}
 use Rattle.format.specs.Format.{Format, field}
-use Rattle.format.specs.Media.{packet}
-use Rattle.format.specs.Tasks.{recording}
-use Rattle.format.proofs.Media.{bytes-drop}
-use Rattle.format.proofs.Passing.{sheet-seen}
-use Rattle.format.proofs.Places.{number-none}
-use Rattle.format.proofs.Ways.{took-off, left-value, ahead-left, ahead-never}
+use Rattle.format.proofs.Ways.{left-value}
 use Rattle.fill_element.specs.declared.Spot.{Spot}
-use Rattle.fill_element.specs.declared.TakenNumber.{TakenNumber}
-use Rattle.fill_element.specs.Writing.{Takes, Ready}
-use Rattle.fill_element.proofs.Writing.{Has, has-same, has-small, Gone, gone-has, gone-all, Along, along-next, puts-none, puts-field, puts-on}
+use Rattle.fill_element.specs.Writing.{Ready}
+use Rattle.fill_element.proofs.Writing.{Has, has-same, has-small, Gone, gone-all, gone-there, gone-has, Along, along-next, puts-none, puts-field, puts-on}
 use Rattle.fill_row.specs.declared.Given.{Given}
 use Rattle.fill_row.specs.Alone.{Offers, Gives}
 
--- the number read at a place, as a pass takes it
-abbrev taken : read.Taken → TakenNumber
-taken r = record { value = r .value; next = r .next }
-
-takes : {s : List ℕ} {at : ℕ} {r : read.Taken} → Bytes s → Reads s at r → Takes s at (taken r)
-takes {s} {at} {r} ok h =
-    let l = number-only (drop at s) (r .value) (bytes-drop at s ok) (h .is) .small in
-    record {
-      value = rw (h .is) (omega arith);
-      next = rw (h .is) (omega (arith, h .next));
-      near = omega (arith, h .next, count-five (r .value));
-    }
-
 -- the number of a field that what is left of a part begins with
-module _ {p : Format → Format} {s room : List ℕ} {u : Spot} (h : Ready p s room u) (width most : ℕ) (part : ℕ → Format → Format) {to : ℕ} {bits : List Bool}
-    (g : Gone s p (λ f. field (upTo width most) (λ v. part v f)) (u .from) to bits) where
-  pub left-there : There s to
-  left-there = go (numberIn (drop to s)) refl
-    where
-      go : (m : Number) → numberIn (drop to s) ≡ m → There s to
-      go Bad e =
-          ahead-never part (λ z. z) (took-off (sheet-seen s) (recording packet) (λ n y. n ≤ length s) (upTo width most) tt (number-none (upTo width most) s to e)) (ahead-left (g (h .bits)) (h .ahead))
-      go (Value v) e = record { value = v; is = e }
-
-  pub left-has : {a : read.Taken} → Reads s to a → Has (upTo width most) s to (a .value) (a .next) (a .value)
-  left-has {a} t = has-same (gone-has h refl (upTo width most) part g (takes (h .bytes) t)) (upTo width most .allowed (a .value)) refl
+pub left-has : {p : Format → Format} {s room : List ℕ} {u : Spot} → Ready p s room u → (width most : ℕ) (part : ℕ → Format → Format) {to : ℕ} {bits : List Bool}
+    → Gone s p (λ f. field (upTo width most) (λ v. part v f)) (u .from) to bits → {a : Taken} → Reads s to a → Has (upTo width most) s to (a .value) (a .next) (a .value)
+left-has h width most part g {a} t = has-same (gone-has h refl (upTo width most) part g t) (upTo width most .allowed (a .value)) refl
 
 module _ {width most : ℕ} {s room : List ℕ} {p : Spot} (h : Offers (upTo width most) s room p) where
   pub number-there : There s (p .from)
-  number-there = left-there (h .ready) width most (h .part) (gone-all (h .ready .inside))
+  number-there = gone-there (h .ready) refl (upTo width most) (h .part) (gone-all (h .ready .inside))
 
-  module _ {a : read.Taken} (t : Reads s (p .from) a) where
+  module _ {a : Taken} (t : Reads s (p .from) a) where
     has : Has (upTo width most) s (p .from) (a .value) (a .next) (a .value)
     has = left-has (h .ready) width most (h .part) (gone-all (h .ready .inside)) t
 

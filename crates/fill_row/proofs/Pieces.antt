@@ -12,7 +12,7 @@ use lib.Pow.{pow-mono}
 use Rattle.bits.specs.Bits.{bitsOf}
 use Rattle.bits.proofs.Parts.{join-small}
 use Rattle.filling.specs.Filling.{Filling}
-use Rattle.accepted.specs.declared.Taken as read
+use Rattle.accepted.specs.declared.Taken.{Taken}
 use Rattle.accepted.specs.Accepted.{There, Reads}
 use Rattle.kinds.specs.Kind.{upTo}
 use Rattle.fields.proofs.Lawful.{upTo-lawful}
@@ -20,9 +20,9 @@ use Rattle.format.specs.Format.{then}
 use Rattle.rows.specs.Rows.{row, fits}
 use Rattle.fill_element.specs.declared.Spot.{Spot}
 use Rattle.fill_element.specs.Writing.{Ready, Wrote}
-use Rattle.fill_element.proofs.Writing.{bits-join, Has, has-small, Gone, gone-all, gone-as, gone-field, wrote-once}
+use Rattle.fill_element.proofs.Writing.{bits-join, Has, has-small, Gone, gone-all, gone-as, gone-there, gone-field, wrote-once}
 use Rattle.fill_row.specs.Pieces.{rowBits}
-use Rattle.fill_row.proofs.Alone.{left-there, left-has}
+use Rattle.fill_row.proofs.Alone.{left-has}
 use Rattle.fill_row.proofs.Rows.{rowFrom, Fits, fits-long, fits-at, row-more, row-none, bits-more, bits-none}
 
 pub record Gathers (ws ms s : List ℕ) (u : Spot) (total i from bits : ℕ) : Type 0 where
@@ -50,12 +50,12 @@ module _ {ws ms s room : List ℕ} {u : Spot} {total i from bits : ℕ} (h : Rea
     left = gone-as (λ x. then (upTo w m) (rowFrom ws ms (i + 1) x)) (row-more ws ms i l (fits-long ws ms f)) (g .gone)
 
     pub gathers-there : There s from
-    gathers-there = left-there h w m (λ v. rowFrom ws ms (i + 1)) left
+    gathers-there = gone-there h refl (upTo w m) (λ v. rowFrom ws ms (i + 1)) left
 
     pub gathers-narrow : w ≤ 32
     gathers-narrow = fit .most
 
-    module _ {a : read.Taken} (t : Reads s from a) where
+    module _ {a : Taken} (t : Reads s from a) where
       has : Has (upTo w m) s from (a .value) (a .next) (a .value)
       has = left-has h w m (λ v. rowFrom ws ms (i + 1)) left t
 

@@ -19,7 +19,7 @@ fn changes(part: Part, sheet: &[u8], room: &mut [u8], from: Spot, lsp: u32, coun
     let mut last: u32 = 0;
     let mut left = count;
     while 0 < left {
-        let x = fill_element::take(sheet, p.from);
+        let x = accepted::number(sheet, p.from);
         let wait = filling::put(room, p.at, p.wait, body::DLocation::WIDTH, x.value);
         let next = Spot {
             from: x.next,
@@ -39,7 +39,7 @@ fn list(part: Part, sheet: &[u8], room: &mut [u8], p: Spot, lsp: u32, limit: u32
     ensures { λ r. ⌜ Wrote (segment.part (startOf part) limit lsp) (now (sheet .entry)) (now (room .entry)) p (now (room .exit)) r ⌝ }
 {
     let first = fill_element::element(part, sheet, room, p);
-    let n = fill_element::take(sheet, first.from);
+    let n = accepted::number(sheet, first.from);
     let wait = filling::put(room, first.at, first.wait, body::NIter::WIDTH, n.value);
     let next = Spot {
         from: n.next,
@@ -85,7 +85,7 @@ fn run(sheet: &[u8], room: &mut [u8], from: Spot, first: u32, end: u32) -> Spot
     let mut p = from;
     let mut i = first;
     while i < end {
-        let a = fill_element::take(sheet, p.from);
+        let a = accepted::number(sheet, p.from);
         let width = table[i as usize];
         let wait = filling::put(room, p.at, p.wait, width, a.value);
         p = Spot {
@@ -112,7 +112,7 @@ pub fn body(sheet: &[u8], room: &mut [u8], p: Spot) -> Spot
     ensures { λ r. ⌜ Wrote bodyPart (now (sheet .entry)) (now (room .entry)) p (now (room .exit)) r ⌝ }
 {
     let names = run(sheet, room, p, 5, 9);
-    let l = fill_element::take(sheet, names.from);
+    let l = accepted::number(sheet, names.from);
     let wait = filling::put(room, names.at, names.wait, body::LSp::WIDTH, l.value);
     let next = Spot {
         from: l.next,

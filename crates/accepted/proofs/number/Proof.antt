@@ -1,85 +1,78 @@
--- `accepted::number` meets its contract. The loop's invariant: the rest of the number, after the groups that are read.
-use Prim.Native.Nat.{_+_, _-_}
-use lib.ListN.{length}
-use Rattle.accepted.proofs.Groups.{Rest, inside, rest-start, rest-inside, rest-last, rest-value, rest-scale, rest-next, rest-more}
+-- `accepted::number` meets its contract.
+use Rattle.accepted.proofs.Groups.{there-inside, short-inside, short-small, short-reads}
 use native.Mathlib.Omega.{arith}
+use borrow.Author.Needs.{needs}
 use Rattle.accepted.proofs.number.Statement.{statement}
 use Rattle.accepted.proofs.number.Tie as tie
 
-abbrev Inv-loop : tie.InvT-loop
-Inv-loop s from at₀ value₀ scale₀ b₀ at value scale b = Rest s from at value scale b
+shared-slice-read-wide : tie.Need-shared-slice-read-wide
+shared-slice-read-wide c = there-inside (c .before .before .pre)
 
-abbrev μ-loop : tie.MeasureT-loop
-μ-loop s from at₀ value₀ scale₀ b₀ at value scale b = length s - at
+wide-requires : tie.Need-wide-requires
+wide-requires c κs = search needs
 
-shared-slice-read-wide : tie.Need-shared-slice-read-wide Inv-loop μ-loop
-shared-slice-read-wide c = inside (c .before .before .args .s .now) (c .before .before .args .from) 5 (c .before .before .pre .value) (c .before .before .pre .is)
+cast-wide : tie.Need-cast-wide
+cast-wide c = search needs
 
-wide-requires : tie.Need-wide-requires Inv-loop μ-loop
-wide-requires c κs = tt
+add-wide : tie.Need-add-wide
+add-wide c =
+    omega (arith, short-inside (c .before .before .before .pre) (c .wide .ensures) (c .before .shared-slice-known2 .given (c .before .before .before .args .from) .fits))
 
-loop-holds : tie.Need-loop-holds Inv-loop μ-loop
-loop-holds c =
-    rest-start (c .before .before .before .args .s .now) (c .before .before .before .args .from) (c .before .before .before .pre .value) (c .wide .result) (c .before .before .before .pre .is) (c .wide .ensures) (omega (arith, c .wide .ensures, c .before .shared-slice-known2 .given (c .before .before .before .args .from)))
+shared-slice-read-wide-2 : tie.Need-shared-slice-read-wide-2
+shared-slice-read-wide-2 c =
+    short-inside (c .before .before .before .before .pre) (c .before .wide .ensures) (c .before .before .shared-slice-known2 .given (c .before .before .before .before .args .from) .fits)
 
-mul-value : tie.Need-mul-value Inv-loop μ-loop
-mul-value c = omega (arith, rest-value (c .before .loop .inv) (c .loop-test .taken), c .before .loop .inv .small)
+wide-requires-2 : tie.Need-wide-requires-2
+wide-requires-2 c κs = search needs
 
-add-value : tie.Need-add-value Inv-loop μ-loop
-add-value c = omega (arith, rest-value (c .before .loop .inv) (c .loop-test .taken), c .before .loop .inv .small)
+mul-t13 : tie.Need-mul-t13
+mul-t13 c = search needs
 
-mul-scale : tie.Need-mul-scale Inv-loop μ-loop
-mul-scale c = omega (arith, rest-scale (c .before .loop .inv) (c .loop-test .taken), c .before .loop .inv .small)
+mul-t14 : tie.Need-mul-t14
+mul-t14 c =
+    omega (arith, short-small (c .before .before .before .before .before .before .pre) (c .before .before .before .wide .ensures) (c .before .before .before .before .shared-slice-known2 .given (c .before .before .before .before .before .before .args .from) .fits) (c .before .wide2 .result) (omega arith))
 
-add-at : tie.Need-add-at Inv-loop μ-loop
-add-at c = omega (arith, rest-inside (c .before .loop .inv))
+add-t15 : tie.Need-add-t15
+add-t15 c =
+    omega (arith, short-small (c .before .before .before .before .before .before .pre) (c .before .before .before .wide .ensures) (c .before .before .before .before .shared-slice-known2 .given (c .before .before .before .before .before .before .args .from) .fits) (c .before .wide2 .result) (omega arith))
 
-shared-slice-read-wide-2 : tie.Need-shared-slice-read-wide-2 Inv-loop μ-loop
-shared-slice-read-wide-2 c = rest-next (c .before .before .loop .inv) (c .before .loop-test .taken)
+add-t16 : tie.Need-add-t16
+add-t16 c =
+    omega (arith, short-inside (c .before .before .before .before .before .before .pre) (c .before .before .before .wide .ensures) (c .before .before .before .before .shared-slice-known2 .given (c .before .before .before .before .before .before .args .from) .fits))
 
-wide-requires-2 : tie.Need-wide-requires-2 Inv-loop μ-loop
-wide-requires-2 c κs = tt
+cast-t17 : tie.Need-cast-t17
+cast-t17 c = search needs
 
-loop-less : tie.Need-loop-less Inv-loop μ-loop
-loop-less c = omega (arith, rest-inside (c .before .before .before .loop .inv))
+add-t18 : tie.Need-add-t18
+add-t18 c =
+    omega (arith, short-inside (c .before .before .before .before .before .before .pre) (c .before .before .before .wide .ensures) (c .before .before .before .before .shared-slice-known2 .given (c .before .before .before .before .before .before .args .from) .fits))
 
-loop-again : tie.Need-loop-again Inv-loop μ-loop
-loop-again c =
-    rest-more (c .before .before .before .loop .inv) (c .before .before .loop-test .taken) (c .wide2 .result) (c .wide2 .ensures) (omega (arith, c .wide2 .ensures, c .before .shared-slice-known3 .given (c .before .before .before .loop .at + 1)))
-
-mul-t14 : tie.Need-mul-t14 Inv-loop μ-loop
-mul-t14 c = omega (arith, rest-last (c .before .loop .inv) (c .loop-test .left), c .before .loop .inv .small)
-
-add-t15 : tie.Need-add-t15 Inv-loop μ-loop
-add-t15 c = omega (arith, rest-last (c .before .loop .inv) (c .loop-test .left), c .before .loop .inv .small)
-
-add-t16 : tie.Need-add-t16 Inv-loop μ-loop
-add-t16 c = omega (arith, rest-inside (c .before .loop .inv))
-
-returns : tie.Need-returns Inv-loop μ-loop
+returns : tie.Need-returns
 returns c =
-    let r = c .before .loop .inv in
-    let l = rest-last r (c .loop-test .left) in
-    record { is = rw (l .0) at (r .whole); next = rw (l .0) at (l .1) }
+    short-reads (c .before .before .before .before .before .before .pre) (c .before .before .before .wide .ensures) (c .before .before .before .before .shared-slice-known2 .given (c .before .before .before .before .before .before .args .from) .fits) (c .before .wide2 .result) (c .before .wide2 .ensures) (c .if1 .taken)
+
+longer-requires : tie.Need-longer-requires
+longer-requires c κs = search needs
+
+returns-2 : tie.Need-returns-2
+returns-2 c = search needs
 
 pub number-spec : {M : Type 1} → statement M
 number-spec =
     tie.close
     (tie.spec
-    Inv-loop
-    μ-loop
     shared-slice-read-wide
     wide-requires
-    loop-holds
-    mul-value
-    add-value
-    mul-scale
-    add-at
+    cast-wide
+    add-wide
     shared-slice-read-wide-2
     wide-requires-2
-    loop-less
-    loop-again
+    mul-t13
     mul-t14
     add-t15
     add-t16
-    returns)
+    cast-t17
+    add-t18
+    returns
+    longer-requires
+    returns-2)

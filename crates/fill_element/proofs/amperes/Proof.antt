@@ -1,21 +1,21 @@
 -- `fill_element::amperes` meets its contract.
 use Rattle.fill_element.proofs.Writing.{at-small}
-use Rattle.fill_element.proofs.Pieces.{current-small, current-wrote}
+use Rattle.fill_element.proofs.Pieces.{current-there, current-small, current-wrote}
 use lib.Dec.{lit<, lit≤}
 use native.Mathlib.Omega.{arith}
 use borrow.Author.Needs.{needs}
 use Rattle.fill_element.proofs.amperes.Statement.{statement}
 use Rattle.fill_element.proofs.amperes.Tie as tie
 
-take-requires : tie.Need-take-requires
-take-requires c κs = search needs
+number-requires : tie.Need-number-requires
+number-requires c κs = current-there (c .before .before .pre)
 
 current-steps-requires : tie.Need-current-steps-requires
 current-steps-requires c κs = search needs
 
 put-requires : tie.Need-put-requires
 put-requires c κs =
-    (lit< tt, lit≤ tt, current-small (c .before .before .before .before .before .pre) (c .before .before .take .ensures) (c .current-steps .ensures))
+    (lit< tt, lit≤ tt, current-small (c .before .before .before .before .before .pre) (c .before .before .number .ensures) (c .current-steps .ensures))
 
 cast-t9 : tie.Need-cast-t9
 cast-t9 c = search needs
@@ -29,13 +29,13 @@ same-length c = search needs
 
 returns : tie.Need-returns
 returns c =
-    current-wrote (c .before .before .before .before .before .before .before .before .before .pre) (c .before .before .before .before .before .before .take .ensures) (c .before .before .before .before .current-steps .ensures) (c .before .before .before .put .ensures)
+    current-wrote (c .before .before .before .before .before .before .before .before .before .pre) (c .before .before .before .before .before .before .number .ensures) (c .before .before .before .before .current-steps .ensures) (c .before .before .before .put .ensures)
 
 pub amperes-spec : {M : Type 1} → statement M
 amperes-spec =
     tie.close
     (tie.spec
-    take-requires
+    number-requires
     current-steps-requires
     put-requires
     cast-t9

@@ -1,6 +1,7 @@
 -- `fill_element::profile` meets its contract.
+use mathlib.Core.Path.{refl}
 use Rattle.fill_element.proofs.Writing.{at-small, along-next, along-on, along-none}
-use Rattle.fill_element.proofs.Pieces.{profile-speed, profile-front, profile-count, profile-along}
+use Rattle.fill_element.proofs.Pieces.{profile-first, profile-second, profile-third, profile-speed, profile-front, profile-count, profile-along}
 use Rattle.segment.specs.Segment.{entries}
 use lib.Dec.{lit<, lit≤}
 use native.Mathlib.Omega.{arith}
@@ -8,14 +9,14 @@ use borrow.Author.Needs.{needs}
 use Rattle.fill_element.proofs.profile.Statement.{statement}
 use Rattle.fill_element.proofs.profile.Tie as tie
 
-take-requires : tie.Need-take-requires
-take-requires c κs = search needs
+number-requires : tie.Need-number-requires
+number-requires c κs = profile-first (c .before .before .pre)
 
-take-requires-2 : tie.Need-take-requires-2
-take-requires-2 c κs = search needs
+number-requires-2 : tie.Need-number-requires-2
+number-requires-2 c κs = profile-second (c .before .before .before .pre) (c .number .ensures) refl
 
-take-requires-3 : tie.Need-take-requires-3
-take-requires-3 c κs = search needs
+number-requires-3 : tie.Need-number-requires-3
+number-requires-3 c κs = profile-third (c .before .before .before .before .pre) (c .before .number .ensures) refl (c .number2 .ensures)
 
 speed-steps-requires : tie.Need-speed-steps-requires
 speed-steps-requires c κs = search needs
@@ -23,47 +24,47 @@ speed-steps-requires c κs = search needs
 mul-bits : tie.Need-mul-bits
 mul-bits c =
     let h = c .before .before .before .before .before .before .pre in
-    let a = c .before .before .before .take .ensures in
-    let b = c .before .before .take2 .ensures in
-    let d = c .before .take3 .ensures in
+    let a = c .before .before .before .number .ensures in
+    let b = c .before .before .number2 .ensures in
+    let d = c .before .number3 .ensures in
     let v = c .speed-steps .ensures in
-    omega (arith, profile-speed h a b d v, profile-front h a b d v, profile-count h a b d v)
+    omega (arith, profile-speed h a v, profile-front h a v b, profile-count h a v b d)
 
 mul-bits-2 : tie.Need-mul-bits-2
 mul-bits-2 c =
     let h = c .before .before .before .before .before .before .before .pre in
-    let a = c .before .before .before .before .take .ensures in
-    let b = c .before .before .before .take2 .ensures in
-    let d = c .before .before .take3 .ensures in
+    let a = c .before .before .before .before .number .ensures in
+    let b = c .before .before .before .number2 .ensures in
+    let d = c .before .before .number3 .ensures in
     let v = c .before .speed-steps .ensures in
-    omega (arith, profile-speed h a b d v, profile-front h a b d v, profile-count h a b d v)
+    omega (arith, profile-speed h a v, profile-front h a v b, profile-count h a v b d)
 
 add-bits : tie.Need-add-bits
 add-bits c =
     let h = c .before .before .before .before .before .before .before .pre in
-    let a = c .before .before .before .before .take .ensures in
-    let b = c .before .before .before .take2 .ensures in
-    let d = c .before .before .take3 .ensures in
+    let a = c .before .before .before .before .number .ensures in
+    let b = c .before .before .before .number2 .ensures in
+    let d = c .before .before .number3 .ensures in
     let v = c .before .speed-steps .ensures in
-    omega (arith, profile-speed h a b d v, profile-front h a b d v, profile-count h a b d v)
+    omega (arith, profile-speed h a v, profile-front h a v b, profile-count h a v b d)
 
 add-bits-2 : tie.Need-add-bits-2
 add-bits-2 c =
     let h = c .before .before .before .before .before .before .before .before .pre in
-    let a = c .before .before .before .before .before .take .ensures in
-    let b = c .before .before .before .before .take2 .ensures in
-    let d = c .before .before .before .take3 .ensures in
+    let a = c .before .before .before .before .before .number .ensures in
+    let b = c .before .before .before .before .number2 .ensures in
+    let d = c .before .before .before .number3 .ensures in
     let v = c .before .before .speed-steps .ensures in
-    omega (arith, profile-speed h a b d v, profile-front h a b d v, profile-count h a b d v)
+    omega (arith, profile-speed h a v, profile-front h a v b, profile-count h a v b d)
 
 put-requires : tie.Need-put-requires
 put-requires c κs =
     let h = c .before .before .before .before .before .before .before .before .before .pre in
-    let a = c .before .before .before .before .before .before .take .ensures in
-    let b = c .before .before .before .before .before .take2 .ensures in
-    let d = c .before .before .before .before .take3 .ensures in
+    let a = c .before .before .before .before .before .before .number .ensures in
+    let b = c .before .before .before .before .before .number2 .ensures in
+    let d = c .before .before .before .before .number3 .ensures in
     let v = c .before .before .before .speed-steps .ensures in
-    (lit< tt, lit≤ tt, omega (arith, profile-speed h a b d v, profile-front h a b d v, profile-count h a b d v))
+    (lit< tt, lit≤ tt, omega (arith, profile-speed h a v, profile-front h a v b, profile-count h a v b d))
 
 add-t16 : tie.Need-add-t16
 add-t16 c =
@@ -71,24 +72,24 @@ add-t16 c =
 
 entries-requires : tie.Need-entries-requires
 entries-requires c κs =
-    let l = profile-along (c .before .before .before .before .before .before .before .before .before .before .before .before .before .before .pre) (c .before .before .before .before .before .before .before .before .before .before .before .take .ensures) (c .before .before .before .before .before .before .before .before .before .before .take2 .ensures) (c .before .before .before .before .before .before .before .before .before .take3 .ensures) (c .before .before .before .before .before .before .before .before .speed-steps .ensures) (c .before .before .before .before .put .ensures) in
-    along-next (entries (c .before .before .before .before .before .before .before .before .before .take3 .result .value)) (λ f. f) l (c .before .before .before .before .before .before .before .before .before .before .before .before .before .before .pre)
+    let l = profile-along (c .before .before .before .before .before .before .before .before .before .before .before .before .before .before .pre) (c .before .before .before .before .before .before .before .before .before .before .before .number .ensures) (c .before .before .before .before .before .before .before .before .speed-steps .ensures) (c .before .before .before .before .before .before .before .before .before .before .number2 .ensures) (c .before .before .before .before .before .before .before .before .before .number3 .ensures) (c .before .before .before .before .put .ensures) in
+    along-next (entries (c .before .before .before .before .before .before .before .before .before .number3 .result .value)) (λ f. f) l (c .before .before .before .before .before .before .before .before .before .before .before .before .before .before .pre)
 
 same-length : tie.Need-same-length
 same-length c = search needs
 
 returns : tie.Need-returns
 returns c =
-    let l = profile-along (c .before .before .before .before .before .before .before .before .before .before .before .before .before .before .before .before .before .pre) (c .before .before .before .before .before .before .before .before .before .before .before .before .before .before .take .ensures) (c .before .before .before .before .before .before .before .before .before .before .before .before .before .take2 .ensures) (c .before .before .before .before .before .before .before .before .before .before .before .before .take3 .ensures) (c .before .before .before .before .before .before .before .before .before .before .before .speed-steps .ensures) (c .before .before .before .before .before .before .before .put .ensures) in
-    along-none (along-on (entries (c .before .before .before .before .before .before .before .before .before .before .before .before .take3 .result .value)) (λ f. f) l (c .before .before .entries .ensures))
+    let l = profile-along (c .before .before .before .before .before .before .before .before .before .before .before .before .before .before .before .before .before .pre) (c .before .before .before .before .before .before .before .before .before .before .before .before .before .before .number .ensures) (c .before .before .before .before .before .before .before .before .before .before .before .speed-steps .ensures) (c .before .before .before .before .before .before .before .before .before .before .before .before .before .number2 .ensures) (c .before .before .before .before .before .before .before .before .before .before .before .before .number3 .ensures) (c .before .before .before .before .before .before .before .put .ensures) in
+    along-none (along-on (entries (c .before .before .before .before .before .before .before .before .before .before .before .before .number3 .result .value)) (λ f. f) l (c .before .before .entries .ensures))
 
 pub profile-spec : {M : Type 1} → statement M
 profile-spec =
     tie.close
     (tie.spec
-    take-requires
-    take-requires-2
-    take-requires-3
+    number-requires
+    number-requires-2
+    number-requires-3
     speed-steps-requires
     mul-bits
     mul-bits-2

@@ -5,7 +5,7 @@ use Rattle.kinds.specs.Kinds.{lSp}
 use Rattle.fields.proofs.Lawful.{narrow, range-lawful}
 use Rattle.format.specs.Format.{field}
 use Rattle.segment.specs.Parts.{runs, threeLists}
-use Rattle.fill_element.proofs.Writing.{along-all, along-next, along-on, along-none, along-small, along-inside, plain-small, along-put}
+use Rattle.fill_element.proofs.Writing.{along-all, along-next, along-on, along-none, along-small, along-there, plain-small, along-put}
 use native.Mathlib.Omega.{arith}
 use borrow.Author.Needs.{needs}
 use Rattle.write_packet.proofs.body.Statement.{statement}
@@ -15,14 +15,15 @@ run-requires : tie.Need-run-requires
 run-requires c κs =
     (along-next (runs 5 4) (λ f. field lSp λ n. runs 10 3 (threeLists n f)) (along-all (c .before .before .before .pre)) (c .before .before .before .pre), lit≤ tt, lit≤ tt)
 
-take-requires : tie.Need-take-requires
-take-requires c κs =
-    omega (arith, along-inside (along-on (runs 5 4) (λ f. field lSp λ n. runs 10 3 (threeLists n f)) (along-all (c .before .before .before .before .before .before .pre)) (c .before .before .run .ensures .0)))
+number-requires : tie.Need-number-requires
+number-requires c κs =
+    let h = c .before .before .before .before .before .before .pre in
+    along-there lSp (λ n f. runs 10 3 (threeLists n f)) (along-on (runs 5 4) (λ f. field lSp λ n. runs 10 3 (threeLists n f)) (along-all h) (c .before .before .run .ensures .0)) h
 
 put-requires : tie.Need-put-requires
 put-requires c κs =
     let l = along-on (runs 5 4) (λ f. field lSp λ n. runs 10 3 (threeLists n f)) (along-all (c .before .before .before .before .before .before .before .before .pre)) (c .before .before .before .before .run .ensures .0) in
-    (lit< tt, lit≤ tt, plain-small lSp (λ n f. runs 10 3 (threeLists n f)) l (c .before .before .before .before .before .before .before .before .pre) (c .before .take .ensures) (lSp .allowed (c .before .take .result .value)) refl (range-lawful 24 1 16777215 4 (narrow tt) (lit< tt)))
+    (lit< tt, lit≤ tt, plain-small lSp (λ n f. runs 10 3 (threeLists n f)) l (c .before .before .before .before .before .before .before .before .pre) (c .before .number .ensures) (lSp .allowed (c .before .number .result .value)) refl (range-lawful 24 1 16777215 4 (narrow tt) (lit< tt)))
 
 cast-t13 : tie.Need-cast-t13
 cast-t13 c = omega arith
@@ -34,16 +35,16 @@ add-t14 c =
 run-requires-2 : tie.Need-run-requires-2
 run-requires-2 c κs =
     let l = along-on (runs 5 4) (λ f. field lSp λ n. runs 10 3 (threeLists n f)) (along-all (c .before .before .before .before .before .before .before .before .before .before .before .before .before .pre)) (c .before .before .before .before .before .before .before .before .before .run .ensures .0) in
-    let m = along-put lSp (λ n f. runs 10 3 (threeLists n f)) l (c .before .before .before .before .before .before .before .before .before .before .before .before .before .pre) (c .before .before .before .before .before .before .take .ensures) (lSp .allowed (c .before .before .before .before .before .before .take .result .value)) refl refl (c .before .before .before .before .put .ensures) in
-    (along-next (runs 10 3) (threeLists (c .before .before .before .before .before .before .take .result .value)) m (c .before .before .before .before .before .before .before .before .before .before .before .before .before .pre), lit≤ tt, lit≤ tt)
+    let m = along-put lSp (λ n f. runs 10 3 (threeLists n f)) l (c .before .before .before .before .before .before .before .before .before .before .before .before .before .pre) (c .before .before .before .before .before .before .number .ensures) (lSp .allowed (c .before .before .before .before .before .before .number .result .value)) refl refl (c .before .before .before .before .put .ensures) in
+    (along-next (runs 10 3) (threeLists (c .before .before .before .before .before .before .number .result .value)) m (c .before .before .before .before .before .before .before .before .before .before .before .before .before .pre), lit≤ tt, lit≤ tt)
 
 lists-requires : tie.Need-lists-requires
 lists-requires c κs =
     let l = along-on (runs 5 4) (λ f. field lSp λ n. runs 10 3 (threeLists n f)) (along-all (c .before .before .before .before .before .before .before .before .before .before .before .before .before .before .before .before .before .pre)) (c .before .before .before .before .before .before .before .before .before .before .before .before .before .run .ensures .0) in
-    let v = c .before .before .before .before .before .before .before .before .before .before .take .result .value in
-    let m = along-put lSp (λ n f. runs 10 3 (threeLists n f)) l (c .before .before .before .before .before .before .before .before .before .before .before .before .before .before .before .before .before .pre) (c .before .before .before .before .before .before .before .before .before .before .take .ensures) (lSp .allowed v) refl refl (c .before .before .before .before .before .before .before .before .put .ensures) in
+    let v = c .before .before .before .before .before .before .before .before .before .before .number .result .value in
+    let m = along-put lSp (λ n f. runs 10 3 (threeLists n f)) l (c .before .before .before .before .before .before .before .before .before .before .before .before .before .before .before .before .before .pre) (c .before .before .before .before .before .before .before .before .before .before .number .ensures) (lSp .allowed v) refl refl (c .before .before .before .before .before .before .before .before .put .ensures) in
     let o = along-on (runs 10 3) (threeLists v) m (c .before .before .before .run2 .ensures .0) in
-    (along-next (threeLists v) (λ f. f) o (c .before .before .before .before .before .before .before .before .before .before .before .before .before .before .before .before .before .pre), plain-small lSp (λ n f. runs 10 3 (threeLists n f)) l (c .before .before .before .before .before .before .before .before .before .before .before .before .before .before .before .before .before .pre) (c .before .before .before .before .before .before .before .before .before .before .take .ensures) (lSp .allowed v) refl (range-lawful 24 1 16777215 4 (narrow tt) (lit< tt)))
+    (along-next (threeLists v) (λ f. f) o (c .before .before .before .before .before .before .before .before .before .before .before .before .before .before .before .before .before .pre), plain-small lSp (λ n f. runs 10 3 (threeLists n f)) l (c .before .before .before .before .before .before .before .before .before .before .before .before .before .before .before .before .before .pre) (c .before .before .before .before .before .before .before .before .before .before .number .ensures) (lSp .allowed v) refl (range-lawful 24 1 16777215 4 (narrow tt) (lit< tt)))
 
 same-length : tie.Need-same-length
 same-length c = search needs
@@ -51,8 +52,8 @@ same-length c = search needs
 returns : tie.Need-returns
 returns c =
     let l = along-on (runs 5 4) (λ f. field lSp λ n. runs 10 3 (threeLists n f)) (along-all (c .before .before .before .before .before .before .before .before .before .before .before .before .before .before .before .before .before .before .before .before .pre)) (c .before .before .before .before .before .before .before .before .before .before .before .before .before .before .before .before .run .ensures .0) in
-    let v = c .before .before .before .before .before .before .before .before .before .before .before .before .before .take .result .value in
-    let m = along-put lSp (λ n f. runs 10 3 (threeLists n f)) l (c .before .before .before .before .before .before .before .before .before .before .before .before .before .before .before .before .before .before .before .before .pre) (c .before .before .before .before .before .before .before .before .before .before .before .before .before .take .ensures) (lSp .allowed v) refl refl (c .before .before .before .before .before .before .before .before .before .before .before .put .ensures) in
+    let v = c .before .before .before .before .before .before .before .before .before .before .before .before .before .number .result .value in
+    let m = along-put lSp (λ n f. runs 10 3 (threeLists n f)) l (c .before .before .before .before .before .before .before .before .before .before .before .before .before .before .before .before .before .before .before .before .pre) (c .before .before .before .before .before .before .before .before .before .before .before .before .before .number .ensures) (lSp .allowed v) refl refl (c .before .before .before .before .before .before .before .before .before .before .before .put .ensures) in
     let o = along-on (runs 10 3) (threeLists v) m (c .before .before .before .before .before .before .run2 .ensures .0) in
     along-none (along-on (threeLists v) (λ f. f) o (c .before .before .lists .ensures))
 
@@ -61,7 +62,7 @@ body-spec =
     tie.close
     (tie.spec
     run-requires
-    take-requires
+    number-requires
     put-requires
     cast-t13
     add-t14

@@ -8,7 +8,7 @@ use Rattle.format.specs.Format.{field}
 use Rattle.segment.specs.Segment.{changes}
 use Rattle.segment.specs.Parts.{startOf}
 use Rattle.segment.proofs.Parts.{changes-more, changes-none}
-use Rattle.fill_element.proofs.Writing.{Along, along-all, along-as, along-next, along-on, along-none, along-small, along-inside, plain-small, along-put}
+use Rattle.fill_element.proofs.Writing.{Along, along-all, along-as, along-next, along-on, along-none, along-small, along-there, plain-small, along-put}
 use native.Mathlib.Omega.{arith}
 use Rattle.write_packet.proofs.changes.Statement.{statement}
 use Rattle.write_packet.proofs.changes.Tie as tie
@@ -22,8 +22,13 @@ abbrev μ-loop : tie.MeasureT-loop
 loop-holds : tie.Need-loop-holds Inv-loop μ-loop
 loop-holds c = along-all (c .before .before .pre .0)
 
-take-requires : tie.Need-take-requires Inv-loop μ-loop
-take-requires c κs = omega (arith, along-inside (c .before .loop .inv))
+number-requires : tie.Need-number-requires Inv-loop μ-loop
+number-requires c κs =
+    let l = c .before .loop in
+    let a = c .before .before .before .before .args in
+    let k = dLocation (l .last) (a .lsp) in
+    let more = along-as (λ f. field k λ x. startOf (a .part) (changes (startOf (a .part)) (a .lsp) x (l .left - 1) f)) (changes-more (startOf (a .part)) (a .lsp) (l .last) (l .left) (omega arith)) (l .inv) in
+    along-there k (λ x f. startOf (a .part) (changes (startOf (a .part)) (a .lsp) x (l .left - 1) f)) more (c .before .before .before .before .pre .0)
 
 put-requires : tie.Need-put-requires Inv-loop μ-loop
 put-requires c κs =
@@ -31,7 +36,7 @@ put-requires c κs =
     let a = c .before .before .before .before .before .before .args in
     let k = dLocation (l .last) (a .lsp) in
     let more = along-as (λ f. field k λ x. startOf (a .part) (changes (startOf (a .part)) (a .lsp) x (l .left - 1) f)) (changes-more (startOf (a .part)) (a .lsp) (l .last) (l .left) (omega arith)) (l .inv) in
-    (lit< tt, lit≤ tt, plain-small k (λ x f. startOf (a .part) (changes (startOf (a .part)) (a .lsp) x (l .left - 1) f)) more (c .before .before .before .before .before .before .pre .0) (c .before .take .ensures) (k .allowed (c .before .take .result .value)) refl (location-lawful (l .last) (a .lsp) (c .before .before .before .before .before .before .pre .1)))
+    (lit< tt, lit≤ tt, plain-small k (λ x f. startOf (a .part) (changes (startOf (a .part)) (a .lsp) x (l .left - 1) f)) more (c .before .before .before .before .before .before .pre .0) (c .before .number .ensures) (k .allowed (c .before .number .result .value)) refl (location-lawful (l .last) (a .lsp) (c .before .before .before .before .before .before .pre .1)))
 
 cast-t16 : tie.Need-cast-t16 Inv-loop μ-loop
 cast-t16 c = omega arith
@@ -46,8 +51,8 @@ element-requires c κs =
     let a = c .before .before .before .before .before .before .before .before .before .before .before .args in
     let k = dLocation (l .last) (a .lsp) in
     let more = along-as (λ f. field k λ x. startOf (a .part) (changes (startOf (a .part)) (a .lsp) x (l .left - 1) f)) (changes-more (startOf (a .part)) (a .lsp) (l .last) (l .left) (omega arith)) (l .inv) in
-    let there = along-put k (λ x f. startOf (a .part) (changes (startOf (a .part)) (a .lsp) x (l .left - 1) f)) more (c .before .before .before .before .before .before .before .before .before .before .before .pre .0) (c .before .before .before .before .before .before .take .ensures) (k .allowed (c .before .before .before .before .before .before .take .result .value)) refl refl (c .before .before .before .before .put .ensures) in
-    along-next (startOf (a .part)) (changes (startOf (a .part)) (a .lsp) (c .before .before .before .before .before .before .take .result .value) (l .left - 1)) there (c .before .before .before .before .before .before .before .before .before .before .before .pre .0)
+    let there = along-put k (λ x f. startOf (a .part) (changes (startOf (a .part)) (a .lsp) x (l .left - 1) f)) more (c .before .before .before .before .before .before .before .before .before .before .before .pre .0) (c .before .before .before .before .before .before .number .ensures) (k .allowed (c .before .before .before .before .before .before .number .result .value)) refl refl (c .before .before .before .before .put .ensures) in
+    along-next (startOf (a .part)) (changes (startOf (a .part)) (a .lsp) (c .before .before .before .before .before .before .number .result .value) (l .left - 1)) there (c .before .before .before .before .before .before .before .before .before .before .before .pre .0)
 
 sub-left : tie.Need-sub-left Inv-loop μ-loop
 sub-left c = omega arith
@@ -61,8 +66,8 @@ loop-again c =
     let a = c .before .before .before .before .before .before .before .before .before .before .before .before .before .before .args in
     let k = dLocation (l .last) (a .lsp) in
     let more = along-as (λ f. field k λ x. startOf (a .part) (changes (startOf (a .part)) (a .lsp) x (l .left - 1) f)) (changes-more (startOf (a .part)) (a .lsp) (l .last) (l .left) (omega arith)) (l .inv) in
-    let there = along-put k (λ x f. startOf (a .part) (changes (startOf (a .part)) (a .lsp) x (l .left - 1) f)) more (c .before .before .before .before .before .before .before .before .before .before .before .before .before .before .pre .0) (c .before .before .before .before .before .before .before .before .before .take .ensures) (k .allowed (c .before .before .before .before .before .before .before .before .before .take .result .value)) refl refl (c .before .before .before .before .before .before .before .put .ensures) in
-    along-on (startOf (a .part)) (changes (startOf (a .part)) (a .lsp) (c .before .before .before .before .before .before .before .before .before .take .result .value) (l .left - 1)) there (c .before .before .element .ensures)
+    let there = along-put k (λ x f. startOf (a .part) (changes (startOf (a .part)) (a .lsp) x (l .left - 1) f)) more (c .before .before .before .before .before .before .before .before .before .before .before .before .before .before .pre .0) (c .before .before .before .before .before .before .before .before .before .number .ensures) (k .allowed (c .before .before .before .before .before .before .before .before .before .number .result .value)) refl refl (c .before .before .before .before .before .before .before .put .ensures) in
+    along-on (startOf (a .part)) (changes (startOf (a .part)) (a .lsp) (c .before .before .before .before .before .before .before .before .before .number .result .value) (l .left - 1)) there (c .before .before .element .ensures)
 
 same-length : tie.Need-same-length Inv-loop μ-loop
 same-length c = c .before .loop .inv .puts .long
@@ -80,7 +85,7 @@ changes-spec =
     Inv-loop
     μ-loop
     loop-holds
-    take-requires
+    number-requires
     put-requires
     cast-t16
     add-t17

@@ -6,7 +6,7 @@ use Rattle.fields.proofs.Lawful.{narrow, upTo-lawful}
 use Rattle.format.specs.Format.{field}
 use Rattle.segment.specs.Segment.{changes}
 use Rattle.segment.specs.Parts.{startOf}
-use Rattle.fill_element.proofs.Writing.{along-all, along-next, along-on, along-none, along-small, along-inside, plain-small, along-put}
+use Rattle.fill_element.proofs.Writing.{along-all, along-next, along-on, along-none, along-small, along-there, plain-small, along-put}
 use native.Mathlib.Omega.{arith}
 use borrow.Author.Needs.{needs}
 use Rattle.write_packet.proofs.list.Statement.{statement}
@@ -17,10 +17,12 @@ element-requires c κs =
     let a = c .before .before .before .args in
     along-next (startOf (a .part)) (λ f. field (nIter (a .limit)) λ n. changes (startOf (a .part)) (a .lsp) 0 n f) (along-all (c .before .before .before .pre .0)) (c .before .before .before .pre .0)
 
-take-requires : tie.Need-take-requires
-take-requires c κs =
+number-requires : tie.Need-number-requires
+number-requires c κs =
     let a = c .before .before .before .before .before .before .args in
-    omega (arith, along-inside (along-on (startOf (a .part)) (λ f. field (nIter (a .limit)) λ n. changes (startOf (a .part)) (a .lsp) 0 n f) (along-all (c .before .before .before .before .before .before .pre .0)) (c .before .before .element .ensures)))
+    let h = c .before .before .before .before .before .before .pre in
+    let k = nIter (a .limit) in
+    along-there k (changes (startOf (a .part)) (a .lsp) 0) (along-on (startOf (a .part)) (λ f. field k λ n. changes (startOf (a .part)) (a .lsp) 0 n f) (along-all (h .0)) (c .before .before .element .ensures)) (h .0)
 
 put-requires : tie.Need-put-requires
 put-requires c κs =
@@ -28,7 +30,7 @@ put-requires c κs =
     let h = c .before .before .before .before .before .before .before .before .pre in
     let k = nIter (a .limit) in
     let l = along-on (startOf (a .part)) (λ f. field k λ n. changes (startOf (a .part)) (a .lsp) 0 n f) (along-all (h .0)) (c .before .before .before .before .element .ensures) in
-    (lit< tt, lit≤ tt, plain-small k (changes (startOf (a .part)) (a .lsp) 0) l (h .0) (c .before .take .ensures) (k .allowed (c .before .take .result .value)) refl (upTo-lawful 5 (a .limit) (narrow tt) (h .2)))
+    (lit< tt, lit≤ tt, plain-small k (changes (startOf (a .part)) (a .lsp) 0) l (h .0) (c .before .number .ensures) (k .allowed (c .before .number .result .value)) refl (upTo-lawful 5 (a .limit) (narrow tt) (h .2)))
 
 cast-t15 : tie.Need-cast-t15
 cast-t15 c = omega arith
@@ -44,8 +46,8 @@ changes-requires c κs =
     let h = c .before .before .before .before .before .before .before .before .before .before .before .before .before .pre in
     let k = nIter (a .limit) in
     let l = along-on (startOf (a .part)) (λ f. field k λ n. changes (startOf (a .part)) (a .lsp) 0 n f) (along-all (h .0)) (c .before .before .before .before .before .before .before .before .before .element .ensures) in
-    let m = along-put k (changes (startOf (a .part)) (a .lsp) 0) l (h .0) (c .before .before .before .before .before .before .take .ensures) (k .allowed (c .before .before .before .before .before .before .take .result .value)) refl refl (c .before .before .before .before .put .ensures) in
-    (along-next (changes (startOf (a .part)) (a .lsp) 0 (c .before .before .before .before .before .before .take .result .value)) (λ f. f) m (h .0), h .1)
+    let m = along-put k (changes (startOf (a .part)) (a .lsp) 0) l (h .0) (c .before .before .before .before .before .before .number .ensures) (k .allowed (c .before .before .before .before .before .before .number .result .value)) refl refl (c .before .before .before .before .put .ensures) in
+    (along-next (changes (startOf (a .part)) (a .lsp) 0 (c .before .before .before .before .before .before .number .result .value)) (λ f. f) m (h .0), h .1)
 
 same-length : tie.Need-same-length
 same-length c = search needs
@@ -56,15 +58,15 @@ returns c =
     let h = c .before .before .before .before .before .before .before .before .before .before .before .before .before .before .before .before .pre in
     let k = nIter (a .limit) in
     let l = along-on (startOf (a .part)) (λ f. field k λ n. changes (startOf (a .part)) (a .lsp) 0 n f) (along-all (h .0)) (c .before .before .before .before .before .before .before .before .before .before .before .before .element .ensures) in
-    let m = along-put k (changes (startOf (a .part)) (a .lsp) 0) l (h .0) (c .before .before .before .before .before .before .before .before .before .take .ensures) (k .allowed (c .before .before .before .before .before .before .before .before .before .take .result .value)) refl refl (c .before .before .before .before .before .before .before .put .ensures) in
-    along-none (along-on (changes (startOf (a .part)) (a .lsp) 0 (c .before .before .before .before .before .before .before .before .before .take .result .value)) (λ f. f) m (c .before .before .changes .ensures))
+    let m = along-put k (changes (startOf (a .part)) (a .lsp) 0) l (h .0) (c .before .before .before .before .before .before .before .before .before .number .ensures) (k .allowed (c .before .before .before .before .before .before .before .before .before .number .result .value)) refl refl (c .before .before .before .before .before .before .before .put .ensures) in
+    along-none (along-on (changes (startOf (a .part)) (a .lsp) 0 (c .before .before .before .before .before .before .before .before .before .number .result .value)) (λ f. f) m (c .before .before .changes .ensures))
 
 pub list-spec : {M : Type 1} → statement M
 list-spec =
     tie.close
     (tie.spec
     element-requires
-    take-requires
+    number-requires
     put-requires
     cast-t15
     add-t16

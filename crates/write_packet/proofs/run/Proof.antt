@@ -5,7 +5,7 @@ use Rattle.format.specs.Format.{then}
 use Rattle.segment.specs.Parts.{kindAt, runs}
 use Rattle.segment.proofs.Parts.{runs-more, runs-none}
 use Rattle.write_packet.specs.Widths.{widths}
-use Rattle.fill_element.proofs.Writing.{Along, along-all, along-as, along-none, along-small, along-inside, plain-small, along-put}
+use Rattle.fill_element.proofs.Writing.{Along, along-all, along-as, along-none, along-small, along-there, plain-small, along-put}
 use Rattle.write_packet.proofs.Head.{head-plain, head-width, widths-more}
 use native.Mathlib.Omega.{arith}
 use Rattle.write_packet.proofs.run.Statement.{statement}
@@ -20,8 +20,12 @@ abbrev μ-loop : tie.MeasureT-loop
 loop-holds : tie.Need-loop-holds Inv-loop μ-loop
 loop-holds c = (along-all (c .before .before .pre .0), omega arith, c .before .before .pre .1, refl)
 
-take-requires : tie.Need-take-requires Inv-loop μ-loop
-take-requires c κs = omega (arith, along-inside (c .before .loop .inv .0))
+number-requires : tie.Need-number-requires Inv-loop μ-loop
+number-requires c κs =
+    let l = c .before .loop in
+    let a = c .before .before .before .before .args in
+    let more = along-as (λ f. then (kindAt (l .i)) (runs (l .i + 1) (a .end - l .i - 1) f)) (runs-more (l .i) (a .end - l .i) (omega arith)) (l .inv .0) in
+    along-there (kindAt (l .i)) (λ x. runs (l .i + 1) (a .end - l .i - 1)) more (c .before .before .before .before .pre .0)
 
 cast-width : tie.Need-cast-width Inv-loop μ-loop
 cast-width c = omega (arith, c .before .before .before .before .before .pre .2)
@@ -36,12 +40,12 @@ put-requires : tie.Need-put-requires Inv-loop μ-loop
 put-requires c κs =
     let l = c .before .before .before .loop in
     let a = c .before .before .before .before .before .before .args in
-    let v = c .before .take .result .value in
+    let v = c .before .number .result .value in
     let i : l .i < 13 = omega (arith, c .before .before .before .before .before .before .pre .2) in
     let k = head-plain (l .i) i in
     let e = head-width (l .i) i in
     let more = along-as (λ f. then (kindAt (l .i)) (runs (l .i + 1) (a .end - l .i - 1) f)) (runs-more (l .i) (a .end - l .i) (omega arith)) (l .inv .0) in
-    (rw e at (k .lawful .narrow .some), rw e at (k .lawful .narrow .most), rw e at (plain-small (kindAt (l .i)) (λ x. runs (l .i + 1) (a .end - l .i - 1)) more (c .before .before .before .before .before .before .pre .0) (c .before .take .ensures) (kindAt (l .i) .allowed v) (k .same v) (k .lawful)))
+    (rw e at (k .lawful .narrow .some), rw e at (k .lawful .narrow .most), rw e at (plain-small (kindAt (l .i)) (λ x. runs (l .i + 1) (a .end - l .i - 1)) more (c .before .before .before .before .before .before .pre .0) (c .before .number .ensures) (kindAt (l .i) .allowed v) (k .same v) (k .lawful)))
 
 cast-t14 : tie.Need-cast-t14 Inv-loop μ-loop
 cast-t14 c =
@@ -63,14 +67,14 @@ loop-again : tie.Need-loop-again Inv-loop μ-loop
 loop-again c =
     let l = c .before .before .before .before .before .before .before .loop in
     let a = c .before .before .before .before .before .before .before .before .before .before .args in
-    let v = c .before .before .before .before .before .take .result .value in
+    let v = c .before .before .before .before .before .number .result .value in
     let i : l .i < 13 = omega (arith, c .before .before .before .before .before .before .before .before .before .before .pre .2) in
     let k = head-plain (l .i) i in
     let w = head-width (l .i) i in
     let more = along-as (λ f. then (kindAt (l .i)) (runs (l .i + 1) (a .end - l .i - 1) f)) (runs-more (l .i) (a .end - l .i) (omega arith)) (l .inv .0) in
     let e : a .end - (l .i + 1) ≡ a .end - l .i - 1 = omega arith in
     let m = widths-more (l .i) (a .end - l .i) (omega arith) in
-    (rw e (along-put (kindAt (l .i)) (λ x. runs (l .i + 1) (a .end - l .i - 1)) more (c .before .before .before .before .before .before .before .before .before .before .pre .0) (c .before .before .before .before .before .take .ensures) (kindAt (l .i) .allowed v) (k .same v) w (c .before .before .before .put .ensures)), omega arith, omega arith, rw e (omega (arith, l .inv .3, m, w)))
+    (rw e (along-put (kindAt (l .i)) (λ x. runs (l .i + 1) (a .end - l .i - 1)) more (c .before .before .before .before .before .before .before .before .before .before .pre .0) (c .before .before .before .before .before .number .ensures) (kindAt (l .i) .allowed v) (k .same v) w (c .before .before .before .put .ensures)), omega arith, omega arith, rw e (omega (arith, l .inv .3, m, w)))
 
 same-length : tie.Need-same-length Inv-loop μ-loop
 same-length c = c .before .loop .inv .0 .puts .long
@@ -89,7 +93,7 @@ run-spec =
     Inv-loop
     μ-loop
     loop-holds
-    take-requires
+    number-requires
     cast-width
     mul-width
     array-read-width
