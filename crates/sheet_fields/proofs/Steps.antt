@@ -4,7 +4,7 @@ use mathlib.Core.Path.{_≡_, refl, sym, ap, subst}
 use mathlib.Core.Bool.{true, false}
 use mathlib.Core.List.{List, [], _∷_}
 use mathlib.Core.Option.{Option, none, some}
-use Prim.Native.Nat.{ℕ, zero, suc, _+_, _/_, _%_, _^_, _≤_, _<_}
+use Prim.Native.Nat.{ℕ, zero, suc, _+_, _%_, _^_, _≤_, _<_}
 use native.Mathlib.Omega.{arith}
 use borrow.Author.Tests.{eqb-true, eqb-false, le-leb, lt-leb, lt-ltb, le-ltb}
 use lib.Dec.{eqb, leb}
@@ -13,8 +13,9 @@ use Rattle.bits.specs.Bits.{Bytes, bitsOf}
 use Rattle.bits.proofs.Spelling.{length-bits}
 use Rattle.bits.proofs.Tests.{by-cases}
 use Rattle.numbers.specs.Numbers.{numberIn}
-use Rattle.numbers.specs.Groups.{counted}
-use Rattle.numbers.proofs.Reading.{counted-value, counted-none, number-only}
+use Rattle.numbers.specs.declared.Found.{Found}
+use Rattle.numbers.specs.Groups.{found}
+use Rattle.numbers.proofs.Reading.{found-value, found-none, number-only}
 use Rattle.kinds.specs.declared.Item.{Item}
 use Rattle.kinds.specs.Kind.{Kind, range}
 use Rattle.kinds.specs.Kinds.{digits, nidOperational, class, dLocation}
@@ -44,44 +45,41 @@ bytes-drop s zero h = h
 bytes-drop [] (suc at) h = h
 bytes-drop (b ∷ s) (suc at) h = bytes-drop s at (h .1)
 
-module _ (s : List ℕ) {at : ℕ} (h : Standing s at) {x : ℕ} (e : x ≡ counted (numberIn (drop at s))) where
-  -- the groups of a number that is read lie in the sheet
-  groups-inside : (x ≡ 0 → ⊥) → at + x / 4294967296 ≤ length s
-  groups-inside z =
-      let c = counted-value (drop at s) x e z in
-      let l = ap length (number-only (drop at s) (x % 4294967296) (bytes-drop s at (h .bytes)) (c .value) .bytes) in
-      omega (arith, c .groups, h .inside, length-drop at s, simp length-append at l)
+module _ (s : List ℕ) {at : ℕ} (h : Standing s at) {a : Found} (e : a ≡ found (numberIn (drop at s))) (k : Kind) (n : ℕ) where
+  -- no number
+  pub took-bad : a .count ≡ 0 → Took k s at n (Next.Refused 9)
+  took-bad z = took-off (sheet-seen s) judging (λ at n. Standing s at) k tt (number-none k s at (found-none (drop at s) a e z))
 
-  module _ (k : Kind) (n : ℕ) where
-    -- no number
-    pub took-bad : x ≡ 0 → Took k s at n (Next.Refused 9)
-    took-bad z = took-off (sheet-seen s) judging (λ at n. Standing s at) k tt (number-none k s at (counted-none (drop at s) x e z))
+  module _ (z : a .count ≡ 0 → ⊥) where
+    -- the groups of a number that is read lie in the sheet
+    groups-inside : at + a .count ≤ length s
+    groups-inside =
+        let c = found-value (drop at s) a e z in
+        let l = ap length (number-only (drop at s) (a .value) (bytes-drop s at (h .bytes)) (c .value) .bytes) in
+        omega (arith, c .groups, h .inside, length-drop at s, simp length-append at l)
 
-    module _ (z : x ≡ 0 → ⊥) {a : ℕ} (y : a ≡ x % 4294967296) where
-      -- a number that is none of the kind's
-      pub took-out : k .lower a ≡ none → Took k s at n (Next.Refused (k .refusal))
-      took-out o =
-          let o′ : k .lower (x % 4294967296) ≡ none = rw y at o in
-          took-off (sheet-seen s) judging (λ at n. Standing s at) k tt (rw o′ at (number-found k s at (counted-value (drop at s) x e z .value)))
+    -- a number that is none of the kind's
+    pub took-out : k .lower (a .value) ≡ none → Took k s at n (Next.Refused (k .refusal))
+    took-out o =
+        took-off (sheet-seen s) judging (λ at n. Standing s at) k tt (rw o at (number-found k s at (found-value (drop at s) a e z .value)))
 
-      -- one of the kind's
-      pub took-in : {v to m : ℕ} → k .lower a ≡ some v → to ≡ at + x / 4294967296 → m ≡ (n + k .width) % 2 ^ 32 → Took k s at n (Next.Is v to m)
-      took-in {v} o p q =
-          let c = counted-value (drop at s) x e z in
-          let o′ : k .lower (x % 4294967296) ≡ some v = rw y at o in
-          let i : Item = record { sheet = x % 4294967296; packet = v } in
-          let f : Taken.Is i (at + x / 4294967296) ≡ numberTaken k s at = rw (o′, c .groups) at (number-found k s at (c .value)) in
-          let t : Took k s at n (Next.Is v (at + x / 4294967296) ((n + length (bitsOf (k .width) v)) % 2 ^ 32)) =
-          took-is (sheet-seen s) judging (λ at n. Standing s at) k tt f (record { bytes = h .bytes; inside = groups-inside z }) in
-          rw (p, q) (rw (length-bits (k .width) v) at t)
+    -- one of the kind's
+    pub took-in : {v to m : ℕ} → k .lower (a .value) ≡ some v → to ≡ at + a .count → m ≡ (n + k .width) % 2 ^ 32 → Took k s at n (Next.Is v to m)
+    took-in {v} o p q =
+        let c = found-value (drop at s) a e z in
+        let i : Item = record { sheet = a .value; packet = v } in
+        let f : Taken.Is i (at + a .count) ≡ numberTaken k s at = rw (o, c .groups) at (number-found k s at (c .value)) in
+        let t : Took k s at n (Next.Is v (at + a .count) ((n + length (bitsOf (k .width) v)) % 2 ^ 32)) =
+        took-is (sheet-seen s) judging (λ at n. Standing s at) k tt f (record { bytes = h .bytes; inside = groups-inside }) in
+        rw (p, q) (rw (length-bits (k .width) v) at t)
 
-      -- the same from the one number that lowering makes
-      module _ {v : ℕ} (l : v ≡ lowered k a) where
-        pub low-out : LawfulKind k → v ≡ 2 ^ k .width → Took k s at n (Next.Refused (k .refusal))
-        low-out w o = took-out (lowered-none k a v w l (omega arith))
+    -- the same from the one number that lowering makes
+    module _ {v : ℕ} (l : v ≡ lowered k (a .value)) where
+      pub low-out : LawfulKind k → v ≡ 2 ^ k .width → Took k s at n (Next.Refused (k .refusal))
+      low-out w o = took-out (lowered-none k (a .value) v w l (omega arith))
 
-        pub low-in : {to m : ℕ} → (v ≡ 2 ^ k .width → ⊥) → to ≡ at + x / 4294967296 → m ≡ (n + k .width) % 2 ^ 32 → Took k s at n (Next.Is v to m)
-        low-in o p q = took-in (lowered-some k a v l o) p q
+      pub low-in : {to m : ℕ} → (v ≡ 2 ^ k .width → ⊥) → to ≡ at + a .count → m ≡ (n + k .width) % 2 ^ 32 → Took k s at n (Next.Is v to m)
+      low-in o p q = took-in (lowered-some k (a .value) v l o) p q
 
 -- a field on whose value nothing depends
 module _ (s : List ℕ) {k : Kind} {at n : ℕ} where
@@ -92,16 +90,16 @@ module _ (s : List ℕ) {k : Kind} {at n : ℕ} where
   plain-on t = value-on (λ v f. f) t (over-none (t .stands))
 
 -- the same from the value that a number lowers to
-pub low-over : (s : List ℕ) {at : ℕ} → Standing s at → {x : ℕ} → x ≡ counted (numberIn (drop at s)) → (k : Kind) (n : ℕ) → LawfulKind k → k .refusal ≡ 4
-    → {a : ℕ} → a ≡ x % 4294967296 → {v : ℕ} → v ≡ lowered k a → {width : ℕ} → k .width ≡ width → {r : Step} → Lowers at n x v (2 ^ width) width r → Over (then k) s at n r
-low-over s {at} h {x} e k n w f y {v} l {width} d t =
-    by-cases (eqb x 0)
-    (λ b. let z : x ≡ 0 = eqb-true x 0 b in rw (t .bad z) (plain-off s (took-bad s h e k n z)))
+pub low-over : (s : List ℕ) {at : ℕ} → Standing s at → {a : Found} → a ≡ found (numberIn (drop at s)) → (k : Kind) (n : ℕ) → LawfulKind k → k .refusal ≡ 4
+    → {v : ℕ} → v ≡ lowered k (a .value) → {width : ℕ} → k .width ≡ width → {r : Step} → Lowers at n (a .count) v (2 ^ width) width r → Over (then k) s at n r
+low-over s {at} h {a} e k n w f {v} l {width} d t =
+    by-cases (eqb (a .count) 0)
+    (λ b. let z : a .count ≡ 0 = eqb-true (a .count) 0 b in rw (t .bad z) (plain-off s (took-bad s h e k n z)))
     (λ b.
-    let z : x ≡ 0 → ⊥ = eqb-false x 0 b in
+    let z : a .count ≡ 0 → ⊥ = eqb-false (a .count) 0 b in
     by-cases (eqb v (2 ^ width))
-    (λ c. let o : v ≡ 2 ^ width = eqb-true v (2 ^ width) c in rw (t .out z o) (subst (λ (m : ℕ). Over (then k) s at n (Refused m)) f (plain-off s (low-out s h e k n z y l w (rw d o)))))
-    (λ c. let o : v ≡ 2 ^ width → ⊥ = eqb-false v (2 ^ width) c in rw (t .on z o) (plain-on s (low-in s h e k n z y l (rw d o) refl (rw d)))))
+    (λ c. let o : v ≡ 2 ^ width = eqb-true v (2 ^ width) c in rw (t .out z o) (subst (λ (m : ℕ). Over (then k) s at n (Refused m)) f (plain-off s (low-out s h e k n z l w (rw d o)))))
+    (λ c. let o : v ≡ 2 ^ width → ⊥ = eqb-false v (2 ^ width) c in rw (t .on z o) (plain-on s (low-in s h e k n z l (rw d o) refl (rw d)))))
 
 -- ---- ranges, and locations
 

@@ -2,7 +2,7 @@
 -- Assumes nothing.
 use mathlib.Core.Path.{_≡_}
 use mathlib.Core.List.{List}
-use Prim.Native.Nat.{ℕ, _+_, _/_, _%_, _^_, _≤_}
+use Prim.Native.Nat.{ℕ, _+_, _%_, _^_, _≤_}
 use lib.ListN.{length, drop}
 use Rattle.bits.specs.Bits.{Bytes}
 use Rattle.kinds.specs.Kind.{Kind}
@@ -48,8 +48,8 @@ Over part s at n r = ways.Over (judge s) part at n (went r)
 abbrev pub Took : Kind → List ℕ → ℕ → ℕ → Next → Type 0
 Took k s at n r = ways.Took (judge s) k at n (got r)
 
--- the step over a field of so many bits, from what was read at the place, 0 where there is no number, and the value that it lowers to, or none
-pub record Lowers (at n read value none width : ℕ) (r : Step) : Type 0 where
-  pub bad : read ≡ 0 → r ≡ Refused 9
-  pub out : (read ≡ 0 → ⊥) → value ≡ none → r ≡ Refused 4
-  pub on : (read ≡ 0 → ⊥) → (value ≡ none → ⊥) → r ≡ On (at + read / 4294967296) ((n + width) % 2 ^ 32)
+-- the step over a field of so many bits, from the count of its number's groups, 0 where there is no number, and the value that it lowers to, or none
+pub record Lowers (at n count value none width : ℕ) (r : Step) : Type 0 where
+  pub bad : count ≡ 0 → r ≡ Refused 9
+  pub out : (count ≡ 0 → ⊥) → value ≡ none → r ≡ Refused 4
+  pub on : (count ≡ 0 → ⊥) → (value ≡ none → ⊥) → r ≡ On (at + count) ((n + width) % 2 ^ 32)

@@ -1,6 +1,6 @@
 // A field of a sheet judged at its byte, with the bits of its packet counted.
 ghost use mathlib.Core.Path.{_≡_};
-ghost use Prim.Native.Nat.{_+_, _/_, _%_, _^_, _<_};
+ghost use Prim.Native.Nat.{_+_, _^_, _<_};
 ghost use Rattle.kinds.specs.Kind.{range};
 ghost use Rattle.kinds.specs.Kinds as kind;
 ghost use Rattle.kinds.specs.Tables.{cantFigures};
@@ -23,33 +23,18 @@ pub enum Next {
     Refused(u32),
 }
 
-// The number that counted_at read.
-fn value(a: u64) -> u32
-    ensures { λ r. ⌜ r ≡ a % 4294967296 ⌝ }
+// The step over a field of width bits, from the count of groups that was found and the value that its number lowers to, which is none where there is no such value.
+fn lowered(at: usize, n: u32, count: u32, v: u32, none: u32, width: u32) -> Step
+    requires { ⌜ at + count < 2 ^ 64 ⌝ }
+    ensures { λ r. ⌜ Lowers at n count v none width r ⌝ }
 {
-    (a % 4294967296) as u32
-}
-
-// The place after it.
-fn after(at: usize, a: u64) -> usize
-    requires { ⌜ at + a / 4294967296 < 2 ^ 64 ⌝ }
-    ensures { λ r. ⌜ r ≡ at + a / 4294967296 ⌝ }
-{
-    at + (a / 4294967296) as usize
-}
-
-// The step over a field of width bits, from what counted_at read and the value that it lowers to, which is none where there is no such value.
-fn lowered(at: usize, n: u32, a: u64, v: u32, none: u32, width: u32) -> Step
-    requires { ⌜ at + a / 4294967296 < 2 ^ 64 ⌝ }
-    ensures { λ r. ⌜ Lowers at n a v none width r ⌝ }
-{
-    if a == 0 {
+    if count == 0 {
         return Step::Refused(judge::NO_NUMBER);
     }
     if v == none {
         return Step::Refused(OUT_OF_RANGE);
     }
-    Step::On(after(at, a), std::num::wrapping_add_u32(n, width))
+    Step::On(at + count as usize, std::num::wrapping_add_u32(n, width))
 }
 
 // A field from least to largest at the byte at, n bits counted before it.
@@ -65,18 +50,22 @@ pub fn ranged(
     requires { ⌜ Standing (now s) at ⌝ }
     ensures { λ r. ⌜ Took (range width least largest refusal) (now (s .entry)) at n r ⌝ }
 {
-    let found = numbers::counted_at(s, at);
-    if found == 0 {
+    let found = numbers::found_at(s, at);
+    if found.count == 0 {
         return Next::Refused(judge::NO_NUMBER);
     }
-    let v = value(found);
+    let v = found.value;
     if v < least {
         return Next::Refused(refusal);
     }
     if largest < v {
         return Next::Refused(refusal);
     }
-    Next::Is(v, after(at, found), std::num::wrapping_add_u32(n, width))
+    Next::Is(
+        v,
+        at + found.count as usize,
+        std::num::wrapping_add_u32(n, width),
+    )
 }
 
 // A change's location, after the last one and before the segment's end.
@@ -84,11 +73,11 @@ pub fn location(s: &[u8], at: usize, n: u32, last: u32, lsp: u32) -> Next
     requires { ⌜ Standing (now s) at ⌝ }
     ensures { λ r. ⌜ Took (kind.dLocation last lsp) (now (s .entry)) at n r ⌝ }
 {
-    let a = numbers::counted_at(s, at);
-    if a == 0 {
+    let a = numbers::found_at(s, at);
+    if a.count == 0 {
         return Next::Refused(judge::NO_NUMBER);
     }
-    let v = value(a);
+    let v = a.value;
     if v <= last {
         return Next::Refused(LOCATION);
     }
@@ -97,7 +86,7 @@ pub fn location(s: &[u8], at: usize, n: u32, last: u32, lsp: u32) -> Next
     }
     Next::Is(
         v,
-        after(at, a),
+        at + a.count as usize,
         std::num::wrapping_add_u32(n, body::DLocation::WIDTH),
     )
 }
@@ -107,13 +96,13 @@ pub fn operational(s: &[u8], at: usize, n: u32) -> Step
     requires { ⌜ Standing (now s) at ⌝ }
     ensures { λ r. ⌜ Over (then kind.nidOperational) (now (s .entry)) at n r ⌝ }
 {
-    let a = numbers::counted_at(s, at);
-    if a == 0 {
+    let a = numbers::found_at(s, at);
+    if a.count == 0 {
         return Step::Refused(judge::NO_NUMBER);
     }
-    if counts::digits_good(value(a)) {
+    if counts::digits_good(a.value) {
         return Step::On(
-            after(at, a),
+            at + a.count as usize,
             std::num::wrapping_add_u32(n, header::NidOperational::WIDTH),
         );
     }
@@ -125,9 +114,9 @@ pub fn speed(s: &[u8], at: usize, n: u32) -> Step
     requires { ⌜ Standing (now s) at ⌝ }
     ensures { λ r. ⌜ Over (then kind.speed) (now (s .entry)) at n r ⌝ }
 {
-    let a = numbers::counted_at(s, at);
-    let v = lowering::speed_steps(value(a));
-    lowered(at, n, a, v, lowering::NO_SPEED, body::VStatic::WIDTH)
+    let a = numbers::found_at(s, at);
+    let v = lowering::speed_steps(a.value);
+    lowered(at, n, a.count, v, lowering::NO_SPEED, body::VStatic::WIDTH)
 }
 
 // The class of an entry, by its Q_DIFF.
@@ -135,9 +124,9 @@ pub fn class(s: &[u8], figures: &[u32; 11], at: usize, n: u32, q: u32) -> Step
     requires { ⌜ Standing (now s) at × (now figures ≡ cantFigures) ⌝ }
     ensures { λ r. ⌜ Over (then (kind.class q)) (now (s .entry)) at n r ⌝ }
 {
-    let a = numbers::counted_at(s, at);
-    let v = lowering::class_place(figures, q, value(a));
-    lowered(at, n, a, v, lowering::NO_CLASS, body::NcDiff::WIDTH)
+    let a = numbers::found_at(s, at);
+    let v = lowering::class_place(figures, q, a.value);
+    lowered(at, n, a.count, v, lowering::NO_CLASS, body::NcDiff::WIDTH)
 }
 
 // M_VOLTAGE, on which NID_CTRACTION depends.
@@ -145,17 +134,17 @@ pub fn voltage(s: &[u8], at: usize, n: u32) -> Next
     requires { ⌜ Standing (now s) at ⌝ }
     ensures { λ r. ⌜ Took kind.mVoltage (now (s .entry)) at n r ⌝ }
 {
-    let a = numbers::counted_at(s, at);
-    if a == 0 {
+    let a = numbers::found_at(s, at);
+    if a.count == 0 {
         return Next::Refused(judge::NO_NUMBER);
     }
-    let v = lowering::volts_place(value(a));
+    let v = lowering::volts_place(a.value);
     if v == lowering::NO_VOLTAGE {
         return Next::Refused(OUT_OF_RANGE);
     }
     Next::Is(
         v,
-        after(at, a),
+        at + a.count as usize,
         std::num::wrapping_add_u32(n, body::MVoltage::WIDTH),
     )
 }
@@ -165,7 +154,14 @@ pub fn current(s: &[u8], at: usize, n: u32) -> Step
     requires { ⌜ Standing (now s) at ⌝ }
     ensures { λ r. ⌜ Over (then kind.mCurrent) (now (s .entry)) at n r ⌝ }
 {
-    let a = numbers::counted_at(s, at);
-    let v = lowering::current_steps(value(a));
-    lowered(at, n, a, v, lowering::NO_CURRENT, body::MCurrent::WIDTH)
+    let a = numbers::found_at(s, at);
+    let v = lowering::current_steps(a.value);
+    lowered(
+        at,
+        n,
+        a.count,
+        v,
+        lowering::NO_CURRENT,
+        body::MCurrent::WIDTH,
+    )
 }

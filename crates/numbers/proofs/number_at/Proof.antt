@@ -2,22 +2,19 @@
 use mathlib.Core.Path.{sym}
 use lib.ListN.{drop}
 use denote.Ref.{now}
-use Rattle.numbers.proofs.Reading.{counted-none, counted-value}
+use Rattle.numbers.proofs.Reading.{found-none, found-value}
 use borrow.Author.Needs.{needs}
 use Rattle.numbers.proofs.number_at.Statement.{statement}
 use Rattle.numbers.proofs.number_at.Tie as tie
 
-counted-at-requires : tie.Need-counted-at-requires
-counted-at-requires c κs = search needs
+found-at-requires : tie.Need-found-at-requires
+found-at-requires c κs = search needs
 
 returns : tie.Need-returns
-returns c = let a = c .before .before .before .args in sym (counted-none (drop (a .at) (now (a .s))) _ (c .before .counted-at .ensures) (c .if1 .taken))
-
-cast-t6 : tie.Need-cast-t6
-cast-t6 c = search needs
+returns c = let a = c .before .before .before .before .args in sym (found-none (drop (a .at) (now (a .s))) _ (c .before .before .found-at .ensures) (c .if1 .taken))
 
 returns-2 : tie.Need-returns-2
-returns-2 c = let a = c .before .before .before .args in sym (counted-value (drop (a .at) (now (a .s))) _ (c .before .counted-at .ensures) (c .if1 .left) .value)
+returns-2 c = let a = c .before .before .before .before .args in sym (found-value (drop (a .at) (now (a .s))) _ (c .before .before .found-at .ensures) (c .if1 .left) .value)
 
 pub number-at-spec : {M : Type 1} → statement M
-number-at-spec = tie.close (tie.spec counted-at-requires returns cast-t6 returns-2)
+number-at-spec = tie.close (tie.spec found-at-requires returns returns-2)

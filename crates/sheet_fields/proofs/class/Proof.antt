@@ -8,11 +8,8 @@ use borrow.Author.Needs.{needs}
 use Rattle.sheet_fields.proofs.class.Statement.{statement}
 use Rattle.sheet_fields.proofs.class.Tie as tie
 
-counted-at-requires : tie.Need-counted-at-requires
-counted-at-requires c κs = search needs
-
-value-requires : tie.Need-value-requires
-value-requires c κs = search needs
+found-at-requires : tie.Need-found-at-requires
+found-at-requires c κs = search needs
 
 class-place-requires : tie.Need-class-place-requires
 class-place-requires c κs = search needs
@@ -22,10 +19,8 @@ lowered-requires c κs = search needs
 
 returns : tie.Need-returns
 returns c =
-    let a = c .before .before .before .before .before .args in
-    low-over (now (a .s)) (c .before .before .before .before .before .pre .0) (c .before .before .before .counted-at .ensures) (class (a .q)) (a .n) (class-lawful (a .q)) (class-refusal (a .q)) (c .before .before .value .ensures) (c .before .class-place .ensures) (class-width (a .q)) (c .lowered .ensures)
+    let a = c .before .before .before .before .args in
+    low-over (now (a .s)) (c .before .before .before .before .pre .0) (c .before .before .found-at .ensures) (class (a .q)) (a .n) (class-lawful (a .q)) (class-refusal (a .q)) (c .before .class-place .ensures) (class-width (a .q)) (c .lowered .ensures)
 
 pub class-spec : {M : Type 1} → statement M
-class-spec =
-    tie.close
-    (tie.spec counted-at-requires value-requires class-place-requires lowered-requires returns)
+class-spec = tie.close (tie.spec found-at-requires class-place-requires lowered-requires returns)

@@ -8,11 +8,8 @@ use borrow.Author.Needs.{needs}
 use Rattle.sheet_fields.proofs.current.Statement.{statement}
 use Rattle.sheet_fields.proofs.current.Tie as tie
 
-counted-at-requires : tie.Need-counted-at-requires
-counted-at-requires c κs = search needs
-
-value-requires : tie.Need-value-requires
-value-requires c κs = search needs
+found-at-requires : tie.Need-found-at-requires
+found-at-requires c κs = search needs
 
 current-steps-requires : tie.Need-current-steps-requires
 current-steps-requires c κs = search needs
@@ -22,10 +19,9 @@ lowered-requires c κs = search needs
 
 returns : tie.Need-returns
 returns c =
-    let a = c .before .before .before .before .before .args in
-    low-over (now (a .s)) (c .before .before .before .before .before .pre) (c .before .before .before .counted-at .ensures) mCurrent (a .n) current-lawful refl (c .before .before .value .ensures) (c .before .current-steps .ensures) refl (c .lowered .ensures)
+    let a = c .before .before .before .before .args in
+    low-over (now (a .s)) (c .before .before .before .before .pre) (c .before .before .found-at .ensures) mCurrent (a .n) current-lawful refl (c .before .current-steps .ensures) refl (c .lowered .ensures)
 
 pub current-spec : {M : Type 1} → statement M
 current-spec =
-    tie.close
-    (tie.spec counted-at-requires value-requires current-steps-requires lowered-requires returns)
+    tie.close (tie.spec found-at-requires current-steps-requires lowered-requires returns)

@@ -10,8 +10,8 @@ returns c = let e = c .if1 .taken in record { bad = λ z. refl; out = λ z o. ab
 returns-2 : tie.Need-returns-2
 returns-2 c = record { bad = λ z. absurd (c .before .if1 .left z); out = λ z o. refl; on = λ z o. absurd (o (c .if2 .taken)) }
 
-after-requires : tie.Need-after-requires
-after-requires c κs = search needs
+add-t9 : tie.Need-add-t9
+add-t9 c = search needs
 
 wrapping-add-u32-requires : tie.Need-wrapping-add-u32-requires
 wrapping-add-u32-requires c κs = search needs
@@ -19,11 +19,10 @@ wrapping-add-u32-requires c κs = search needs
 returns-3 : tie.Need-returns-3
 returns-3 c =
     record {
-      bad = λ z. absurd (c .before .before .before .if1 .left z);
-      out = λ z o. absurd (c .before .before .if2 .left o);
-      on = λ z o. rw (c .before .after .ensures, c .wrapping-add-u32 .ensures);
+      bad = λ z. absurd (c .before .before .if1 .left z);
+      out = λ z o. absurd (c .before .if2 .left o);
+      on = λ z o. rw (c .wrapping-add-u32 .ensures);
     }
 
 pub lowered-spec : {M : Type 1} → statement M
-lowered-spec =
-    tie.close (tie.spec returns returns-2 after-requires wrapping-add-u32-requires returns-3)
+lowered-spec = tie.close (tie.spec returns returns-2 add-t9 wrapping-add-u32-requires returns-3)

@@ -8,11 +8,8 @@ use borrow.Author.Needs.{needs}
 use Rattle.sheet_fields.proofs.speed.Statement.{statement}
 use Rattle.sheet_fields.proofs.speed.Tie as tie
 
-counted-at-requires : tie.Need-counted-at-requires
-counted-at-requires c κs = search needs
-
-value-requires : tie.Need-value-requires
-value-requires c κs = search needs
+found-at-requires : tie.Need-found-at-requires
+found-at-requires c κs = search needs
 
 speed-steps-requires : tie.Need-speed-steps-requires
 speed-steps-requires c κs = search needs
@@ -22,10 +19,8 @@ lowered-requires c κs = search needs
 
 returns : tie.Need-returns
 returns c =
-    let a = c .before .before .before .before .before .args in
-    low-over (now (a .s)) (c .before .before .before .before .before .pre) (c .before .before .before .counted-at .ensures) speed (a .n) speed-lawful refl (c .before .before .value .ensures) (c .before .speed-steps .ensures) refl (c .lowered .ensures)
+    let a = c .before .before .before .before .args in
+    low-over (now (a .s)) (c .before .before .before .before .pre) (c .before .before .found-at .ensures) speed (a .n) speed-lawful refl (c .before .speed-steps .ensures) refl (c .lowered .ensures)
 
 pub speed-spec : {M : Type 1} → statement M
-speed-spec =
-    tie.close
-    (tie.spec counted-at-requires value-requires speed-steps-requires lowered-requires returns)
+speed-spec = tie.close (tie.spec found-at-requires speed-steps-requires lowered-requires returns)

@@ -1,0 +1,118 @@
+-- `numbers::found_at` meets its contract.
+use mathlib.Core.Path.{_≡_, refl, ap, _∙_}
+use Prim.Native.Nat.{ℕ, _+_, _*_, _/_, _%_}
+use denote.Ref.{now}
+use lib.ListN.{drop}
+use borrow.Author.Tests.{ltb-true}
+use Rattle.bits.proofs.Cells.{whole-part}
+use Rattle.numbers.specs.Numbers.{numberIn}
+use Rattle.numbers.specs.Groups.{counted, found}
+use Rattle.numbers.proofs.Reading.{number-end, number-below, short-product, short-value, counted-short, found-is}
+use native.Mathlib.Omega.{arith}
+use borrow.Author.Needs.{needs}
+use Rattle.numbers.proofs.found_at.Statement.{statement}
+use Rattle.numbers.proofs.found_at.Tie as tie
+
+returns : tie.Need-returns
+returns c = let a = c .before .before .args in ap found (number-end (now (a .s)) (a .at) 5 (c .if1 .taken))
+
+add-if2 : tie.Need-add-if2
+add-if2 c = search needs
+
+shared-slice-read-wide : tie.Need-shared-slice-read-wide
+shared-slice-read-wide c = search needs
+
+wide-requires : tie.Need-wide-requires
+wide-requires c κs = search needs
+
+add-wide : tie.Need-add-wide
+add-wide c = search needs
+
+shared-slice-read-wide-2 : tie.Need-shared-slice-read-wide-2
+shared-slice-read-wide-2 c = search needs
+
+wide-requires-2 : tie.Need-wide-requires-2
+wide-requires-2 c κs = search needs
+
+mul-high : tie.Need-mul-high
+mul-high c =
+    let a = c .before .before .before .before .before .before .before .args in
+    omega (arith, short-product (c .wide2 .result) (c .before .before .wide .result) (omega (arith, c .wide2 .ensures, c .before .shared-slice-known3 .given (a .at + 1))) (omega (arith, c .before .before .wide .ensures, c .before .before .before .shared-slice-known2 .given (a .at))))
+
+mul-t18 : tie.Need-mul-t18
+mul-t18 c = omega (arith, short-value (c .before .before .before .before .wide .result) (c .before .before .wide2 .result * (c .before .before .before .before .wide .result / 128)) (ltb-true _ 128 (c .if4 .taken)))
+
+add-t19 : tie.Need-add-t19
+add-t19 c = omega (arith, short-value (c .before .before .before .before .wide .result) (c .before .before .wide2 .result * (c .before .before .before .before .wide .result / 128)) (ltb-true _ 128 (c .if4 .taken)))
+
+cast-t20 : tie.Need-cast-t20
+cast-t20 c = omega (arith, short-value (c .before .before .before .before .wide .result) (c .before .before .wide2 .result * (c .before .before .before .before .wide .result / 128)) (ltb-true _ 128 (c .if4 .taken)))
+
+add-t21 : tie.Need-add-t21
+add-t21 c = search needs
+
+cast-t22 : tie.Need-cast-t22
+cast-t22 c =
+    let a = c .before .before .before .before .before .before .before .before .before .args in
+    omega (arith, c .before .before .before .before .wide .ensures, c .before .before .before .before .before .shared-slice-known2 .given (a .at))
+
+returns-2 : tie.Need-returns-2
+returns-2 c =
+    let a = c .before .before .before .before .before .before .before .before .before .args in
+    let w = c .before .before .before .before .wide in
+    let high : ℕ = c .before .before .wide2 .result * (w .result / 128) in
+    let few = ltb-true _ 128 (c .if4 .taken) in
+    found-is (numberIn (drop (a .at) (now (a .s)))) (number-below 5 (drop (a .at) (now (a .s)))) (w .result % 128 + 128 * high) (1 + w .result / 128) (omega (arith, short-value (w .result) high few))
+    (counted-short (now (a .s)) (a .at) (c .before .before .before .before .before .before .if2 .taken) (w .result) (w .result / 128) high (w .ensures) (omega (arith, w .ensures, c .before .before .before .before .before .shared-slice-known2 .given (a .at)))
+    refl (ap (λ (x : ℕ). x * (w .result / 128)) (c .before .before .wide2 .ensures)) (c .before .if3 .taken) few)
+
+sub-read-number : tie.Need-sub-read-number
+sub-read-number c = search needs
+
+part-read-number-start : tie.Need-part-read-number-start
+part-read-number-start c = search needs
+
+part-read-number-end : tie.Need-part-read-number-end
+part-read-number-end c = search needs
+
+read-number-requires : tie.Need-read-number-requires
+read-number-requires c κs = search needs
+
+cast-t27 : tie.Need-cast-t27
+cast-t27 c = search needs
+
+cast-t29 : tie.Need-cast-t29
+cast-t29 c = search needs
+
+returns-3 : tie.Need-returns-3
+returns-3 c =
+    let a = c .before .before .before .before .before .args in
+    let r : ℕ = c .read-number .result in
+    let e : r ≡ counted (numberIn (drop (a .at) (now (a .s)))) = c .read-number .ensures ∙ rw (whole-part (now (a .s))) in
+    found-is (numberIn (drop (a .at) (now (a .s)))) (number-below 5 (drop (a .at) (now (a .s)))) (r % 4294967296) (r / 4294967296) (omega arith) (omega arith)
+
+pub found-at-spec : {M : Type 1} → statement M
+found-at-spec =
+    tie.close
+    (tie.spec
+    returns
+    add-if2
+    shared-slice-read-wide
+    wide-requires
+    add-wide
+    shared-slice-read-wide-2
+    wide-requires-2
+    mul-high
+    mul-t18
+    add-t19
+    cast-t20
+    add-t21
+    cast-t22
+    returns-2
+    sub-read-number
+    part-read-number-start
+    part-read-number-end
+    read-number-requires
+    cast-t27
+    cast-t29
+    returns-3)
