@@ -114,29 +114,23 @@ module _ {s : List ℕ} {from b : ℕ} (t : There s from) (g : b ≡ getD s from
   start : Rest s from from 0 1 b
   start = rest-start s from (t .value) b (t .is) g (omega arith)
 
-  pub short-inside : from + b / 128 < length s
-  short-inside =
+  one-or-two : {C : Type 0} → (b < 128 → b / 128 ≡ 0 → C) → (128 ≤ b → b / 128 ≡ 1 → C) → C
+  one-or-two f k =
       by-cases (ltb b 128)
-      (λ d. let l = ltb-true b 128 d in omega (arith, rest-inside start))
-      (λ d. let l = ltb-false b 128 d in omega (arith, rest-next start l))
+      (λ d. let l = ltb-true b 128 d in f l (omega arith))
+      (λ d. let l = ltb-false b 128 d in k l (omega arith))
+
+  pub short-inside : from + b / 128 < length s
+  short-inside = one-or-two (λ l o. omega (arith, rest-inside start)) (λ l o. omega (arith, rest-next start l))
 
   pub short-small : (a : ℕ) → a < 128 → a * (b / 128 * 128) < 16384
-  short-small a k =
-      by-cases (ltb b 128)
-      (λ d. let l = ltb-true b 128 d in let o : b / 128 ≡ 0 = omega arith in rw o (omega arith))
-      (λ d. let l = ltb-false b 128 d in let o : b / 128 ≡ 1 = omega arith in rw o (omega arith))
+  short-small a k = one-or-two (λ l o. rw o (omega arith)) (λ l o. rw o (omega arith))
 
   pub short-reads : (a : ℕ) → a ≡ getD s (from + b / 128) 0 → a < 128 → Reads s from (record { value = b % 128 + a * (b / 128 * 128); next = from + 1 + b / 128 })
   short-reads a e k =
-      by-cases (ltb b 128)
-      (λ d.
-      let l = ltb-true b 128 d in
-      let o : b / 128 ≡ 0 = omega arith in
-      let w = rest-last start l in
-      rest-reads start (rw o (omega (arith, w .0))) (rw o (omega (arith, w .1))))
-      (λ d.
-      let l = ltb-false b 128 d in
-      let o : b / 128 ≡ 1 = omega arith in
+      one-or-two
+      (λ l o. let w = rest-last start l in rest-reads start (rw o (omega (arith, w .0))) (rw o (omega (arith, w .1))))
+      (λ l o.
       let r = rest-more start l a (rw o at e) (omega arith) in
       let w = rest-last r k in
       let q : a * (b / 128 * 128) ≡ a * 128 = rw o in
