@@ -26,25 +26,33 @@ fn byte(s: &[u8], i: usize) -> u64
     wide(s[i])
 }
 
+// Twice n bytes, from their halves. The slice and the place are for the contract alone.
+fn joined(s: &[u8], i: usize, n: u32, low: u64, high: u64) -> u64
+    requires { ⌜ (n ≤ 4) × (i + (n + n) ≤ length (now s)) × (low ≡ fieldAt (now s) (8 * (i + n)) (8 * n)) × (high ≡ fieldAt (now s) (8 * i) (8 * n)) ⌝ }
+    ensures { λ r. ⌜ r ≡ fieldAt (now (s .entry)) (8 * i) (8 * n + 8 * n) ⌝ }
+{
+    low + high * power(8 * n)
+}
+
 fn two(s: &[u8], i: usize) -> u64
     requires { ⌜ i + 2 ≤ length (now s) ⌝ }
     ensures { λ r. ⌜ r ≡ fieldAt (now (s .entry)) (8 * i) 16 ⌝ }
 {
-    byte(s, i + 1) + byte(s, i) * 256
+    joined(s, i, 1, byte(s, i + 1), byte(s, i))
 }
 
 fn four(s: &[u8], i: usize) -> u64
     requires { ⌜ i + 4 ≤ length (now s) ⌝ }
     ensures { λ r. ⌜ r ≡ fieldAt (now (s .entry)) (8 * i) 32 ⌝ }
 {
-    two(s, i + 2) + two(s, i) * 65536
+    joined(s, i, 2, two(s, i + 2), two(s, i))
 }
 
 fn eight(s: &[u8], i: usize) -> u64
     requires { ⌜ i + 8 ≤ length (now s) ⌝ }
     ensures { λ r. ⌜ r ≡ fieldAt (now (s .entry)) (8 * i) 64 ⌝ }
 {
-    four(s, i + 4) + four(s, i) * 4294967296
+    joined(s, i, 4, four(s, i + 4), four(s, i))
 }
 
 // ---- a field of eight bytes
