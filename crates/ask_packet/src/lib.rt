@@ -7,10 +7,11 @@ ghost use Rattle.kinds.specs.Tables.{cantFigures};
 ghost use Rattle.segment.specs.Segment as segment;
 ghost use Rattle.segment.specs.Parts as parts;
 ghost use Rattle.speed.specs.Speed.{segmentLength, speedIn};
-ghost use Rattle.elements.specs.Elements.{none};
-ghost use Rattle.elements.specs.Reading.{Readable, EntryRead, EntriesRead, Opens, ElementRead, Ended, Finished, ChangesRead, ProfileRead};
+ghost use Rattle.elements.specs.Reading.{Readable, EntryRead, Opens, ElementRead, Ended, NextRead, ChangesRead, ProfileRead};
 ghost use Rattle.ask_packet.specs.Asking.{AcceptedPacket, numbersOfPacket, Reads};
+use elements::Found;
 use elements::Lows;
+use elements::Next;
 use elements::Open;
 use fields::tables;
 use kinds::body;
@@ -25,12 +26,6 @@ const PROFILE: usize = 253;
 const ENTRY: usize = 13;
 
 const ELEMENT: usize = 13;
-
-// An element, and the bit after it.
-pub struct Found {
-    pub open: Open,
-    pub next: usize,
-}
 
 fn chosen(so: bool, a: u32, b: u32) -> u32
     ensures { λ r. ⌜ r ≡ cond so a b ⌝ }
@@ -62,23 +57,6 @@ fn entry(s: &[u8], at: usize, figures: &[u32], train: Train, lows: Lows) -> Lows
     lows.with(train, q_diff, class, t % 128 * body::VStatic::STEP)
 }
 
-// The speed of an element, from its V_STATIC in km/h and its entries.
-fn entries(s: &[u8], at: usize, count: u32, train: Train, v_static: u32) -> u32
-    requires { ⌜ («v_static» < none) × Readable (Reads (now s)) (segment.entries count) at ⌝ }
-    ensures { λ r. ⌜ EntriesRead (Reads (now (s .entry))) train «v_static» count at r ⌝ }
-{
-    let figures = tables::CANT_FIGURES;
-    let mut lows = elements::no_lows();
-    let mut to = at;
-    let mut left = count;
-    while 0 < left {
-        lows = entry(s, to, &figures, train, lows);
-        to += ENTRY;
-        left -= 1;
-    }
-    lows.speed(v_static)
-}
-
 // The element at the bit at, which starts at the location start. Its entries are passed over.
 fn element(s: &[u8], at: usize, start: u32) -> Found
     requires { ⌜ Readable (Reads (now s)) (segment.profile) at ⌝ }
@@ -104,23 +82,41 @@ fn ended(s: &[u8], open: Open, train: Train, held: u32, end: u32, x: u32) -> u32
     requires { ⌜ Opens (Reads (now s)) «open» ⌝ }
     ensures { λ r. ⌜ Ended (Reads (now (s .entry))) train held end x «open» r ⌝ }
 {
-    if open.holds(train, end, x) {
-        let speed = entries(s, open.entries, open.count, train, open.v_static);
-        return elements::lower(held, speed);
+    if !open.holds(train, end, x) {
+        return held;
     }
-    held
+    let figures = tables::CANT_FIGURES;
+    let mut lows = elements::no_lows();
+    let mut to = open.entries;
+    let mut left = open.count;
+    while 0 < left {
+        lows = entry(s, to, &figures, train, lows);
+        to += ENTRY;
+        left -= 1;
+    }
+    lows.lowered(open.v_static, held)
 }
 
-// The permitted speed at x, once the last element ends at lsp.
-fn finished(s: &[u8], open: Open, train: Train, held: u32, lsp: u32, x: u32) -> u32
-    requires { ⌜ Opens (Reads (now s)) «open» ⌝ }
-    ensures { λ r. ⌜ Finished (Reads (now (s .entry))) train held lsp x «open» r ⌝ }
+// The next change, of so many that are left at the bit at: the open element ends at its location. After the last it ends at lsp, and nothing follows.
+fn next(s: &[u8], open: Open, at: usize, left: u64, lsp: u32) -> Next
+    requires { ⌜ Readable (Reads (now s)) (segment.changes segment.profile lsp («open» .start) left) at ⌝ }
+    ensures { λ r. ⌜ NextRead (Reads (now (s .entry))) lsp «open» left at r ⌝ }
 {
-    if open.holds(train, lsp, x) {
-        let speed = entries(s, open.entries, open.count, train, open.v_static);
-        return elements::permitted(elements::lower(held, speed));
+    if left == 0 {
+        return Next {
+            end: lsp,
+            open,
+            next: at,
+        };
     }
-    elements::permitted(held)
+    let start = bits::read_window(s, at, body::DLocation::WIDTH);
+    let e = element(s, at + 24, start);
+    let open = e.open;
+    Next {
+        end: start,
+        open,
+        next: e.next,
+    }
 }
 
 // The permitted speed at x, from the changes after the first element. The last element ends at lsp.
@@ -131,16 +127,15 @@ fn changes(s: &[u8], at: usize, count: u32, train: Train, lsp: u32, x: u32, firs
     let mut held = elements::NONE;
     let mut open = first;
     let mut to = at;
-    let mut left = count;
+    let mut left = count as u64 + 1;
     while 0 < left {
-        let start = bits::read_window(s, to, body::DLocation::WIDTH);
-        let e = element(s, to + 24, start);
-        held = ended(s, open, train, held, start, x);
-        open = e.open;
-        to = e.next;
         left -= 1;
+        let n = next(s, open, to, left, lsp);
+        held = ended(s, open, train, held, n.end, x);
+        open = n.open;
+        to = n.next;
     }
-    finished(s, open, train, held, lsp, x)
+    elements::permitted(held)
 }
 
 // The permitted speed at x, from the profile at the bit at: its first element, the count of its changes, and the changes.

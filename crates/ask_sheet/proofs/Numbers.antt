@@ -12,7 +12,8 @@ use Rattle.numbers.specs.declared.Number.{Number}
 use Rattle.numbers.specs.declared.Number.the-variants.{Value, Bad}
 use Rattle.numbers.specs.Numbers.{numberIn, groupsIn}
 use Rattle.bits.proofs.Tests.{by-cases}
-use Rattle.numbers.proofs.Reading.{number-only}
+use Rattle.numbers.specs.Groups.{counted}
+use Rattle.numbers.proofs.Reading.{number-only, number-end}
 use Rattle.numbers.proofs.Counting.{last-group, more-groups}
 use Rattle.kinds.specs.declared.Item.{Item}
 use Rattle.kinds.specs.Kind.{Kind}
@@ -27,9 +28,9 @@ use Rattle.format.proofs.Media.{bytes-drop}
 use Rattle.format.proofs.Passing.{sheet-seen}
 use Rattle.format.proofs.Accepted.{Accepts, field-accepted}
 use Rattle.elements.specs.Elements as elements
-use Rattle.elements.specs.Reading.{Readable, Past, FieldRead}
+use Rattle.elements.specs.Reading.{Past, FieldRead}
 use Rattle.elements.proofs.Reading.{first-left}
-use Rattle.ask_sheet.specs.Asking.{countedAt, Reads}
+use Rattle.ask_sheet.specs.Asking.{countedAt, NumberAt, Reads}
 
 -- what is taken of a number
 record NumberTaken (k : Kind) (s : List ℕ) (at : ℕ) (i : Item) (to : ℕ) : Type 0 where
@@ -80,29 +81,29 @@ abbrev pub valueOr : Option ℕ → ℕ
 valueOr none = 0
 valueOr (some v) = v
 
-module _ (s : List ℕ) (k : Kind) {next : ℕ → Format} {at : ℕ} {l : List Item} {c : ℕ} (e : c ≡ countedAt s at) (h : Reads s (field k next) at l) where
+module _ (s : List ℕ) (k : Kind) {next : ℕ → Format} {at : ℕ} {l : List Item} (h : Reads s (field k next) at l) where
   accepts : Accepts sheet (λ n. drop n s) (λ j n. numberTaken j s n) k next at l
   accepts = field-accepted sheet (λ n. drop n s) (λ j n. numberTaken j s n) (sheet-seen s) k next at l tt (h .reads)
 
   -- the number as it is spelled, and as it is counted
   record Spelled : Type 0 where
-    pub value : c % 4294967296 ≡ accepts .item .sheet
-    pub to : accepts .to ≡ at + c / 4294967296
-    pub inside : at + c / 4294967296 ≤ length s
-    pub lowers : k .lower (c % 4294967296) ≡ some (accepts .item .packet)
-    pub groups : c / 4294967296 ≡ length (groupsIn (c % 4294967296))
-    pub number : numberIn (drop at s) ≡ Value (c % 4294967296)
-    pub first : c % 4294967296 < 16384 → c / 4294967296 ≡ 1 + getD s at 0 / 128
-    pub single : c % 4294967296 < 128 → getD s at 0 ≡ c % 4294967296
+    pub value : countedAt s at % 4294967296 ≡ accepts .item .sheet
+    pub to : accepts .to ≡ at + countedAt s at / 4294967296
+    pub inside : at + countedAt s at / 4294967296 ≤ length s
+    pub lowers : k .lower (countedAt s at % 4294967296) ≡ some (accepts .item .packet)
+    pub groups : countedAt s at / 4294967296 ≡ length (groupsIn (countedAt s at % 4294967296))
+    pub number : numberIn (drop at s) ≡ Value (countedAt s at % 4294967296)
+    pub first : countedAt s at % 4294967296 < 16384 → countedAt s at / 4294967296 ≡ 1 + getD s at 0 / 128
+    pub single : countedAt s at % 4294967296 < 128 → getD s at 0 ≡ countedAt s at % 4294967296
 
   spelled : Spelled
   spelled =
       let n = taken-number k s at (accepts .takes) in
       let a = accepts .item .sheet in
       let w = number-only (drop at s) a (bytes-drop at s (h .ok)) (n .number) in
-      let d : c ≡ a + 4294967296 * length (groupsIn a) = e ∙ rw (n .number) in
-      let v = value-of a (length (groupsIn a)) c (w .small) d in
-      let g = groups-of a (length (groupsIn a)) c (w .small) d in
+      let d : countedAt s at ≡ a + 4294967296 * length (groupsIn a) = rw (n .number) in
+      let v = value-of a (length (groupsIn a)) (countedAt s at) (w .small) d in
+      let g = groups-of a (length (groupsIn a)) (countedAt s at) (w .small) d in
       let long = ap length (w .bytes) ∙ length-append (groupsIn a) (drop (length (groupsIn a)) (drop at s)) in
       record {
         value = v;
@@ -121,17 +122,17 @@ module _ (s : List ℕ) (k : Kind) {next : ℕ → Format} {at : ℕ} {l : List 
   -- what is known of a field that is left
   pub record Known : Type 0 where
     pub packet : ℕ
-    pub lowers : k .lower (c % 4294967296) ≡ some packet
-    pub inside : at + c / 4294967296 ≤ length s
-    pub groups : c / 4294967296 ≡ length (groupsIn (c % 4294967296))
-    pub number : numberIn (drop at s) ≡ Value (c % 4294967296)
-    pub first : c % 4294967296 < 16384 → c / 4294967296 ≡ 1 + getD s at 0 / 128
-    pub single : c % 4294967296 < 128 → getD s at 0 ≡ c % 4294967296
+    pub lowers : k .lower (countedAt s at % 4294967296) ≡ some packet
+    pub inside : at + countedAt s at / 4294967296 ≤ length s
+    pub groups : countedAt s at / 4294967296 ≡ length (groupsIn (countedAt s at % 4294967296))
+    pub number : numberIn (drop at s) ≡ Value (countedAt s at % 4294967296)
+    pub first : countedAt s at % 4294967296 < 16384 → countedAt s at / 4294967296 ≡ 1 + getD s at 0 / 128
+    pub single : countedAt s at % 4294967296 < 128 → getD s at 0 ≡ countedAt s at % 4294967296
 
   pub known : Known
   known = let w = spelled in record { packet = accepts .item .packet; lowers = w .lowers; inside = w .inside; groups = w .groups; number = w .number; first = w .first; single = w .single }
 
-  field-past : (v : ℕ) → ((u : ℕ) → k .lower (c % 4294967296) ≡ some u → u ≡ v) → Past (Reads s) (next v) (at + c / 4294967296) (drop 1 (sheetNumbers l))
+  field-past : (v : ℕ) → ((u : ℕ) → k .lower (countedAt s at % 4294967296) ≡ some u → u ≡ v) → Past (Reads s) (next v) (at + countedAt s at / 4294967296) (drop 1 (sheetNumbers l))
   field-past v only =
       let a = accepts in
       let w = spelled in
@@ -141,22 +142,23 @@ module _ (s : List ℕ) (k : Kind) {next : ℕ → Format} {at : ℕ} {l : List 
         numbers = sym (ap (λ (m : List Item). drop 1 (sheetNumbers m)) (a .is));
       }
 
-  field-number : getD (sheetNumbers l) 0 0 ≡ c % 4294967296
+  field-number : getD (sheetNumbers l) 0 0 ≡ countedAt s at % 4294967296
   field-number = ap (λ (m : List Item). getD (sheetNumbers m) 0 0) (accepts .is) ∙ sym (spelled .value)
 
-module _ (s : List ℕ) (k : Kind) (at : ℕ) {c to a : ℕ} (e : c ≡ countedAt s at) (f : to ≡ at + c / 4294967296) (g : a ≡ c % 4294967296) where
+module _ (s : List ℕ) (k : Kind) {at to a : ℕ} (n : NumberAt s at to a) where
   -- a field at a place, whose packet's value is v
   pub field-read : (v : ℕ) → ((u : ℕ) → k .lower a ≡ some u → u ≡ v) → FieldRead (Reads s) k at to v a
   field-read v only =
-      rw (f, g)
-      record { past = λ next l h. field-past s k e h v (λ u d. only u (rw g d)); is = λ next l h. field-number s k e h }
+      rw (n .next, n .value)
+      record { past = λ next l h. field-past s k h v (λ u d. only u (rw (n .value) d)); is = λ next l h. field-number s k h }
 
   -- one on whose value nothing depends
   pub field-any : FieldRead (Reads s) k at to (valueOr (k .lower a)) a
   field-any = field-read (valueOr (k .lower a)) (λ u d. sym (ap valueOr d))
 
-  pub number-inside : {part : ℕ → Format → Format} → Readable (Reads s) (λ i. field k (λ u. part u i)) at → to ≤ length s
-  number-inside h = rw f (known s k e (h .reads) .inside)
+-- past the end there is none
+pub none-past : (s : List ℕ) (at : ℕ) → length s ≤ at → countedAt s at ≡ 0
+none-past s at h = sym (ap counted (number-end s at 5 h))
 
 -- a speed is below none
 pub speed-below : {a v : ℕ} → speed .lower a ≡ some v → a < elements.none

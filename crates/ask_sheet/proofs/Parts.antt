@@ -29,7 +29,7 @@ use Rattle.speed.proofs.Lowering.{when-is}
 use Rattle.elements.specs.Elements.{none}
 use Rattle.elements.specs.Reading.{Readable, Past, Passes, FieldRead, ProfileRead}
 use Rattle.elements.proofs.Reading.{readable-field, past-here, then-past, then-is, passes-past}
-use Rattle.ask_sheet.specs.Asking.{AcceptedSheet, numbersOfSheet, countedAt, shortEnd, entryEnd, Reads, HeadRead}
+use Rattle.ask_sheet.specs.Asking.{AcceptedSheet, numbersOfSheet, countedAt, NumberAt, numberEnd, shortEnd, entryEnd, Reads, HeadRead}
 use Rattle.ask_sheet.proofs.Numbers.{valueOr, field-read, field-any, known, speed-below}
 
 class-highest : (q : ℕ) → class q .highest < 16384
@@ -46,28 +46,22 @@ count-lawful : LawfulKind (nIter 31)
 count-lawful = upTo-lawful 5 31 (narrow tt) (lit< tt)
 
 module _ (s : List ℕ) where
-  -- a number whose groups are counted: the place after it, and its value
-  pub record NumberAt (at c to a : ℕ) : Type 0 where
-    pub reads : c ≡ countedAt s at
-    pub next : to ≡ at + c / 4294967296
-    pub value : a ≡ c % 4294967296
-
-  module _ {at c to a : ℕ} (n : NumberAt at c to a) where
+  module _ {at to a : ℕ} (n : NumberAt s at to a) where
     -- a field whose number in the sheet is its value
     pub same-read : (k : Kind) → ((u : ℕ) → k .lower u ≡ when (k .allowed u) u) → FieldRead (Reads s) k at to a a
-    same-read k q = field-read s k at (n .reads) (n .next) (n .value) a (λ u d. when-is (k .allowed a) a u (sym (q a) ∙ d))
+    same-read k q = field-read s k n a (λ u d. when-is (k .allowed a) a u (sym (q a) ∙ d))
 
     pub class-read : (q : ℕ) → FieldRead (Reads s) (class q) at to (valueOr (class q .lower a)) a
-    class-read q = field-any s (class q) at (n .reads) (n .next) (n .value)
+    class-read q = field-any s (class q) n
 
     pub speed-read : FieldRead (Reads s) speed at to (valueOr (speed .lower a)) a
-    speed-read = field-any s speed at (n .reads) (n .next) (n .value)
+    speed-read = field-any s speed n
 
     pub speed-small : (part : ℕ → Format → Format) → Readable (Reads s) (λ i. field speed (λ u. part u i)) at → a < none
-    speed-small part h = rw (n .value) (speed-below (known s speed (n .reads) (h .reads) .lowers))
+    speed-small part h = rw (n .value) (speed-below (known s speed (h .reads) .lowers))
 
   -- the third number of an entry is a speed
-  pub entry-small : {at b d to q g w c₀ c₁ c₂ : ℕ} → NumberAt at c₀ b q → NumberAt b c₁ d g → NumberAt d c₂ to w → Readable (Reads s) entry at → w < none
+  pub entry-small : {at b d to q g w : ℕ} → NumberAt s at b q → NumberAt s b d g → NumberAt s d to w → Readable (Reads s) entry at → w < none
   entry-small {q = q} x y z h =
       speed-small z (λ u f. f)
       (readable-field (Reads s) (class-read y q) (λ c f. then speed f) (readable-field (Reads s) (same-read x qDiff (λ u. refl)) (λ q f. then (class q) (then speed f)) h))
@@ -76,20 +70,20 @@ module _ (s : List ℕ) where
 
   module _ {k : Kind} (w : LawfulKind k) {next : ℕ → Format} {at : ℕ} {l : List Item} (h : Reads s (field k next) at l) where
     -- a number of at most two groups, and where it ends
-    short-at : k .highest < 16384 → NumberAt at (countedAt s at) (shortEnd s at) (countedAt s at % 4294967296)
+    short-at : k .highest < 16384 → NumberAt s at (shortEnd s at) (countedAt s at % 4294967296)
     short-at m =
-        let n = known s k refl h in
-        record { reads = refl; next = omega (arith, n .first (omega (arith, w .top (countedAt s at % 4294967296) (n .packet) (n .lowers)))); value = refl }
+        let n = known s k h in
+        record { next = omega (arith, n .first (omega (arith, w .top (countedAt s at % 4294967296) (n .packet) (n .lowers)))); value = refl }
 
     -- and one of a single group, which is its byte
-    single-at : k .highest < 128 → NumberAt at (countedAt s at) (at + 1) (getD s at 0)
+    single-at : k .highest < 128 → NumberAt s at (at + 1) (getD s at 0)
     single-at m =
-        let n = known s k refl h in
+        let n = known s k h in
         let small : countedAt s at % 4294967296 < 128 = omega (arith, w .top (countedAt s at % 4294967296) (n .packet) (n .lowers)) in
-        record { reads = refl; next = omega (arith, n .groups ∙ last-count (countedAt s at % 4294967296) small); value = n .single small }
+        record { next = omega (arith, n .groups ∙ last-count (countedAt s at % 4294967296) small); value = n .single small }
 
     here-inside : at < length s
-    here-inside = let n = known s k refl h in omega (arith, n .inside, n .groups, count-some (countedAt s at % 4294967296))
+    here-inside = let n = known s k h in omega (arith, n .inside, n .groups, count-some (countedAt s at % 4294967296))
 
   -- ---- entries passed over
 
@@ -119,15 +113,15 @@ module _ (s : List ℕ) where
 
   -- ---- what an element begins with: after V_STATIC, two numbers of a single group
 
-  module _ {at c b v : ℕ} (n : NumberAt at c b v) (r : Readable (Reads s) profile at) where
+  module _ {at b v : ℕ} (n : NumberAt s at b v) (r : Readable (Reads s) profile at) where
     front-readable : Readable (Reads s) (λ f. then qFront (field (nIter 31) λ m. entries m f)) b
     front-readable = readable-field (Reads s) (speed-read n) (λ v f. then qFront (field (nIter 31) λ m. entries m f)) r
 
     pub front-inside : b < length s
     front-inside = here-inside front-lawful (front-readable .reads)
 
-    pub front-at : {q : ℕ} → q ≡ getD s b 0 → NumberAt b (countedAt s b) (b + 1) q
-    front-at e = let m = single-at front-lawful (front-readable .reads) (lit< tt) in record { reads = m .reads; next = m .next; value = e ∙ m .value }
+    pub front-at : {q : ℕ} → q ≡ getD s b 0 → NumberAt s b (b + 1) q
+    front-at e = let m = single-at front-lawful (front-readable .reads) (lit< tt) in record { next = m .next; value = e ∙ m .value }
 
     count-readable : Readable (Reads s) (λ f. field (nIter 31) λ m. entries m f) (b + 1)
     count-readable = readable-field (Reads s) (same-read (front-at refl) qFront (λ u. refl)) (λ q f. field (nIter 31) λ m. entries m f) front-readable
@@ -135,8 +129,8 @@ module _ (s : List ℕ) where
     pub count-inside : b + 1 < length s
     count-inside = here-inside count-lawful (count-readable .reads)
 
-    pub count-at : {k : ℕ} → k ≡ getD s (b + 1) 0 → NumberAt (b + 1) (countedAt s (b + 1)) (b + 2) k
-    count-at e = let m = single-at count-lawful (count-readable .reads) (lit< tt) in record { reads = m .reads; next = omega (arith, m .next); value = e ∙ m .value }
+    pub count-at : {k : ℕ} → k ≡ getD s (b + 1) 0 → NumberAt s (b + 1) (b + 2) k
+    count-at e = let m = single-at count-lawful (count-readable .reads) (lit< tt) in record { next = omega (arith, m .next); value = e ∙ m .value }
 
   -- ---- the head
 
@@ -160,15 +154,15 @@ module _ (s : List ℕ) where
           let p = g .going (a .follows) (a .values) (a .reads) in
           record { follows = a .follows; values = p .values; reads = rw (runs-next (a .follows)) at (p .reads) }
 
-      pub running-next : {c next : ℕ} → c ≡ countedAt s to → next ≡ to + c / 4294967296 → Running first end at (i + 1) next
-      running-next {c} {next} e d =
+      pub running-next : {next : ℕ} → next ≡ numberEnd s to → Running first end at (i + 1) next
+      running-next e =
           record {
             from = omega (arith, g .from);
             up = omega arith;
             going = λ f l u.
                 let p = rw (runs-next f) at (g .going f l u) in
                 let z : i - first + 1 ≡ i + 1 - first = omega (arith, g .from) in
-                rw z at (then-past (Reads s) (field-any s (kindAt i) to e d refl) (i - first) (sheetNumbers l) p);
+                rw z at (then-past (Reads s) (field-any s (kindAt i) (record { next = e; value = refl })) (i - first) (sheetNumbers l) p);
           }
 
     pub running-end : end ≤ i → Passes (Reads s) (runs first (end - first)) (drop (end - first)) at to
@@ -203,10 +197,9 @@ module _ (s : List ℕ) where
     -- the fields after the packet number
     pub head-past : Past (Reads s) headPart 1 (drop 1 (numbersOfSheet s))
     head-past =
-        let w = known s nidPacketAto refl all-reads in
+        let w = known s nidPacketAto all-reads in
         let g : countedAt s 0 / 4294967296 ≡ 1 = w .groups ∙ ap (λ (a : ℕ). length (groupsIn a)) (number-first (w .lowers)) ∙ one-group in
-        let d : 1 ≡ 0 + countedAt s 0 / 4294967296 = omega arith in
-        then-past (Reads s) (field-any s nidPacketAto 0 refl d refl) 0 (numbersOfSheet s) (past-here (Reads s) (valuesOf (fromSheet wireChanges s)) all-reads)
+        then-past (Reads s) (field-any s nidPacketAto (record { next = omega arith; value = refl })) 0 (numbersOfSheet s) (past-here (Reads s) (valuesOf (fromSheet wireChanges s)) all-reads)
 
     -- L_SP, and the fields after it
     pub head-readable : Readable (Reads s) (runs 0 9) 1
@@ -216,10 +209,7 @@ module _ (s : List ℕ) where
       length-past : Past (Reads s) (field lSp λ lsp. runs 10 3 (threeLists lsp end)) at (drop 10 (numbersOfSheet s))
       length-past = passes-past (Reads s) 9 r 1 (numbersOfSheet s) head-past
 
-      pub length-readable : Readable (Reads s) (λ i. field lSp λ lsp. runs 10 3 (threeLists lsp i)) at
-      length-readable = record { follows = end; values = length-past .values; reads = length-past .reads }
-
-      module _ {c to a : ℕ} (n : NumberAt at c to a) where
+      module _ {to a : ℕ} (n : NumberAt s at to a) where
         after-past : Past (Reads s) (runs 10 3 (threeLists a end)) to (drop 11 (numbersOfSheet s))
         after-past = then-past (Reads s) (same-read n lSp (λ u. refl)) 10 (numbersOfSheet s) length-past
 

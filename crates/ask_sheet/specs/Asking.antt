@@ -36,6 +36,11 @@ NumberHere s at = numberIn (drop at s) ≡ Value (countedAt s at % 4294967296)
 abbrev pub numberEnd : List ℕ → ℕ → ℕ
 numberEnd s at = at + countedAt s at / 4294967296
 
+-- a number at the byte at: the byte after it, and its value
+pub record NumberAt (s : List ℕ) (at to a : ℕ) : Type 0 where
+  pub next : to ≡ numberEnd s at
+  pub value : a ≡ countedAt s at % 4294967296
+
 -- the byte after a number of at most two groups, and after an entry: its Q_DIFF has one group
 abbrev pub shortEnd : List ℕ → ℕ → ℕ
 shortEnd s at = at + 1 + getD s at 0 / 128

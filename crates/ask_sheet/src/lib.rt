@@ -1,16 +1,17 @@
 // The permitted speed at a place of an accepted sheet, worked out element by element. What was accepted is not judged again.
 ghost use mathlib.Core.Path.{_≡_};
-ghost use Prim.Native.Nat.{_+_, _-_, _/_, _%_, _^_, _≤_, _<_};
+ghost use Prim.Native.Nat.{_+_, _-_, _≤_, _<_};
 ghost use lib.ListN.{length, drop};
 ghost use Rattle.bits.specs.Bits.{Bytes};
 ghost use Rattle.segment.specs.Segment as segment;
 ghost use Rattle.segment.specs.Parts as parts;
 ghost use Rattle.segment.specs.Parts.{runs};
 ghost use Rattle.speed.specs.Speed.{afterEntries, speedIn};
-ghost use Rattle.elements.specs.Elements.{none};
-ghost use Rattle.elements.specs.Reading.{Readable, Passes, EntryRead, EntriesRead, Opens, ElementRead, Ended, Finished, ChangesRead, ProfileRead};
-ghost use Rattle.ask_sheet.specs.Asking.{AcceptedSheet, numbersOfSheet, NumberHere, numberEnd, shortEnd, Reads, HeadRead};
+ghost use Rattle.elements.specs.Reading.{Readable, Passes, EntryRead, Opens, ElementRead, Ended, NextRead, ChangesRead, ProfileRead};
+ghost use Rattle.ask_sheet.specs.Asking.{AcceptedSheet, numbersOfSheet, NumberHere, NumberAt, numberEnd, shortEnd, Reads, HeadRead};
+use elements::Found;
 use elements::Lows;
+use elements::Next;
 use elements::Open;
 use speed::Train;
 
@@ -24,15 +25,15 @@ const LENGTH: u32 = 9;
 
 const PROFILE: u32 = 13;
 
-// The lowest speeds with an entry, and the byte after it.
-pub struct Entered {
-    pub lows: Lows,
+// A number, and the byte after it.
+pub struct Taken {
+    pub value: u32,
     pub next: usize,
 }
 
-// An element, and the byte after it.
-pub struct Found {
-    pub open: Open,
+// The lowest speeds with an entry, and the byte after it.
+pub struct Entered {
+    pub lows: Lows,
     pub next: usize,
 }
 
@@ -42,18 +43,15 @@ pub struct Start {
     pub profile: usize,
 }
 
-// The number of one with its groups counted, and the place after it.
-fn value(number: u64) -> u32
-    ensures { λ r. ⌜ r ≡ number % 4294967296 ⌝ }
+// The number at the byte at.
+fn number(s: &[u8], at: usize) -> Taken
+    ensures { λ r. ⌜ NumberAt (now (s .entry)) at (r .next) (r .value) ⌝ }
 {
-    (number % GROUP) as u32
-}
-
-fn after(at: usize, number: u64) -> usize
-    requires { ⌜ at + number / 4294967296 < 2 ^ 64 ⌝ }
-    ensures { λ r. ⌜ r ≡ at + number / 4294967296 ⌝ }
-{
-    at + (number / GROUP) as usize
+    let counted = numbers::counted_at(s, at);
+    Taken {
+        value: (counted % GROUP) as u32,
+        next: at + (counted / GROUP) as usize,
+    }
 }
 
 // The lowest speeds with the entry at the byte at.
@@ -61,33 +59,11 @@ fn entry(s: &[u8], at: usize, train: Train, lows: Lows) -> Entered
     requires { ⌜ Readable (Reads (now s)) (parts.entry) at ⌝ }
     ensures { λ r. ⌜ EntryRead (Reads (now (s .entry))) train lows (r .lows) at (r .next) ⌝ }
 {
-    let q_diff = numbers::counted_at(s, at);
-    let second = after(at, q_diff);
-    let class = numbers::counted_at(s, second);
-    let third = after(second, class);
-    let v = numbers::counted_at(s, third);
-    let lows = lows.with(train, value(q_diff), value(class), value(v));
-    Entered {
-        lows,
-        next: after(third, v),
-    }
-}
-
-// The speed of an element, from its V_STATIC and its entries.
-fn entries(s: &[u8], at: usize, count: u32, train: Train, v_static: u32) -> u32
-    requires { ⌜ («v_static» < none) × Readable (Reads (now s)) (segment.entries count) at ⌝ }
-    ensures { λ r. ⌜ EntriesRead (Reads (now (s .entry))) train «v_static» count at r ⌝ }
-{
-    let mut lows = elements::no_lows();
-    let mut to = at;
-    let mut left = count;
-    while 0 < left {
-        let e = entry(s, to, train, lows);
-        lows = e.lows;
-        to = e.next;
-        left -= 1;
-    }
-    lows.speed(v_static)
+    let q_diff = number(s, at);
+    let class = number(s, q_diff.next);
+    let v = number(s, class.next);
+    let lows = lows.with(train, q_diff.value, class.value, v.value);
+    Entered { lows, next: v.next }
 }
 
 fn wide(x: u8) -> u32
@@ -123,8 +99,8 @@ fn element(s: &[u8], at: usize, start: u32) -> Found
     requires { ⌜ Readable (Reads (now s)) (segment.profile) at ⌝ }
     ensures { λ r. ⌜ ElementRead (Reads (now (s .entry))) at (r .next) (r .open) × (r .open .start ≡ start) ⌝ }
 {
-    let v_static = numbers::counted_at(s, at);
-    let second = after(at, v_static);
+    let v_static = number(s, at);
+    let second = v_static.next;
     let q_front = wide(s[second]);
     let count = wide(s[second + 1]);
     let entries = second + 2;
@@ -132,7 +108,7 @@ fn element(s: &[u8], at: usize, start: u32) -> Found
     Found {
         open: Open {
             start,
-            v_static: value(v_static),
+            v_static: v_static.value,
             q_front,
             count,
             entries,
@@ -146,23 +122,41 @@ fn ended(s: &[u8], open: Open, train: Train, held: u32, end: u32, x: u32) -> u32
     requires { ⌜ Opens (Reads (now s)) «open» ⌝ }
     ensures { λ r. ⌜ Ended (Reads (now (s .entry))) train held end x «open» r ⌝ }
 {
-    if open.holds(train, end, x) {
-        let speed = entries(s, open.entries, open.count, train, open.v_static);
-        return elements::lower(held, speed);
+    if !open.holds(train, end, x) {
+        return held;
     }
-    held
+    let mut lows = elements::no_lows();
+    let mut to = open.entries;
+    let mut left = open.count;
+    while 0 < left {
+        let e = entry(s, to, train, lows);
+        lows = e.lows;
+        to = e.next;
+        left -= 1;
+    }
+    lows.lowered(open.v_static, held)
 }
 
-// The permitted speed at x, once the last element ends at lsp.
-fn finished(s: &[u8], open: Open, train: Train, held: u32, lsp: u32, x: u32) -> u32
-    requires { ⌜ Opens (Reads (now s)) «open» ⌝ }
-    ensures { λ r. ⌜ Finished (Reads (now (s .entry))) train held lsp x «open» r ⌝ }
+// The next change, of so many that are left at the byte at: the open element ends at its location. After the last it ends at lsp, and nothing follows.
+fn next(s: &[u8], open: Open, at: usize, left: u64, lsp: u32) -> Next
+    requires { ⌜ Readable (Reads (now s)) (segment.changes segment.profile lsp («open» .start) left) at ⌝ }
+    ensures { λ r. ⌜ NextRead (Reads (now (s .entry))) lsp «open» left at r ⌝ }
 {
-    if open.holds(train, lsp, x) {
-        let speed = entries(s, open.entries, open.count, train, open.v_static);
-        return elements::permitted(elements::lower(held, speed));
+    if left == 0 {
+        return Next {
+            end: lsp,
+            open,
+            next: at,
+        };
     }
-    elements::permitted(held)
+    let location = number(s, at);
+    let e = element(s, location.next, location.value);
+    let open = e.open;
+    Next {
+        end: location.value,
+        open,
+        next: e.next,
+    }
 }
 
 // The permitted speed at x, from the changes after the first element. The last element ends at lsp.
@@ -173,17 +167,15 @@ fn changes(s: &[u8], at: usize, count: u32, train: Train, lsp: u32, x: u32, firs
     let mut held = elements::NONE;
     let mut open = first;
     let mut to = at;
-    let mut left = count;
+    let mut left = count as u64 + 1;
     while 0 < left {
-        let location = numbers::counted_at(s, to);
-        let start = value(location);
-        let e = element(s, after(to, location), start);
-        held = ended(s, open, train, held, start, x);
-        open = e.open;
-        to = e.next;
         left -= 1;
+        let n = next(s, open, to, left, lsp);
+        held = ended(s, open, train, held, n.end, x);
+        open = n.open;
+        to = n.next;
     }
-    finished(s, open, train, held, lsp, x)
+    elements::permitted(held)
 }
 
 // The permitted speed at x, from the profile at the byte at: its first element, the count of its changes, and the changes.
@@ -192,16 +184,8 @@ fn profile(s: &[u8], at: usize, train: Train, lsp: u32, x: u32) -> u32
     ensures { λ r. ⌜ ProfileRead (Reads (now (s .entry))) train lsp x at r ⌝ }
 {
     let first = element(s, at, 0);
-    let count = numbers::counted_at(s, first.next);
-    changes(
-        s,
-        after(first.next, count),
-        value(count),
-        train,
-        lsp,
-        x,
-        first.open,
-    )
+    let count = number(s, first.next);
+    changes(s, count.next, count.value, train, lsp, x, first.open)
 }
 
 // The byte after a number of any groups: the last is the first byte below 128.
@@ -236,10 +220,10 @@ pub fn head(sheet: &[u8]) -> Start
     ensures { λ r. ⌜ HeadRead (now (sheet .entry)) (r .lsp) (r .profile) ⌝ }
 {
     let at = run(sheet, FIRST, 0, LENGTH);
-    let length = numbers::counted_at(sheet, at);
+    let length = number(sheet, at);
     Start {
-        lsp: value(length),
-        profile: run(sheet, after(at, length), LENGTH + 1, PROFILE),
+        lsp: length.value,
+        profile: run(sheet, length.next, LENGTH + 1, PROFILE),
     }
 }
 

@@ -96,9 +96,9 @@ instead-below : (low v : ℕ) → low ≤ none → v < none → insteadFrom low 
 instead-below low v h l = by-cases (eqb low none) (λ d. rw d l) (λ d. rw d (omega (arith, eqb-false low none d)))
 
 -- as the code works it out
-pub speed-worked : (lows : Lows) (v : ℕ) {a b r : ℕ} → Small lows → a ≡ insteadFrom (lows .cant) v [] → b ≡ insteadFrom (lows .replacing) a [] → b ≤ none
-    → r ≡ min b (lows .lowering) → Worked lows v r
-speed-worked lows v {a} {b} {r} m p q h e = record { is = is; below = below }
+pub speed-worked : (lows : Lows) (v held : ℕ) {a b w r : ℕ} → Small lows → a ≡ insteadFrom (lows .cant) v [] → b ≡ insteadFrom (lows .replacing) a [] → b ≤ none
+    → w ≡ min b (lows .lowering) → r ≡ min held w → Worked lows v held r
+speed-worked lows v held {a} {b} {w} {r} m p q h e f = record { is = f ∙ ap (min held) is; below = λ l. rw is at (below l) }
   where
     under : (low : ℕ) → min b low ≡ lowestFrom low b []
     under low =
@@ -106,10 +106,10 @@ speed-worked lows v {a} {b} {r} m p q h e = record { is = is; below = below }
         (λ d. let z : min b low ≡ b = omega (arith, eqb-true low none d) in rw d z)
         (λ d. rw d)
 
-    is : r ≡ speedOf lows v
+    is : w ≡ speedOf lows v
     is = e ∙ under (lows .lowering) ∙ ap (λ (n : ℕ). lowestFrom (lows .lowering) n []) (q ∙ ap (λ (n : ℕ). insteadFrom (lows .replacing) n []) p)
 
-    below : v < none → r < none
+    below : v < none → w < none
     below l =
         let c : a < none = rw p (instead-below (lows .cant) v (m .cant) l) in
         let d : b < none = rw q (instead-below (lows .replacing) a (m .replacing) c) in

@@ -3,7 +3,7 @@
 use mathlib.Core.Path.{_≡_, refl, sym, ap, _∙_}
 use mathlib.Core.Bool.{true, false, cond}
 use mathlib.Core.List.{List, [], _∷_}
-use Prim.Native.Nat.{ℕ, zero, suc, _+_, _-_, _≤_, _<_, min}
+use Prim.Native.Nat.{ℕ, zero, suc, _+_, _-_, _≤_, _<_}
 use native.Mathlib.Omega.{arith}
 use lib.ListN.{drop, getD}
 use lib.Seq.{drop-drop, getD-drop}
@@ -17,9 +17,10 @@ use Rattle.segment.proofs.Parts.{entries-more, changes-more}
 use Rattle.speed.specs.declared.Train.{Train}
 use Rattle.speed.specs.Speed.{Element, elementSpeed, endBefore, holds, heldSpeeds, permitted, entriesOf, afterEntries, elementOf, afterElement, changesFrom, elementsFrom}
 use Rattle.elements.specs.declared.Lows.{Lows}
+use Rattle.elements.specs.declared.Next.{Next}
 use Rattle.elements.specs.declared.Open.{Open}
-use Rattle.elements.specs.Elements.{none, noLows, insteadFrom, speedFrom, Worked, OneMore, elementWith, elementAs}
-use Rattle.elements.specs.Reading.{Readable, Past, Passes, FieldRead, EntryRead, EntriesRead, Opened, Opens, ElementRead, Ended, Finished, ChangesRead, ProfileRead}
+use Rattle.elements.specs.Elements.{none, noLows, insteadFrom, speedFrom, Worked, OneMore, elementWith}
+use Rattle.elements.specs.Reading.{Readable, Past, Passes, FieldRead, EntryRead, Opened, Opens, ElementRead, Ended, ChangeRead, NextRead, ChangesRead, ProfileRead}
 use Rattle.elements.proofs.Lowest.{held-more}
 
 -- one more number is gone
@@ -91,6 +92,17 @@ module _ (Reads : Format → ℕ → List Item → Type 0) where
 
   -- ---- entries, one after another
 
+  module _ {n at : ℕ} (h : 0 < n) (r : Readable Reads (entries n) at) where
+    entries-split : Readable Reads (λ f. entry (entries (n - 1) f)) at
+    entries-split = record { follows = r .follows; values = r .values; reads = rw (entries-more n h (r .follows)) at (r .reads) }
+
+    pub entry-readable : Readable Reads entry at
+    entry-readable = readable-first (entries (n - 1)) entries-split
+
+    -- one entry less is left
+    pub entries-next : {to : ℕ} → Passes Reads entry (drop 3) at to → Readable Reads (entries (n - 1)) to
+    entries-next e = readable-passed (entries (n - 1)) e entries-split
+
   -- passed over, where an entry at a place ends at the next of it
   module _ (next : ℕ → ℕ) (one : (at : ℕ) → Passes Reads entry (drop 3) at (next at)) where
     pub entries-pass : (n at : ℕ) → Passes Reads (entries n) (afterEntries n) at (entriesEnd next n at)
@@ -104,18 +116,8 @@ module _ (Reads : Format → ℕ → List Item → Type 0) where
               record { values = q .values; reads = q .reads; numbers = q .numbers ∙ ap (afterEntries n) (p .numbers) };
         }
 
-    -- one entry less is left
-    module _ {n : ℕ} (h : 0 < n) (at : ℕ) where
-      pub entries-end-next : entriesEnd next (n - 1) (next at) ≡ entriesEnd next n at
-      entries-end-next = let e : suc (n - 1) ≡ n = omega arith in ap (λ (m : ℕ). entriesEnd next m at) e
-
-      pub entries-next : Readable Reads (entries n) at → Readable Reads (entries (n - 1)) (next at)
-      entries-next r =
-          let p = one at .past (entries (n - 1) (r .follows)) (r .values) (rw (entries-more n h (r .follows)) at (r .reads)) in
-          record { follows = r .follows; values = p .values; reads = p .reads }
-
-  pub entry-readable : {n at : ℕ} → 0 < n → Readable Reads (entries n) at → Readable Reads entry at
-  entry-readable {n} h r = record { follows = entries (n - 1) (r .follows); values = r .values; reads = rw (entries-more n h (r .follows)) at (r .reads) }
+    pub entries-end-next : {n : ℕ} → 0 < n → (at : ℕ) → entriesEnd next (n - 1) (next at) ≡ entriesEnd next n at
+    entries-end-next {n} h at = let e : suc (n - 1) ≡ n = omega arith in ap (λ (m : ℕ). entriesEnd next m at) e
 
   -- what is left of the entries, and what they say with the lows of those before
   pub record Entering (t : Train) (whole : ℕ) (l : List Item) (n to : ℕ) (lows : Lows) (f : Format) : Type 0 where
@@ -137,26 +139,18 @@ module _ (Reads : Format → ℕ → List Item → Type 0) where
           same = λ v. rw (p .numbers) (more v (entriesOf m (drop 3 s)) ∙ ap (λ (n : ℕ). speedFrom t lows v (entriesOf n s)) (sym e) ∙ g .same v);
         }
 
-    module _ {n : ℕ} (h : 0 < n) (g : Entering t whole l n to lows f) where
-      pub entering-next : {a : ℕ} {next : Lows} → EntryRead Reads t lows next to a → Entering t whole l (n - 1) a next f
-      entering-next r = let e : n ≡ suc (n - 1) = omega arith in entering-one (n - 1) e g r
+  -- every way into the entries is a way to what is left of them, and there is one
+  pub record Entered (t : Train) (whole at n to : ℕ) (lows : Lows) : Type 0 where
+    pub going : (f : Format) (l : List Item) → Reads (entries whole f) at l → Entering t whole l n to lows f
+    pub readable : Readable Reads (entries n) to
 
-      pub entering-readable : Readable Reads entry to
-      entering-readable = entry-readable h (record { follows = f; values = g .values; reads = g .reads })
+  pub entered-all : {t : Train} {n at : ℕ} → Readable Reads (entries n) at → Entered t n at n at noLows
+  entered-all r = record { going = λ f l h. record { values = l; reads = h; same = λ v. refl }; readable = r }
 
-  pub entering-all : {t : Train} {n at : ℕ} (l : List Item) {f : Format} → Reads (entries n f) at l → Entering t n l n at noLows f
-  entering-all l h = record { values = l; reads = h; same = λ v. refl }
-
-  -- every way into the entries is a way to what is left of them
-  abbrev pub Entered : Train → ℕ → ℕ → ℕ → ℕ → Lows → Type 0
-  Entered t whole at n to lows = (f : Format) (l : List Item) → Reads (entries whole f) at l → Entering t whole l n to lows f
-
-  pub entries-read : {t : Train} {whole at n to v r : ℕ} {lows : Lows} → Entered t whole at n to lows → n ≤ 0 → Worked lows v r → v < none → EntriesRead Reads t v whole at r
-  entries-read {t} {whole} {at} {n} {to} {v} {r} {lows} g z w h =
-      record { said = λ f l i. w .is ∙ gone f l i .same v; below = w .below h }
-    where
-      gone : Entered t whole at 0 to lows
-      gone f l i = let q : n ≡ 0 = omega arith in rw q at (g f l i)
+  pub entered-next : {t : Train} {whole at n to a : ℕ} {lows next : Lows} → 0 < n → Entered t whole at n to lows → EntryRead Reads t lows next to a → Entered t whole at (n - 1) a next
+  entered-next {n = n} h g r =
+      let e : n ≡ suc (n - 1) = omega arith in
+      record { going = λ f l i. entering-one (n - 1) e (g .going f l i) r; readable = entries-next h (g .readable) (r .passes) }
 
   -- ---- an element
 
@@ -196,26 +190,50 @@ module _ (Reads : Format → ℕ → List Item → Type 0) where
   pub opened-as : {o : Open} {e e′ : Element} → e ≡ e′ → Opened Reads o e → Opened Reads o e′
   opened-as q i = record { follows = i .follows; values = i .values; reads = i .reads; is = sym q ∙ i .is }
 
+  -- one that is readable opens
+  element-opens : (q : Format → Format) {at to : ℕ} {o : Open} → ElementRead Reads at to o → Readable Reads (λ f. profile (q f)) at → Opens Reads o
+  element-opens q r h =
+      let i = r .opened (q (h .follows)) (h .values) (h .reads) in
+      record { readable = record { follows = i .follows; values = i .values; reads = i .reads }; below = r .below }
+
   -- ---- an element that ends
 
   module _ {t : Train} {held stop x : ℕ} {o : Open} where
-    -- it holds, so its entries were read
-    pub ended-holds : {v r : ℕ} → holds t (elementWith o []) stop x ≡ true → EntriesRead Reads t (o .«v_static») (o .count) (o .entries) v → held ≤ none → r ≡ min held v
-        → Ended Reads t held stop x o r
-    ended-holds {v} {r} d e h q = record { said = said }
+    -- it holds, and its entries were read
+    pub ended-read : {n to r : ℕ} {lows : Lows} → holds t (elementWith o []) stop x ≡ true → Entered t (o .count) (o .entries) n to lows → n ≤ 0 → Worked lows (o .«v_static») held r
+        → o .«v_static» < none → held ≤ none → Ended Reads t held stop x o r
+    ended-read {n} {to} {r} {lows} d g z w h b = record { said = said }
       where
-        said : (e′ : Element) → Opened Reads o e′ → (l : List ℕ) → insteadFrom r 0 l ≡ insteadFrom held 0 (cond (holds t e′ stop x) (elementSpeed t e′ ∷ l) l)
-        said e′ i l =
-            let s = e .said (i .follows) (i .values) (i .reads) in
-            rw (i .is, d, ← s) (held-more held h q (e .below) l)
+        gone : Entered t (o .count) (o .entries) 0 to lows
+        gone = let q : n ≡ 0 = omega arith in rw q at g
+
+        said : (e : Element) → Opened Reads o e → (l : List ℕ) → insteadFrom r 0 l ≡ insteadFrom held 0 (cond (holds t e stop x) (elementSpeed t e ∷ l) l)
+        said e i l = let s = gone .going (i .follows) (i .values) (i .reads) .same (o .«v_static») in rw (i .is, d, ← s) (held-more held b (w .is) (w .below h) l)
 
     -- it does not, so nothing more is held
     pub ended-not : holds t (elementWith o []) stop x ≡ false → Ended Reads t held stop x o held
     ended-not d = record { said = λ e i l. rw (i .is, d) }
 
-    -- it was the last
-    pub finished-as : {u v : ℕ} → Ended Reads t held stop x o u → v ≡ insteadFrom u 0 [] → Finished Reads t held stop x o v
-    finished-as d q = record { said = λ e i. q ∙ d .said e i [] }
+  -- ---- the next change
+
+  module _ (lsp start n : ℕ) {at : ℕ} (h : 0 < n) (r : Readable Reads (changes profile lsp start n) at) where
+    pub next-readable : Readable Reads (λ f. field (dLocation start lsp) λ y. profile (changes profile lsp y (n - 1) f)) at
+    next-readable = record { follows = r .follows; values = r .values; reads = rw (changes-more profile lsp start n h (r .follows)) at (r .reads) }
+
+    -- its element, after its location
+    next-profile : {b y a : ℕ} → FieldRead Reads (dLocation start lsp) at b y a → Readable Reads (λ f. profile (changes profile lsp y (n - 1) f)) b
+    next-profile d = readable-field d (λ y f. profile (changes profile lsp y (n - 1) f)) next-readable
+
+    pub next-element : {b y a : ℕ} → FieldRead Reads (dLocation start lsp) at b y a → Readable Reads profile b
+    next-element {y = y} d = readable-first (changes profile lsp y (n - 1)) (next-profile d)
+
+  module _ {lsp : ℕ} {o : Open} {n at : ℕ} where
+    pub next-last : {r : Next} → n ≡ 0 → r .end ≡ lsp → NextRead Reads lsp o n at r
+    next-last z e = record { change = λ h. absurd (omega arith); last = λ _. e }
+
+    pub next-change : {b : ℕ} {r : Next} → 0 < n → FieldRead Reads (dLocation (o .start) lsp) at b (r .end) (r .end) → ElementRead Reads b (r .next) (r .«open») × (r .«open» .start ≡ r .end)
+        → NextRead Reads lsp o n at r
+    next-change h d e = record { change = λ _. record { between = _; location = d; element = e .0; starts = e .1 }; last = λ z. absurd (omega arith) }
 
   -- ---- changes, one after another
 
@@ -233,26 +251,23 @@ module _ (Reads : Format → ℕ → List Item → Type 0) where
       change-reads : Reads (field (dLocation (o .start) lsp) λ y. profile (changes profile lsp y (n - 1) f)) to (g .values)
       change-reads = rw (changes-more profile lsp (o .start) n h f) at (g .reads)
 
-      pub change-readable : Readable Reads (λ i. field (dLocation (o .start) lsp) λ y. profile (changes profile lsp y (n - 1) i)) to
-      change-readable = record { follows = f; values = g .values; reads = change-reads }
-
       -- one change more
-      pub changing-next : {b to′ held′ start : ℕ} {o′ : Open} → FieldRead Reads (dLocation (o .start) lsp) to b start start → ElementRead Reads b to′ o′ → o′ .start ≡ start
-          → Ended Reads t held start x o held′ → Changing (n - 1) to′ held′ o′ f
-      changing-next {b} {to′} {held′} {start} {o′} r e q d =
+      pub changing-next : {held′ : ℕ} {m : Next} → ChangeRead Reads lsp (o .start) to m → Ended Reads t held (m .end) x o held′ → Changing (n - 1) (m .next) held′ (m .«open») f
+      changing-next {held′} {m} c d =
           let s = sheetNumbers (g .values) in
+          let start = m .end in
           let more = changes profile lsp start (n - 1) f in
-          let p = r .past (λ y. profile (changes profile lsp y (n - 1) f)) (g .values) change-reads in
-          let u = e .passes .past more (p .values) (p .reads) in
-          let at-start : 0 + getD s 0 0 ≡ start = omega (arith, r .is (λ y. profile (changes profile lsp y (n - 1) f)) (g .values) change-reads) in
+          let p = c .location .past (λ y. profile (changes profile lsp y (n - 1) f)) (g .values) change-reads in
+          let u = c .element .passes .past more (p .values) (p .reads) in
+          let at-start : 0 + getD s 0 0 ≡ start = omega (arith, c .location .is (λ y. profile (changes profile lsp y (n - 1) f)) (g .values) change-reads) in
           let els = changesFrom 0 n s in
           let split : els ≡ elementOf start (drop 1 s) ∷ changesFrom 0 (n - 1) (afterElement (drop 1 s)) = changes-split n h s ∙ rw at-start in
           let stops : start ≡ endBefore lsp els = ap (endBefore lsp) (sym split) in
           record {
             element = elementOf start (drop 1 s);
-            opened = opened-as (rw (q, p .numbers)) (e .opened more (p .values) (p .reads));
+            opened = opened-as (rw (c .starts, p .numbers)) (c .element .opened more (p .values) (p .reads));
             values = u .values;
-            reads = rw q (u .reads);
+            reads = rw (c .starts) (u .reads);
             same =
                 rw (u .numbers, p .numbers)
                 (ap (λ (m : List Element). insteadFrom held′ 0 (heldSpeeds t lsp x m)) (sym split)
@@ -261,44 +276,46 @@ module _ (Reads : Format → ℕ → List Item → Type 0) where
                 ∙ g .same);
           }
 
-  -- every way into the changes is a way to what is left of them
+  -- every way into the changes is a way to what is left of them, and there is one
   pub record Changed (t : Train) (lsp x : ℕ) (first : Open) (whole at n to held : ℕ) (o : Open) : Type 0 where
     pub going : (e : Element) → Opened Reads first e → (f : Format) (l : List Item) → Reads (changes profile lsp (first .start) whole f) at l
         → Changing t lsp x (permitted t lsp x (e ∷ changesFrom 0 whole (sheetNumbers l))) n to held o f
-    pub below : o .«v_static» < none
+    pub opens : Opens Reads o
+    pub readable : Readable Reads (changes profile lsp (o .start) n) to
 
-  -- an element that is open, by the values of its entries
-  opened-some : {o : Open} (h : Opens Reads o) → Opened Reads o (elementAs o (sheetNumbers (h .readable .values)))
-  opened-some h = let r = h .readable in record { follows = r .follows; values = r .values; reads = r .reads; is = refl }
+  changed-all : {t : Train} {lsp x whole at : ℕ} {first : Open} → Opens Reads first → Readable Reads (changes profile lsp (first .start) whole) at
+      → Changed t lsp x first whole at whole at none first
+  changed-all h r = record { going = λ e i f l j. record { element = e; opened = i; values = l; reads = j; same = refl }; opens = h; readable = r }
 
-  module _ {t : Train} {lsp x whole at n to held : ℕ} {first o : Open} (g : Changed t lsp x first whole at n to held o) where
-    pub changed-next : {b to′ held′ start : ℕ} {o′ : Open} → 0 < n → FieldRead Reads (dLocation (o .start) lsp) to b start start → ElementRead Reads b to′ o′ × (o′ .start ≡ start)
-        → Ended Reads t held start x o held′ → Changed t lsp x first whole at (n - 1) to′ held′ o′
-    changed-next h r e d =
-        record { going = λ v i f l j. changing-next t lsp x (permitted t lsp x (v ∷ changesFrom 0 whole (sheetNumbers l))) h (g .going v i f l j) r (e .0) (e .1) d; below = e .0 .below }
-
-    module _ (p : Opens Reads first) (a : Readable Reads (changes profile lsp (first .start) whole) at) where
-      pub changed-opens : Opens Reads o
-      changed-opens =
-          let i = g .going _ (opened-some p) (a .follows) (a .values) (a .reads) .opened in
-          record { readable = record { follows = i .follows; values = i .values; reads = i .reads }; below = g .below }
-
-      pub changed-readable : 0 < n → Readable Reads (λ i. field (dLocation (o .start) lsp) λ y. profile (changes profile lsp y (n - 1) i)) to
-      changed-readable h = change-readable t lsp x _ h (g .going _ (opened-some p) (a .follows) (a .values) (a .reads))
-
-      -- the next element, after its location
-      pub changed-element : {b start : ℕ} → 0 < n → FieldRead Reads (dLocation (o .start) lsp) to b start start → Readable Reads profile b
-      changed-element {b} {start} h r =
-          readable-first (changes profile lsp start (n - 1)) (readable-field r (λ y i. profile (changes profile lsp y (n - 1) i)) (changed-readable h))
+  module _ {t : Train} {lsp x whole at n to held : ℕ} {first o : Open} (g : Changed t lsp x first whole at n to held o) {m : Next} (r : NextRead Reads lsp o n to m) {held′ : ℕ}
+      (d : Ended Reads t held (m .end) x o held′) where
+    changed-next : 0 < n → Changed t lsp x first whole at (n - 1) (m .next) held′ (m .«open»)
+    changed-next h =
+        let q = changes profile lsp (m .end) (n - 1) in
+        let c = r .change h in
+        let k = next-profile lsp (o .start) n h (g .readable) (c .location) in
+        record {
+          going = λ v i f l j. changing-next t lsp x (permitted t lsp x (v ∷ changesFrom 0 whole (sheetNumbers l))) h (g .going v i f l j) c d;
+          opens = element-opens q (c .element) k;
+          readable = rw (c .starts) (readable-passed q (c .element .passes) k);
+        }
 
     -- the last element ends at the segment's end
-    pub changes-read : {v : ℕ} → n ≤ 0 → Finished Reads t held lsp x o v → ChangesRead Reads t lsp x first whole at v
-    changes-read z d =
-        let q : n ≡ 0 = omega arith in
-        record { said = λ w i f l j. let m = rw q at (g .going w i f l j) in d .said (m .element) (m .opened) ∙ m .same }
+    pub changes-read : n ≡ 0 → ChangesRead Reads t lsp x first whole at (insteadFrom held′ 0 [])
+    changes-read z = record { said = λ w i f l j. let m = rw z at (g .going w i f l j) in (rw (r .last z) at d) .said (m .element) (m .opened) [] ∙ m .same }
 
-  pub changed-all : {t : Train} {lsp x whole at : ℕ} {first : Open} → Opens Reads first → Changed t lsp x first whole at whole at none first
-  changed-all h = record { going = λ e i f l j. record { element = e; opened = i; values = l; reads = j; same = refl }; below = h .below }
+  -- so many elements have yet to end: the open one, and one for each change that is left
+  pub record Ending (t : Train) (lsp x : ℕ) (first : Open) (whole at left to held : ℕ) (o : Open) : Type 0 where
+    pub more : 0 < left → Changed t lsp x first whole at (left - 1) to held o
+    pub done : left ≡ 0 → ChangesRead Reads t lsp x first whole at (insteadFrom held 0 [])
+
+  pub ending-all : {t : Train} {lsp x whole at : ℕ} {first : Open} → Opens Reads first → Readable Reads (changes profile lsp (first .start) whole) at
+      → Ending t lsp x first whole at (whole + 1) at none first
+  ending-all {whole = whole} h r = let e : whole + 1 - 1 ≡ whole = omega arith in record { more = λ _. rw e (changed-all h r); done = λ z. absurd (omega arith) }
+
+  pub ending-next : {t : Train} {lsp x whole at n to held held′ : ℕ} {first o : Open} {m : Next} → Changed t lsp x first whole at n to held o → NextRead Reads lsp o n to m
+      → Ended Reads t held (m .end) x o held′ → Ending t lsp x first whole at n (m .next) held′ (m .«open»)
+  ending-next g r d = record { more = changed-next g r d; done = changes-read g r d }
 
   -- ---- the profile
 
@@ -306,11 +323,8 @@ module _ (Reads : Format → ℕ → List Item → Type 0) where
     -- the changes of a profile that is readable
     pub profile-changes : Readable Reads (part profile 31 lsp) at → Opens Reads o × Readable Reads (changes profile lsp (o .start) n) c
     profile-changes h =
-        let g : Format = field (nIter 31) λ m. changes profile lsp 0 m (h .follows) in
-        let i = first .opened g (h .values) (h .reads) in (
-          record { readable = record { follows = i .follows; values = i .values; reads = i .reads }; below = first .below },
-          rw starts (readable-field count (λ m f. changes profile lsp 0 m f) (readable-passed (λ f. field (nIter 31) λ m. changes profile lsp 0 m f) (first .passes) h)),
-        )
+        let q : Format → Format = λ f. field (nIter 31) λ m. changes profile lsp 0 m f in
+        (element-opens q first h, rw starts (readable-field count (λ m f. changes profile lsp 0 m f) (readable-passed q (first .passes) h)))
 
     pub profile-read : {t : Train} {x v : ℕ} → ChangesRead Reads t lsp x o n c v → ProfileRead Reads t lsp x at v
     profile-read {t} {x} {v} more = record { said = said }

@@ -34,10 +34,10 @@ speedFrom t lows v es =
 abbrev pub speedOf : Lows → ℕ → ℕ
 speedOf lows v = lowestFrom (lows .lowering) (insteadFrom (lows .replacing) (insteadFrom (lows .cant) v []) []) []
 
--- the element's speed, which is a speed if V_STATIC is
-pub record Worked (lows : Lows) (v r : ℕ) : Type 0 where
-  pub is : r ≡ speedOf lows v
-  pub below : v < none → r < none
+-- the lowest speed held, with the element's, which is a speed if V_STATIC is
+pub record Worked (lows : Lows) (v held r : ℕ) : Type 0 where
+  pub is : r ≡ min held (speedOf lows v)
+  pub below : v < none → speedOf lows v < none
 
 -- the lows after one entry more stand for it too
 pub record OneMore (t : Train) (lows : Lows) (q class w : ℕ) (after : Lows) : Type 0 where

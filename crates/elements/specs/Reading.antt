@@ -2,19 +2,21 @@
 -- Assumes nothing.
 use mathlib.Core.Path.{_≡_}
 use mathlib.Core.Bool.{cond}
-use mathlib.Core.List.{List, [], _∷_}
+use mathlib.Core.List.{List, _∷_}
 use Prim.Native.Nat.{ℕ, _<_}
 use lib.ListN.{drop, getD}
 use Rattle.kinds.specs.declared.Item.{Item}
 use Rattle.kinds.specs.Kind.{Kind}
+use Rattle.kinds.specs.Kinds.{dLocation}
 use Rattle.format.specs.Format.{Format, field, sheetNumbers}
 use Rattle.segment.specs.Segment.{entries, profile, changes, part}
 use Rattle.segment.specs.Parts.{entry}
 use Rattle.speed.specs.declared.Train.{Train}
-use Rattle.speed.specs.Speed.{Element, elementSpeed, holds, permitted, entriesOf, elementOf, afterElement, changesFrom, elementsFrom}
+use Rattle.speed.specs.Speed.{Element, elementSpeed, holds, permitted, elementOf, afterElement, changesFrom, elementsFrom}
 use Rattle.elements.specs.declared.Lows.{Lows}
+use Rattle.elements.specs.declared.Next.{Next}
 use Rattle.elements.specs.declared.Open.{Open}
-use Rattle.elements.specs.Elements.{none, noLows, insteadFrom, speedFrom, OneMore, elementAs}
+use Rattle.elements.specs.Elements.{none, insteadFrom, OneMore, elementAs}
 
 -- Reads f at l: the tree f stands at the place at, and is accepted with the values l
 module _ (Reads : Format → ℕ → List Item → Type 0) where
@@ -44,11 +46,6 @@ module _ (Reads : Format → ℕ → List Item → Type 0) where
     pub more : (f : Format) (l : List Item) → Reads (entry f) at l
         → OneMore t lows (getD (sheetNumbers l) 0 0) (getD (sheetNumbers l) 1 0) (getD (sheetNumbers l) 2 0) after
 
-  -- the speed of an element with n entries
-  pub record EntriesRead (t : Train) (v n at speed : ℕ) : Type 0 where
-    pub said : (f : Format) (l : List Item) → Reads (entries n f) at l → speed ≡ speedFrom t noLows v (entriesOf n (sheetNumbers l))
-    pub below : speed < none
-
   -- an open element is e: its entries stand at their place
   pub record Opened (o : Open) (e : Element) : Type 0 where
     pub follows : Format
@@ -70,9 +67,17 @@ module _ (Reads : Format → ℕ → List Item → Type 0) where
   pub record Ended (t : Train) (held stop x : ℕ) (o : Open) (r : ℕ) : Type 0 where
     pub said : (e : Element) → Opened o e → (l : List ℕ) → insteadFrom r 0 l ≡ insteadFrom held 0 (cond (holds t e stop x) (elementSpeed t e ∷ l) l)
 
-  -- the permitted speed once the open element, the last, ends at stop
-  pub record Finished (t : Train) (held stop x : ℕ) (o : Open) (r : ℕ) : Type 0 where
-    pub said : (e : Element) → Opened o e → r ≡ insteadFrom held 0 (cond (holds t e stop x) (elementSpeed t e ∷ []) [])
+  -- a change after an element that starts at last: its location, and its element
+  pub record ChangeRead (lsp last at : ℕ) (r : Next) : Type 0 where
+    pub between : ℕ
+    pub location : FieldRead (dLocation last lsp) at between (r .end) (r .end)
+    pub element : ElementRead between (r .next) (r .«open»)
+    pub starts : r .«open» .start ≡ r .end
+
+  -- an open element ends at the next of n changes, or with the segment
+  pub record NextRead (lsp : ℕ) (o : Open) (n at : ℕ) (r : Next) : Type 0 where
+    pub change : 0 < n → ChangeRead lsp (o .start) at r
+    pub last : n ≡ 0 → r .end ≡ lsp
 
   -- the permitted speed, from n changes after an open element
   pub record ChangesRead (t : Train) (lsp x : ℕ) (first : Open) (n at speed : ℕ) : Type 0 where

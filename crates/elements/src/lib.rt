@@ -31,8 +31,21 @@ pub struct Open {
     pub entries: usize,
 }
 
+// An element, and the place after it.
+pub struct Found {
+    pub open: Open,
+    pub next: usize,
+}
+
+// Where an element ends, the element that follows, and the place after that.
+pub struct Next {
+    pub end: u32,
+    pub open: Open,
+    pub next: usize,
+}
+
 // The lower speed of two.
-pub fn lower(a: u32, b: u32) -> u32
+fn lower(a: u32, b: u32) -> u32
     ensures { λ r. ⌜ r ≡ min a b ⌝ }
 {
     if a < b {
@@ -89,12 +102,12 @@ impl Lows {
         }
     }
 
-    // The element's speed.
-    pub fn speed(self, v_static: u32) -> u32
-        ensures { λ r. ⌜ Worked self «v_static» r ⌝ }
+    // The lowest speed held, with the element's.
+    pub fn lowered(self, v_static: u32, held: u32) -> u32
+        ensures { λ r. ⌜ Worked self «v_static» held r ⌝ }
     {
         let v = instead(self.replacing, instead(self.cant, v_static));
-        lower(v, self.lowering)
+        lower(held, lower(v, self.lowering))
     }
 }
 

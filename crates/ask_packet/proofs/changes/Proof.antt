@@ -1,12 +1,7 @@
 -- `ask_packet::changes` meets its contract.
-use mathlib.Core.Path.{refl}
-use Prim.Native.Nat.{_+_}
-use native.Mathlib.Omega.{arith}
 use denote.Ref.{now}
-use lib.Dec.{lit≤, lit<}
-use Rattle.kinds.specs.Kinds.{dLocation}
-use Rattle.ask_packet.proofs.Fields.{field-read, field-inside, field-asked}
-use Rattle.elements.proofs.Reading.{Changed, changed-all, changed-next, changed-opens, changed-readable, changed-element, changes-read}
+use native.Mathlib.Omega.{arith}
+use Rattle.elements.proofs.Reading.{Ending, ending-all, ending-next}
 use Rattle.ask_packet.specs.Asking.{Reads}
 use borrow.Author.Needs.{needs}
 use Rattle.ask_packet.proofs.changes.Statement.{statement}
@@ -14,64 +9,39 @@ use Rattle.ask_packet.proofs.changes.Tie as tie
 
 abbrev Inv-loop : tie.InvT-loop
 Inv-loop s at count train lsp x held₀ open₀ to₀ left₀ held «open» to left =
-    Changed (Reads s) train lsp x open₀ count at left to held «open»
+    Ending (Reads s) train lsp x open₀ count at left to held «open»
 
 abbrev μ-loop : tie.MeasureT-loop
 μ-loop s at count train lsp x held₀ open₀ to₀ left₀ held «open» to left = left
 
+add-left : tie.Need-add-left Inv-loop μ-loop
+add-left c = search needs
+
 loop-holds : tie.Need-loop-holds Inv-loop μ-loop
-loop-holds c = changed-all (Reads (now (c .before .args .s))) (c .before .pre .0)
-
-read-window-requires : tie.Need-read-window-requires Inv-loop μ-loop
-read-window-requires c κs =
-    let b = c .before .before .before in
-    let s = now (b .args .s) in
-    let l = c .before .loop in
-    field-asked s (dLocation (l .«open» .start) (b .args .lsp)) (changed-readable (Reads s) (l .inv) (b .pre .0) (b .pre .1) (c .loop-test .taken)) 24 refl (lit< tt) (lit≤ tt)
-
-add-element : tie.Need-add-element Inv-loop μ-loop
-add-element c =
-    let b = c .before .before .before .before in
-    let s = now (b .args .s) in
-    let l = c .before .before .loop in
-    let h = changed-readable (Reads s) (l .inv) (b .pre .0) (b .pre .1) (c .before .loop-test .taken) in
-    omega (arith, field-inside s (dLocation (l .«open» .start) (b .args .lsp)) h, h .reads .few)
-
-element-requires : tie.Need-element-requires Inv-loop μ-loop
-element-requires c κs =
-    let b = c .before .before .before .before in
-    let s = now (b .args .s) in
-    let l = c .before .before .loop in
-    let r = field-read s (dLocation (l .«open» .start) (b .args .lsp)) (l .to) 24 (l .to + 24) refl refl (c .read-window .ensures) in
-    changed-element (Reads s) (l .inv) (b .pre .0) (b .pre .1) (c .before .loop-test .taken) r
-
-ended-requires : tie.Need-ended-requires Inv-loop μ-loop
-ended-requires c κs =
-    let b = c .before .before .before .before .before in
-    changed-opens (Reads (now (b .args .s))) (c .before .before .before .loop .inv) (b .pre .0) (b .pre .1)
+loop-holds c = ending-all (Reads (now (c .before .args .s))) (c .before .pre .0) (c .before .pre .1)
 
 sub-left : tie.Need-sub-left Inv-loop μ-loop
 sub-left c = search needs
+
+next-requires : tie.Need-next-requires Inv-loop μ-loop
+next-requires c κs = c .before .loop .inv .more (c .loop-test .taken) .readable
+
+ended-requires : tie.Need-ended-requires Inv-loop μ-loop
+ended-requires c κs = c .before .before .loop .inv .more (c .before .loop-test .taken) .opens
 
 loop-less : tie.Need-loop-less Inv-loop μ-loop
 loop-less c = search needs
 
 loop-again : tie.Need-loop-again Inv-loop μ-loop
 loop-again c =
-    let a = c .before .before .before .before .before .before .before .args in
-    let s = now (a .s) in
-    let l = c .before .before .before .before .before .loop in
-    let r = field-read s (dLocation (l .«open» .start) (a .lsp)) (l .to) 24 (l .to + 24) refl refl (c .before .before .before .read-window .ensures) in
-    changed-next (Reads s) (l .inv) (c .before .before .before .before .loop-test .taken) r (c .before .before .element .ensures) (c .before .ended .ensures)
+    let s = now (c .before .before .before .before .before .before .args .s) in
+    ending-next (Reads s) (c .before .before .before .before .loop .inv .more (c .before .before .before .loop-test .taken)) (c .before .before .next .ensures) (c .before .ended .ensures)
 
-finished-requires : tie.Need-finished-requires Inv-loop μ-loop
-finished-requires c κs =
-    let b = c .before .before .before in
-    changed-opens (Reads (now (b .args .s))) (c .before .loop .inv) (b .pre .0) (b .pre .1)
+permitted-requires : tie.Need-permitted-requires Inv-loop μ-loop
+permitted-requires c κs = search needs
 
 returns : tie.Need-returns Inv-loop μ-loop
-returns c =
-    changes-read (Reads (now (c .before .before .before .before .args .s))) (c .before .before .loop .inv) (omega (arith, c .before .loop-test .left)) (c .finished .ensures)
+returns c = rw (c .permitted .ensures) (c .before .before .loop .inv .done (omega (arith, c .before .loop-test .left)))
 
 pub changes-spec : {M : Type 1} → statement M
 changes-spec =
@@ -79,13 +49,12 @@ changes-spec =
     (tie.spec
     Inv-loop
     μ-loop
+    add-left
     loop-holds
-    read-window-requires
-    add-element
-    element-requires
-    ended-requires
     sub-left
+    next-requires
+    ended-requires
     loop-less
     loop-again
-    finished-requires
+    permitted-requires
     returns)

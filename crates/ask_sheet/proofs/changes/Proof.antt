@@ -1,11 +1,7 @@
 -- `ask_sheet::changes` meets its contract.
-use mathlib.Core.Path.{refl}
-use native.Mathlib.Omega.{arith}
 use denote.Ref.{now}
-use Rattle.kinds.specs.Kinds.{dLocation}
-use Rattle.ask_sheet.proofs.Numbers.{number-inside}
-use Rattle.ask_sheet.proofs.Parts.{same-read}
-use Rattle.elements.proofs.Reading.{Changed, changed-all, changed-next, changed-opens, changed-readable, changed-element, changes-read}
+use native.Mathlib.Omega.{arith}
+use Rattle.elements.proofs.Reading.{Ending, ending-all, ending-next}
 use Rattle.ask_sheet.specs.Asking.{Reads}
 use borrow.Author.Needs.{needs}
 use Rattle.ask_sheet.proofs.changes.Statement.{statement}
@@ -13,63 +9,39 @@ use Rattle.ask_sheet.proofs.changes.Tie as tie
 
 abbrev Inv-loop : tie.InvT-loop
 Inv-loop s at count train lsp x held₀ open₀ to₀ left₀ held «open» to left =
-    Changed (Reads s) train lsp x open₀ count at left to held «open»
+    Ending (Reads s) train lsp x open₀ count at left to held «open»
 
 abbrev μ-loop : tie.MeasureT-loop
 μ-loop s at count train lsp x held₀ open₀ to₀ left₀ held «open» to left = left
 
+add-left : tie.Need-add-left Inv-loop μ-loop
+add-left c = search needs
+
 loop-holds : tie.Need-loop-holds Inv-loop μ-loop
-loop-holds c = changed-all (Reads (now (c .before .args .s))) (c .before .pre .0)
-
-counted-at-requires : tie.Need-counted-at-requires Inv-loop μ-loop
-counted-at-requires c κs = tt
-
-value-requires : tie.Need-value-requires Inv-loop μ-loop
-value-requires c κs = tt
-
-after-requires : tie.Need-after-requires Inv-loop μ-loop
-after-requires c κs =
-    let b = c .before .before .before .before .before in
-    let s = now (b .args .s) in
-    let l = c .before .before .before .loop in
-    let h = changed-readable (Reads s) (l .inv) (b .pre .0) (b .pre .1) (c .before .before .loop-test .taken) in
-    omega (arith, number-inside s (dLocation (l .«open» .start) (b .args .lsp)) (l .to) (c .before .counted-at .ensures) refl refl h)
-
-element-requires : tie.Need-element-requires Inv-loop μ-loop
-element-requires c κs =
-    let b = c .before .before .before .before .before .before in
-    let s = now (b .args .s) in
-    let l = c .before .before .before .before .loop in
-    let r = same-read s (record { reads = c .before .before .counted-at .ensures; next = c .after .ensures; value = c .before .value .ensures }) (dLocation (l .«open» .start) (b .args .lsp)) (λ u. refl) in
-    changed-element (Reads s) (l .inv) (b .pre .0) (b .pre .1) (c .before .before .before .loop-test .taken) r
-
-ended-requires : tie.Need-ended-requires Inv-loop μ-loop
-ended-requires c κs =
-    let b = c .before .before .before .before .before .before .before in
-    changed-opens (Reads (now (b .args .s))) (c .before .before .before .before .before .loop .inv) (b .pre .0) (b .pre .1)
+loop-holds c = ending-all (Reads (now (c .before .args .s))) (c .before .pre .0) (c .before .pre .1)
 
 sub-left : tie.Need-sub-left Inv-loop μ-loop
 sub-left c = search needs
+
+next-requires : tie.Need-next-requires Inv-loop μ-loop
+next-requires c κs = c .before .loop .inv .more (c .loop-test .taken) .readable
+
+ended-requires : tie.Need-ended-requires Inv-loop μ-loop
+ended-requires c κs = c .before .before .loop .inv .more (c .before .loop-test .taken) .opens
 
 loop-less : tie.Need-loop-less Inv-loop μ-loop
 loop-less c = search needs
 
 loop-again : tie.Need-loop-again Inv-loop μ-loop
 loop-again c =
-    let a = c .before .before .before .before .before .before .before .before .before .args in
-    let s = now (a .s) in
-    let l = c .before .before .before .before .before .before .before .loop in
-    let r = same-read s (record { reads = c .before .before .before .before .before .counted-at .ensures; next = c .before .before .before .after .ensures; value = c .before .before .before .before .value .ensures }) (dLocation (l .«open» .start) (a .lsp)) (λ u. refl) in
-    changed-next (Reads s) (l .inv) (c .before .before .before .before .before .before .loop-test .taken) r (c .before .before .element .ensures) (c .before .ended .ensures)
+    let s = now (c .before .before .before .before .before .before .args .s) in
+    ending-next (Reads s) (c .before .before .before .before .loop .inv .more (c .before .before .before .loop-test .taken)) (c .before .before .next .ensures) (c .before .ended .ensures)
 
-finished-requires : tie.Need-finished-requires Inv-loop μ-loop
-finished-requires c κs =
-    let b = c .before .before .before in
-    changed-opens (Reads (now (b .args .s))) (c .before .loop .inv) (b .pre .0) (b .pre .1)
+permitted-requires : tie.Need-permitted-requires Inv-loop μ-loop
+permitted-requires c κs = search needs
 
 returns : tie.Need-returns Inv-loop μ-loop
-returns c =
-    changes-read (Reads (now (c .before .before .before .before .args .s))) (c .before .before .loop .inv) (omega (arith, c .before .loop-test .left)) (c .finished .ensures)
+returns c = rw (c .permitted .ensures) (c .before .before .loop .inv .done (omega (arith, c .before .loop-test .left)))
 
 pub changes-spec : {M : Type 1} → statement M
 changes-spec =
@@ -77,14 +49,12 @@ changes-spec =
     (tie.spec
     Inv-loop
     μ-loop
+    add-left
     loop-holds
-    counted-at-requires
-    value-requires
-    after-requires
-    element-requires
-    ended-requires
     sub-left
+    next-requires
+    ended-requires
     loop-less
     loop-again
-    finished-requires
+    permitted-requires
     returns)

@@ -47,7 +47,7 @@ loop-again c =
     let l = c .before .before .before .loop in
     let h = c .before .before .loop-test .taken in
     let e = c .short-end2 .ensures ∙ ap (shortEnd s) (c .before .short-end .ensures) in
-    rw e (entries-next (Reads s) (entryEnd s) (entry-pass s) h (l .to) (l .inv .0), entries-end-next (Reads s) (entryEnd s) (entry-pass s) h (l .to) ∙ l .inv .1)
+    rw e (entries-next (Reads s) h (l .inv .0) (entry-pass s (l .to)), entries-end-next (Reads s) (entryEnd s) (entry-pass s) h (l .to) ∙ l .inv .1)
 
 returns : tie.Need-returns Inv-loop μ-loop
 returns c =

@@ -1,5 +1,4 @@
 -- `ask_sheet::run` meets its contract.
-use mathlib.Core.Path.{refl}
 use Prim.Native.Nat.{_-_}
 use native.Mathlib.Omega.{arith}
 use denote.Ref.{now}
@@ -23,7 +22,7 @@ number-end-requires c κs =
     let s = now (c .before .before .before .args .s) in
     let l = c .before .loop in
     let h = running-readable s (l .inv) (c .loop-test .taken) (c .before .before .before .pre .1) .reads in
-    (h .ok, known s (kindAt (l .i)) refl h .number)
+    (h .ok, known s (kindAt (l .i)) h .number)
 
 add-i : tie.Need-add-i Inv-loop μ-loop
 add-i c = omega (arith, c .before .loop-test .taken)
@@ -32,7 +31,7 @@ loop-less : tie.Need-loop-less Inv-loop μ-loop
 loop-less c = omega (arith, c .before .loop-test .taken)
 
 loop-again : tie.Need-loop-again Inv-loop μ-loop
-loop-again c = running-next (now (c .before .before .before .before .args .s)) (c .before .before .loop .inv) (c .before .loop-test .taken) refl (c .number-end .ensures)
+loop-again c = running-next (now (c .before .before .before .before .args .s)) (c .before .before .loop .inv) (c .before .loop-test .taken) (c .number-end .ensures)
 
 returns : tie.Need-returns Inv-loop μ-loop
 returns c = running-end (now (c .before .before .before .args .s)) (c .before .loop .inv) (omega (arith, c .loop-test .left))
