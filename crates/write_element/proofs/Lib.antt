@@ -1,3 +1,4 @@
-pub mod Writing
 pub mod Fields
 pub mod Figures
+pub mod Whole
+pub mod Writing

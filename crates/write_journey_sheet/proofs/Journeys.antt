@@ -18,7 +18,7 @@ use Rattle.write_element.specs.Writing.{filled, PartWritable, Wrote}
 use Rattle.write_element.proofs.Writing.{Along, along-here, along-on, along-none}
 use Rattle.write_row.specs.Row.{Row, copied}
 use Rattle.write_row.proofs.Tree.{Rowing, rowing-none, rowing-as, rowing-row, rowing-field, rowing-here}
-use Rattle.write_row.proofs.Whole.{tree-writable, tree-held}
+use Rattle.write_element.proofs.Whole.{tree-writable, tree-held}
 use Rattle.write_journey_rows.specs.Widths.{headWidths}
 use Rattle.write_journey_sheet.specs.Sheet.{journeyOf, JourneyWritable}
 
