@@ -28,7 +28,7 @@ static void print_speed(seglink_speed answer)
     if (answer.refusal == SEGLINK_SUCCESS)
         printf("%4u km/h", (unsigned)answer.speed);
     else
-        printf(" REFUSED %u", (unsigned)answer.refusal);
+        printf(" REFUSED %u AT %u", (unsigned)answer.refusal, (unsigned)answer.place);
 }
 
 // Back from the sheet: whether it is the packet again.
@@ -60,7 +60,7 @@ int main(void)
     print_bytes("The packet", packet, length);
     seglink_converted there = seglink_packet_to_sheet(packet, length, sheet, sizeof sheet);
     if (there.refusal != SEGLINK_SUCCESS) {
-        printf("REFUSED %u\n", (unsigned)there.refusal);
+        printf("REFUSED %u AT %u\n", (unsigned)there.refusal, (unsigned)there.place);
         return 1;
     }
     print_bytes("Its sheet", sheet, there.length);

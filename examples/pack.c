@@ -47,7 +47,7 @@ int main(void)
     size_t length = read_sheet(sheet);
     seglink_converted made = seglink_sheet_to_packet(sheet, length, packet, sizeof packet);
     if (made.refusal != SEGLINK_SUCCESS) {
-        fprintf(stderr, "The sheet is refused: %u\n", (unsigned)made.refusal);
+        fprintf(stderr, "The sheet is refused: %u at byte %u\n", (unsigned)made.refusal, (unsigned)made.place);
         return 1;
     }
     return fwrite(packet, 1, made.length, stdout) == made.length ? 0 : 1;

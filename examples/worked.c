@@ -1,4 +1,4 @@
-// A worked example in C: the build definition's sample packet to its sheet and back, its altitude, a permitted speed and a refusal.
+// A worked example in C: the build definition's sample packet to its sheet and back, its altitude, a permitted speed and two refusals.
 #include <stdio.h>
 #include <string.h>
 
@@ -23,7 +23,7 @@ static size_t convert(uint8_t sheet[SEGLINK_LARGEST_SHEET])
 {
     seglink_converted there = seglink_packet_to_sheet(PACKET, sizeof PACKET, sheet, SEGLINK_LARGEST_SHEET);
     if (there.refusal != SEGLINK_SUCCESS) {
-        printf("The packet is refused: %u\n", (unsigned)there.refusal);
+        printf("The packet is refused: %u at bit %u\n", (unsigned)there.refusal, (unsigned)there.place);
         return 0;
     }
     print_bytes("Its sheet", sheet, there.length);
@@ -45,13 +45,18 @@ static void ask(const uint8_t *sheet, size_t sheet_len)
     printf("From the sheet the answer is %u km/h (refusal %u).\n", (unsigned)same.speed, (unsigned)same.refusal);
 }
 
-// The packet without its last byte: the room keeps what it had.
+// The packet without its last byte, and with a bit more than its fields have: the room keeps what it had.
 static void refuse(void)
 {
-    uint8_t room[4] = {0xA5, 0xA5, 0xA5, 0xA5};
+    uint8_t room[4] = {0xA5, 0xA5, 0xA5, 0xA5}, longer[sizeof PACKET];
     seglink_converted cut = seglink_packet_to_sheet(PACKET, sizeof PACKET - 1, room, sizeof room);
     printf("Without its last byte the packet is refused: %u", (unsigned)cut.refusal);
     printf("%s.\n", cut.refusal == SEGLINK_PACKET_LENGTH ? " (its bytes are not those that L_PACKET_ATO asks for)" : "");
+    memcpy(longer, PACKET, sizeof PACKET);
+    longer[2] += 1; // L_PACKET_ATO
+    seglink_converted left = seglink_packet_to_sheet(longer, sizeof longer, room, sizeof room);
+    printf("With a body of one bit more it is refused: %u at bit %u", (unsigned)left.refusal, (unsigned)left.place);
+    printf("%s.\n", left.refusal == SEGLINK_BITS_LEFT ? " (the first that no field has)" : "");
     print_bytes("The room then", room, sizeof room);
 }
 

@@ -22,13 +22,14 @@ enum {
     SEGLINK_PACKET_LENGTH = 3,   // the packet's bytes are not 15 + L_PACKET_ATO / 8, rounded up
     SEGLINK_FIELD_VALUE = 4,     // a field is outside its range or set, or not 0: NID_CTRACTION at voltage 0, the last eight fields at a passing point
     SEGLINK_CHANGE_LOCATION = 5, // a change's location does not rise, is 0, or is at or past L_SP
-    SEGLINK_BODY_BITS = 6,       // a field does not fit in the body's remaining bits, or bits remain after the last field
+    SEGLINK_BODY_BITS = 6,       // a field does not fit in the body's remaining bits
     SEGLINK_PADDING_BIT = 7,     // a padding bit is 1
     SEGLINK_SHORT_ROOM = 8,      // the result is longer than the lent room
     SEGLINK_SHEET_FORM = 9,      // a sheet ends too soon, has bytes left, or a number is not in its shortest form or not below 4,294,967,296
     SEGLINK_TRAIN_VALUE = 10,    // the train's length or cant deficiency is not allowed
     SEGLINK_PAST_END = 11,       // x is at or past L_SP
-    SEGLINK_LONG_BODY = 12       // a sheet's body would exceed 65,535 bits
+    SEGLINK_LONG_BODY = 12,      // a sheet's body would exceed 65,535 bits
+    SEGLINK_BITS_LEFT = 13       // bits of the body are left after the last field
 };
 
 // Counts of bytes: a segment's, then a journey's, whose sheet is never longer than the last. A room of a journey's largest is never refused
@@ -41,19 +42,24 @@ enum {
     SEGLINK_LARGEST_JOURNEY_SHEET = 15226
 };
 
-// What a conversion answers: 0 and the count of bytes that it wrote, or a refusal and 0.
+// Each answer has the refusal's place. Of a packet it is a bit, counted from 0 at the packet's start, the top bit of each byte first: the first
+// of the field at fault (4, 5, 6), the first that is left (13), the first of the padding that is 1 (7). Of a sheet it is a byte, counted from 0:
+// the first of the number at fault (4, 5, 9), also where the sheet ends before or within it, or the first that is left (9).
+// For 1, 2, 3, 8 and 10 to 12 it is 0, and on success.
+
+// What a conversion answers: 0, 0 and the count of bytes that it wrote; or a refusal, its place and 0.
 typedef struct {
-    uint32_t refusal, length;
+    uint32_t refusal, place, length;
 } seglink_converted;
 
-// What a speed question answers: 0 and the speed in km/h, or a refusal and 0.
+// What a speed question answers: 0, 0 and the speed in km/h; or a refusal, its place and 0.
 typedef struct {
-    uint32_t refusal, speed;
+    uint32_t refusal, place, speed;
 } seglink_speed;
 
-// What the altitude question answers: 0 and the altitude in cm, from -100,000 to 948,575, or a refusal and 0.
+// What the altitude question answers: 0, 0 and the altitude in cm, from -100,000 to 948,575; or a refusal, its place and 0.
 typedef struct {
-    uint32_t refusal;
+    uint32_t refusal, place;
     int32_t altitude;
 } seglink_altitude;
 
@@ -65,7 +71,7 @@ typedef struct {
 } seglink_train;
 
 // Writes the sheet of a packet, of a segment or a journey, to the start of the room and returns its length; the room's bytes past it stay.
-// Any bytes may be handed over; a refusal (1 to 8) leaves the room as it was.
+// Any bytes may be handed over; a refusal (1 to 8 or 13) leaves the room as it was.
 seglink_converted seglink_packet_to_sheet(const uint8_t *packet, size_t packet_len, uint8_t *room, size_t room_len);
 
 // Writes the packet of a sheet, of a segment or a journey, to the start of the room and returns its length; the room's bytes past it stay.
@@ -73,7 +79,7 @@ seglink_converted seglink_packet_to_sheet(const uint8_t *packet, size_t packet_l
 seglink_converted seglink_sheet_to_packet(const uint8_t *sheet, size_t sheet_len, uint8_t *room, size_t room_len);
 
 // Returns the permitted speed of a train at x cm from the segment's start, by the packet's speeds: multiples of 5 km/h.
-// Any bytes, train and x may be handed over; a refusal is 1 to 7, 10 or 11.
+// Any bytes, train and x may be handed over; a refusal is 1 to 7, 10, 11 or 13.
 seglink_speed seglink_speed_from_packet(const uint8_t *packet, size_t packet_len, seglink_train train, uint32_t x);
 
 // Returns the permitted speed of a train at x cm from the segment's start, by the sheet's own speeds.
@@ -81,7 +87,7 @@ seglink_speed seglink_speed_from_packet(const uint8_t *packet, size_t packet_len
 seglink_speed seglink_speed_from_sheet(const uint8_t *sheet, size_t sheet_len, seglink_train train, uint32_t x);
 
 // Returns the altitude of a packet's segment in signed centimetres.
-// Any bytes may be handed over; a refusal is 1 to 7.
+// Any bytes may be handed over; a refusal is 1 to 7 or 13.
 seglink_altitude seglink_altitude_of_packet(const uint8_t *packet, size_t packet_len);
 
 #ifdef __cplusplus

@@ -1,4 +1,4 @@
-// Both conversions of the static library, of segments and journeys, and the altitude, called from C and held to packets and sheets that are written here from the build definition; timed with 'time'.
+// Both conversions of the static library, of segments and journeys, and the questions' refusals, called from C and held to packets, sheets and places that are written here from the build definition; timed with 'time'.
 #define _POSIX_C_SOURCE 200809L
 #include <stdio.h>
 #include <stdlib.h>
@@ -139,6 +139,23 @@ static struct bytes sheet_of(const struct fields *s, bool back)
     return b;
 }
 
+// Where a field begins: its first bit in the packet, where L_PACKET_ATO follows the first, and its number's first byte in the sheet.
+static uint32_t bit_of(const struct fields *s, size_t field)
+{
+    uint32_t bits = field > NUMBER ? 16 : 0;
+    for (size_t i = 0; i < field; ++i)
+        bits += s->field[i].width;
+    return bits;
+}
+
+static uint32_t byte_of(const struct fields *s, size_t field)
+{
+    struct bytes b = {0};
+    for (size_t i = 0; i < field; ++i)
+        put_groups(&b, s->field[i].number);
+    return (uint32_t)b.length;
+}
+
 // ---- Checks
 
 static unsigned passed, failed;
@@ -174,7 +191,7 @@ static size_t touched(size_t from, size_t to, uint8_t fill)
 }
 
 // One conversion in a room filled with one byte: the answer, each byte of the result, and that no other byte has changed.
-static void run(const char *name, conversion *convert, const struct bytes *in, size_t room, uint8_t fill, uint32_t refusal, const struct bytes *out)
+static void run(const char *name, conversion *convert, const struct bytes *in, size_t room, uint8_t fill, uint32_t refusal, uint32_t place, const struct bytes *out)
 {
     char what[96];
     const char *way = convert == seglink_packet_to_sheet ? "packet to sheet" : "sheet to packet";
@@ -182,6 +199,8 @@ static void run(const char *name, conversion *convert, const struct bytes *in, s
     seglink_converted c = convert(in->byte, in->length, store + GUARD, room);
     snprintf(what, sizeof what, "%s in a room of %zu: the refusal", way, room);
     check(name, what, c.refusal, refusal);
+    snprintf(what, sizeof what, "%s in a room of %zu: the place", way, room);
+    check(name, what, c.place, place);
     snprintf(what, sizeof what, "%s in a room of %zu: the length", way, room);
     check(name, what, c.length, out->length);
     if (out->length > 0) {
@@ -195,32 +214,55 @@ static void run(const char *name, conversion *convert, const struct bytes *in, s
 static void converts(const char *name, conversion *convert, const struct bytes *in, const struct bytes *out)
 {
     static const struct bytes nothing;
-    run(name, convert, in, ROOM, 0xA5, 0, out);
-    run(name, convert, in, ROOM, 0x5A, 0, out);
-    run(name, convert, in, out->length, 0xA5, 0, out);
-    run(name, convert, in, out->length - 1, 0xA5, 8, &nothing);
-    run(name, convert, in, 0, 0xA5, 8, &nothing);
+    run(name, convert, in, ROOM, 0xA5, 0, 0, out);
+    run(name, convert, in, ROOM, 0x5A, 0, 0, out);
+    run(name, convert, in, out->length, 0xA5, 0, 0, out);
+    run(name, convert, in, out->length - 1, 0xA5, 8, 0, &nothing);
+    run(name, convert, in, 0, 0xA5, 8, 0, &nothing);
 }
 
 // A refusal of its own comes before 8, so it is the same in no room at all.
-static void refuses(const char *name, conversion *convert, const struct bytes *in, uint32_t refusal)
+static void refuses(const char *name, conversion *convert, const struct bytes *in, uint32_t refusal, uint32_t place)
 {
     static const struct bytes nothing;
-    run(name, convert, in, ROOM, 0xA5, refusal, &nothing);
-    run(name, convert, in, ROOM, 0x5A, refusal, &nothing);
-    run(name, convert, in, 0, 0xA5, refusal, &nothing);
+    run(name, convert, in, ROOM, 0xA5, refusal, place, &nothing);
+    run(name, convert, in, ROOM, 0x5A, refusal, place, &nothing);
+    run(name, convert, in, 0, 0xA5, refusal, place, &nothing);
 }
 
-// A segment or a journey both ways: converted where the refusal is 0, else refused with it.
-static void both(const char *name, const struct fields *s, uint32_t refusal)
+// The questions refuse before they look at the train, which is not allowed here.
+static const seglink_train NO_TRAIN = {.length = 0, .cant = 0};
+
+static void packet_asked(const char *name, const struct bytes *packet, uint32_t refusal, uint32_t place)
+{
+    seglink_altitude altitude = seglink_altitude_of_packet(packet->byte, packet->length);
+    check(name, "the refusal of its altitude", altitude.refusal, refusal);
+    check(name, "the place of its altitude's refusal", altitude.place, place);
+    check(name, "its altitude", (size_t)altitude.altitude, 0);
+    seglink_speed speed = seglink_speed_from_packet(packet->byte, packet->length, NO_TRAIN, 0);
+    check(name, "the refusal of a speed from its packet", speed.refusal, refusal);
+    check(name, "the place of that refusal", speed.place, place);
+    check(name, "its speed from its packet", speed.speed, 0);
+}
+
+static void sheet_asked(const char *name, const struct bytes *sheet, uint32_t refusal, uint32_t place)
+{
+    seglink_speed speed = seglink_speed_from_sheet(sheet->byte, sheet->length, NO_TRAIN, 0);
+    check(name, "the refusal of a speed from its sheet", speed.refusal, refusal);
+    check(name, "the place of that refusal", speed.place, place);
+    check(name, "its speed from its sheet", speed.speed, 0);
+}
+
+// A segment or a journey both ways: converted where the refusal is 0, else refused with it at a field.
+static void both(const char *name, const struct fields *s, uint32_t refusal, size_t field)
 {
     struct bytes packet = packet_of(s), given = sheet_of(s, false), back = sheet_of(s, true);
     if (refusal == 0) {
         converts(name, seglink_sheet_to_packet, &given, &packet);
         converts(name, seglink_packet_to_sheet, &packet, &back);
     } else {
-        refuses(name, seglink_sheet_to_packet, &given, refusal);
-        refuses(name, seglink_packet_to_sheet, &packet, refusal);
+        refuses(name, seglink_sheet_to_packet, &given, refusal, byte_of(s, field));
+        refuses(name, seglink_packet_to_sheet, &packet, refusal, bit_of(s, field));
     }
 }
 
@@ -506,6 +548,17 @@ static const struct bytes desk_packet = {
 static const struct bytes desk_sheet = {
     25, {0x06, 0xC5, 0xC6, 0x04, 0x01, 0x00, 0x00, 0x07, 0, 0, 0, 0, 0x01, 0, 0, 0, 0x50, 0, 0, 0, 0, 0, 0, 0, 0}};
 
+static const struct bytes smallest_journey_packet = {17, {0x04, 0x00, 0x0B}};
+static const struct bytes smallest_journey_sheet = {8, {0x04}};
+static const struct bytes journey_packet = {
+    42, {0x04, 0x00, 0xD1, 0x00, 0x01, 0x23, 0x45, 0x00, 0x00, 0x01, 0x00, 0x00, 0x00, 0x00, 0x07,
+         0x20, 0x2A, 0xCC, 0x4D, 0x5E, 0x6F, 0x78, 0x8C, 0x14, 0x2E, 0xCA, 0x86, 0x42, 0x0C, 0x0E, 0x6A, 0x30, 0x12, 0xCA, 0x3A, 0xDB,
+         0xA0, 0xA8, 0xBF, 0xE1, 0x30, 0x00}};
+static const struct bytes journey_sheet = {
+    52, {0x04, 0xC5, 0xC6, 0x04, 0x01, 0x00, 0x00, 0x07, 0x01, 0x01, 0xD9, 0x02, 0xEF, 0x9B, 0xAF, 0xCD, 0x08, 0x11, 0x82, 0x01, 0x01, 0x01,
+         0x90, 0xE4, 0xD0, 0xB2, 0x07, 0xB9, 0x60, 0x80, 0xA3, 0x05, 0xD9, 0x04, 0x01, 0x00, 0x01, 0x01,
+         0x02, 0x01, 0x00, 0x01, 0xA0, 0xB7, 0x01, 0xFF, 0xA2, 0x05, 0x89, 0x06, 0x01, 0x00}};
+
 static void desk_cases(struct fields *s)
 {
     struct bytes with84 = desk_sheet, with85 = desk_sheet;
@@ -528,9 +581,11 @@ static void altitude(struct fields *s, const char *name, uint32_t sent, int32_t 
     struct bytes packet = packet_of(s);
     seglink_altitude got = seglink_altitude_of_packet(packet.byte, packet.length);
     check(name, "the refusal", got.refusal, 0);
+    check(name, "the place", got.place, 0);
     check(name, "the altitude", (size_t)got.altitude, (size_t)centimetres);
     got = seglink_altitude_of_packet(packet.byte, packet.length - 1);
     check(name, "the refusal of the packet cut", got.refusal, 3);
+    check(name, "the place of the packet cut", got.place, 0);
     check(name, "the altitude of the packet cut", (size_t)got.altitude, 0);
 }
 
@@ -543,7 +598,7 @@ static void altitudes(struct fields *s)
 }
 
 // One field of the desk segment changed: its value and number, the number that comes back, and the refusal.
-static const struct { const char *name; size_t place; uint32_t value, number, raised, refusal; } ONE[] = {
+static const struct { const char *name; size_t field; uint32_t value, number, raised, refusal; } ONE[] = {
     {"packet number 7", NUMBER, 7, 7, 7, 2},
     {"NID_OPERATIONAL with a digit F", OPERATIONAL, 0xF0012349, 0xF0012349, 0xF0012349, 0},
     {"NID_OPERATIONAL with a digit A", OPERATIONAL, 0x0001A345, 0x0001A345, 0x0001A345, 4},
@@ -568,103 +623,196 @@ static void single_fields(struct fields *s)
 {
     for (size_t i = 0; i < sizeof ONE / sizeof *ONE; ++i) {
         desk(s, 80);
-        struct field *f = &s->field[ONE[i].place];
+        struct field *f = &s->field[ONE[i].field];
         *f = (struct field){f->width, ONE[i].value, ONE[i].number, ONE[i].raised};
-        both(ONE[i].name, s, ONE[i].refusal);
+        both(ONE[i].name, s, ONE[i].refusal, ONE[i].field);
     }
 }
 
-static const struct { const char *name; int which; uint32_t l_sp, count, first, step, refusal; } LISTS[] = {
-    {"a speed change at L_SP - 1", SPEEDS, 1000, 1, 999, 1, 0},
-    {"a speed change at L_SP", SPEEDS, 1000, 1, 1000, 1, 5},
-    {"a speed change at 16,777,215", SPEEDS, 1000, 1, 16777215, 1, 5},
-    {"a speed change at 0", SPEEDS, 1000, 1, 0, 1, 5},
-    {"two speed changes at one place", SPEEDS, 1000, 2, 500, 0, 5},
-    {"31 speed changes from 1", SPEEDS, 32, 31, 1, 1, 0},
-    {"a voltage change at L_SP - 1", VOLTAGES, 1000, 1, 999, 1, 0},
-    {"a voltage change at L_SP", VOLTAGES, 1000, 1, 1000, 1, 5},
-    {"a voltage change at 0", VOLTAGES, 1000, 1, 0, 1, 5},
-    {"two voltage changes at one place", VOLTAGES, 1000, 2, 500, 0, 5},
-    {"23 voltage changes", VOLTAGES, 1000, 23, 1, 40, 0},
-    {"24 voltage changes", VOLTAGES, 1000, 24, 1, 40, 4},
-    {"a current change at L_SP - 1", CURRENTS, 1000, 1, 999, 1, 0},
-    {"a current change at L_SP", CURRENTS, 1000, 1, 1000, 1, 5},
-    {"a current change at 0", CURRENTS, 1000, 1, 0, 1, 5},
-    {"two current changes at one place", CURRENTS, 1000, 2, 500, 0, 5},
-    {"23 current changes", CURRENTS, 1000, 23, 1, 40, 0},
-    {"24 current changes", CURRENTS, 1000, 24, 1, 40, 4},
+// The field at fault is the count, the first location or the second, which stands after what the change repeats.
+static const struct { const char *name; int which; uint32_t l_sp, count, first, step, refusal; size_t field; } LISTS[] = {
+    {"a speed change at L_SP - 1", SPEEDS, 1000, 1, 999, 1, 0, 0},
+    {"a speed change at L_SP", SPEEDS, 1000, 1, 1000, 1, 5, SPEEDS + 1},
+    {"a speed change at 16,777,215", SPEEDS, 1000, 1, 16777215, 1, 5, SPEEDS + 1},
+    {"a speed change at 0", SPEEDS, 1000, 1, 0, 1, 5, SPEEDS + 1},
+    {"two speed changes at one place", SPEEDS, 1000, 2, 500, 0, 5, SPEEDS + 5},
+    {"31 speed changes from 1", SPEEDS, 32, 31, 1, 1, 0, 0},
+    {"a voltage change at L_SP - 1", VOLTAGES, 1000, 1, 999, 1, 0, 0},
+    {"a voltage change at L_SP", VOLTAGES, 1000, 1, 1000, 1, 5, VOLTAGES + 1},
+    {"a voltage change at 0", VOLTAGES, 1000, 1, 0, 1, 5, VOLTAGES + 1},
+    {"two voltage changes at one place", VOLTAGES, 1000, 2, 500, 0, 5, VOLTAGES + 4},
+    {"23 voltage changes", VOLTAGES, 1000, 23, 1, 40, 0, 0},
+    {"24 voltage changes", VOLTAGES, 1000, 24, 1, 40, 4, VOLTAGES},
+    {"a current change at L_SP - 1", CURRENTS, 1000, 1, 999, 1, 0, 0},
+    {"a current change at L_SP", CURRENTS, 1000, 1, 1000, 1, 5, CURRENTS + 1},
+    {"a current change at 0", CURRENTS, 1000, 1, 0, 1, 5, CURRENTS + 1},
+    {"two current changes at one place", CURRENTS, 1000, 2, 500, 0, 5, CURRENTS + 3},
+    {"23 current changes", CURRENTS, 1000, 23, 1, 40, 0, 0},
+    {"24 current changes", CURRENTS, 1000, 24, 1, 40, 4, CURRENTS},
 };
 
 static void lists(struct fields *s)
 {
     for (size_t i = 0; i < sizeof LISTS / sizeof *LISTS; ++i) {
         list(s, LISTS[i].which, LISTS[i].l_sp, LISTS[i].count, LISTS[i].first, LISTS[i].step);
-        both(LISTS[i].name, s, LISTS[i].refusal);
+        both(LISTS[i].name, s, LISTS[i].refusal, LISTS[i].field);
     }
 }
 
-// The desk packet cut or lengthened to a count of bytes, L_PACKET_ATO changed, and its last byte changed.
-static void damaged_packet(const char *name, size_t length, uint8_t bits, uint8_t last, uint32_t refusal)
+// ---- Damage, with the places counted by hand
+
+// A packet is refused; where it is a segment's, by the questions too.
+static void packet_refused(const char *name, const struct bytes *packet, uint32_t refusal, uint32_t place)
 {
-    struct bytes b = desk_packet;
-    b.length = length;
-    b.byte[2] = bits;
-    b.byte[38] = last;
-    refuses(name, seglink_packet_to_sheet, &b, refusal);
+    refuses(name, seglink_packet_to_sheet, packet, refusal, place);
+    if (packet->byte[0] == 6)
+        packet_asked(name, packet, refusal, place);
 }
+
+// A packet cut or lengthened to a count of bytes, with the low byte of L_PACKET_ATO and its own last byte changed.
+// The desk packet has 185 bits after the bit 120, the journey's 209: the last count of five bits begins at 300 and 324.
+static const struct { const char *name; const struct bytes *whole; size_t length; uint8_t bits, last; uint32_t refusal, place; } REFRAMED[] = {
+    {"an empty packet", &desk_packet, 0, 185, 0, 1, 0},
+    {"a packet of 14 bytes", &desk_packet, 14, 185, 0, 1, 0},
+    {"a packet of 15 bytes", &desk_packet, 15, 185, 0, 3, 0},
+    {"a packet without its last byte", &desk_packet, 38, 185, 0, 3, 0},
+    {"a packet with a byte more", &desk_packet, 40, 185, 0, 3, 0},
+    {"a body of no bits", &desk_packet, 15, 0, 0, 6, 120},
+    {"NID_C, a bit short", &desk_packet, 17, 9, 0, 6, 120},
+    {"NID_C and no more", &desk_packet, 17, 10, 0, 6, 130},
+    {"V_STATIC, a bit short", &desk_packet, 33, 139, 0, 6, 253},
+    {"V_STATIC and no more", &desk_packet, 33, 140, 0, 6, 260},
+    {"a last field that does not fit", &desk_packet, 38, 184, 0, 6, 300},
+    {"a bit that remains", &desk_packet, 39, 186, 0, 13, 305},
+    {"a bit that remains, and a padding bit", &desk_packet, 39, 186, 0x20, 13, 305},
+    {"bits that remain in a byte more", &desk_packet, 40, 193, 0, 13, 305},
+    {"the last padding bit", &desk_packet, 39, 185, 0x01, 7, 311},
+    {"the first padding bit", &desk_packet, 39, 185, 0x40, 7, 305},
+    {"two padding bits", &desk_packet, 39, 185, 0x24, 7, 306},
+    {"all padding bits", &desk_packet, 39, 185, 0x7F, 7, 305},
+    {"a journey of 14 bytes", &journey_packet, 14, 209, 0, 1, 0},
+    {"a journey of 15 bytes", &journey_packet, 15, 209, 0, 3, 0},
+    {"a journey without its last byte", &journey_packet, 41, 209, 0, 3, 0},
+    {"a journey with a byte more", &journey_packet, 43, 209, 0, 3, 0},
+    {"a journey with a body of no bits", &journey_packet, 15, 0, 0, 6, 120},
+    {"a journey with a status and no more", &journey_packet, 16, 3, 0, 6, 123},
+    {"a journey that ends within NID_TP", &journey_packet, 28, 100, 0, 6, 195},
+    {"a journey whose last count does not fit", &journey_packet, 41, 208, 0, 6, 324},
+    {"a journey with a bit that remains", &journey_packet, 42, 210, 0, 13, 329},
+    {"a journey with a padding bit", &journey_packet, 42, 209, 0x01, 7, 335},
+    {"a journey with the first padding bit", &journey_packet, 42, 209, 0x40, 7, 329},
+    {"a journey with two padding bits", &journey_packet, 42, 209, 0x24, 7, 330},
+};
+
+static void reframed_packets(void)
+{
+    for (size_t i = 0; i < sizeof REFRAMED / sizeof *REFRAMED; ++i) {
+        struct bytes b = *REFRAMED[i].whole;
+        b.byte[2] = REFRAMED[i].bits;
+        b.byte[b.length - 1] = REFRAMED[i].last;
+        b.length = REFRAMED[i].length;
+        packet_refused(REFRAMED[i].name, &b, REFRAMED[i].refusal, REFRAMED[i].place);
+    }
+}
+
+// A packet with these bits changed, from one of them on: the place is the first bit of the field at fault.
+static const struct { const char *name; const struct bytes *whole; uint32_t at, width, value, refusal, place; } DAMAGED[] = {
+    {"a first digit E", &desk_packet, 24, 4, 14, 4, 24},
+    {"a last digit A", &desk_packet, 52, 4, 10, 4, 24},
+    {"seconds 86,400 at their bit", &desk_packet, 95, 17, 86400, 4, 95},
+    {"L_SP 0 at its bit", &desk_packet, 178, 24, 0, 4, 178},
+    {"Q_UTC_Offset 127", &desk_packet, 226, 7, 127, 4, 226},
+    {"V_STATIC 121", &desk_packet, 253, 7, 121, 4, 253},
+    {"an entry of zeros, and NID_CTRACTION after it", &desk_packet, 261, 5, 1, 4, 288},
+    {"a speed change of what follows", &desk_packet, 266, 5, 1, 5, 271},
+    {"voltage 15", &desk_packet, 271, 4, 15, 4, 271},
+    {"the last bit of NID_CTRACTION", &desk_packet, 284, 1, 1, 4, 275},
+    {"24 voltage changes in five bits", &desk_packet, 285, 5, 24, 4, 285},
+    {"23 voltage changes that are not there", &desk_packet, 285, 5, 23, 6, 290},
+    {"current 1,001 in its bits", &desk_packet, 290, 10, 1001, 4, 290},
+    {"24 current changes in five bits", &desk_packet, 300, 5, 24, 4, 300},
+    {"a current change that is not there", &desk_packet, 300, 5, 1, 6, 305},
+    {"a journey with a digit B", &journey_packet, 40, 4, 11, 4, 24},
+    {"Q_JP_Status 7", &journey_packet, 120, 3, 7, 4, 120},
+    {"a journey of no segments, with one", &journey_packet, 123, 8, 0, 13, 131},
+    {"a journey of two segments, with one", &journey_packet, 123, 8, 2, 6, 329},
+    {"no timing points, with one", &journey_packet, 190, 5, 0, 4, 195},
+    {"two timing points, with one", &journey_packet, 190, 5, 2, 6, 324},
+    {"arrival seconds 131,071", &journey_packet, 242, 17, 131071, 4, 242},
+    {"alignment 3 in its bits", &journey_packet, 269, 2, 3, 4, 269},
+    {"stop kind 3 in its bits", &journey_packet, 271, 2, 3, 4, 271},
+    {"a passing point with all eight fields", &journey_packet, 271, 2, 2, 4, 276},
+    {"information 3", &journey_packet, 273, 2, 3, 4, 273},
+    {"departure seconds 86,400 in their bits", &journey_packet, 296, 17, 86400, 4, 296},
+    {"16 temporary constraints", &journey_packet, 324, 1, 1, 4, 324},
+};
 
 static void damaged_packets(void)
 {
-    damaged_packet("an empty packet", 0, 185, 0, 1);
-    damaged_packet("a packet of 14 bytes", 14, 185, 0, 1);
-    damaged_packet("a packet of 15 bytes", 15, 185, 0, 3);
-    damaged_packet("a packet without its last byte", 38, 185, 0, 3);
-    damaged_packet("a packet with a byte more", 40, 185, 0, 3);
-    damaged_packet("a body of no bits", 15, 0, 0, 6);
-    damaged_packet("a last field that does not fit", 38, 184, 0, 6);
-    damaged_packet("a bit that remains", 39, 186, 0, 6);
-    damaged_packet("bits that remain in a byte more", 40, 193, 0, 6);
-    damaged_packet("the last padding bit", 39, 185, 0x01, 7);
-    damaged_packet("the first padding bit", 39, 185, 0x40, 7);
+    for (size_t i = 0; i < sizeof DAMAGED / sizeof *DAMAGED; ++i) {
+        struct bytes b = *DAMAGED[i].whole;
+        size_t at = DAMAGED[i].at;
+        for (size_t bit = at; bit < at + DAMAGED[i].width; ++bit)
+            b.byte[bit / 8] &= (uint8_t)~(0x80 >> bit % 8);
+        put_bits(&b, &at, DAMAGED[i].width, DAMAGED[i].value);
+        packet_refused(DAMAGED[i].name, &b, DAMAGED[i].refusal, DAMAGED[i].place);
+    }
 }
 
-// A sheet that begins as the desk sheet, and has these bytes after its first ones.
-static void damaged_sheet(const char *name, size_t kept, const char *after, size_t count, uint32_t refusal)
-{
-    struct bytes b = desk_sheet;
-    memcpy(b.byte + kept, after, count);
-    b.length = kept + count;
-    refuses(name, seglink_sheet_to_packet, &b, refusal);
-}
+// A sheet that begins as another, and ends with these bytes after its first ones. The numbers of the desk sheet have a byte each, but for
+// NID_OPERATIONAL, which has the bytes 1 to 3; those of the journey's have one to five.
+#define BYTES(text) text, sizeof text - 1
+static const struct { const char *name; const struct bytes *whole; size_t kept; const char *after; size_t count; uint32_t refusal, place; } SHEETS[] = {
+    {"an empty sheet", &desk_sheet, 0, BYTES(""), 9, 0},
+    {"the number 80 00", &desk_sheet, 0, BYTES("\x80\x00"), 9, 0},
+    {"the packet number as 86 00", &desk_sheet, 0, BYTES("\x86\x00"), 9, 0},
+    {"packet number 7 and no more", &desk_sheet, 0, BYTES("\x07"), 2, 0},
+    {"a sheet that ends within a number", &desk_sheet, 2, BYTES(""), 9, 1},
+    {"the number 4,294,967,296", &desk_sheet, 1, BYTES("\x80\x80\x80\x80\x10"), 9, 1},
+    {"a number of six groups", &desk_sheet, 1, BYTES("\x80\x80\x80\x80\x80\x01"), 9, 1},
+    {"NID_OPERATIONAL A", &desk_sheet, 1, BYTES("\x0A"), 4, 1},
+    {"NID_ENGINE 16,777,216", &desk_sheet, 4, BYTES("\x80\x80\x80\x08"), 4, 4},
+    {"L_SP 0, and no more", &desk_sheet, 12, BYTES("\x00"), 4, 12},
+    {"L_SP as 81 00", &desk_sheet, 12, BYTES("\x81\x00"), 9, 12},
+    {"605 km/h, and no more", &desk_sheet, 16, BYTES("\xDD\x04"), 4, 16},
+    {"Q_FRONT 2", &desk_sheet, 17, BYTES("\x02"), 4, 17},
+    {"a speed change at 0, and no more", &desk_sheet, 19, BYTES("\x01\x00"), 5, 20},
+    {"a speed change at 4,294,967,295", &desk_sheet, 19, BYTES("\x01\xFF\xFF\xFF\xFF\x0F"), 5, 20},
+    {"two speed changes at 5", &desk_sheet, 12, BYTES("\x64\x00\x00\x00\x50\x00\x00\x02\x05\x50\x00\x00\x05"), 5, 24},
+    {"600 V, and no more", &desk_sheet, 20, BYTES("\xD8\x04"), 4, 20},
+    {"NID_CTRACTION at voltage 0, and no more", &desk_sheet, 21, BYTES("\x01"), 4, 21},
+    {"10,010 A, and no more", &desk_sheet, 23, BYTES("\x9B\x4E"), 4, 23},
+    {"24 current changes, and no more", &desk_sheet, 24, BYTES("\x18"), 4, 24},
+    {"a sheet without its last byte", &desk_sheet, 24, BYTES(""), 9, 24},
+    {"a sheet with a byte more", &desk_sheet, 25, BYTES("\x00"), 9, 25},
+    {"a sheet with part of a number more", &desk_sheet, 25, BYTES("\x80\x80"), 9, 25},
+    {"Q_JP_Status 5, and no more", &journey_sheet, 8, BYTES("\x05"), 4, 8},
+    {"NID_C 1,024, and no more", &journey_sheet, 10, BYTES("\x80\x08"), 4, 10},
+    {"a journey's sheet that ends within NID_TP", &journey_sheet, 24, BYTES(""), 9, 22},
+    {"NID_TP with a last group 0", &journey_sheet, 26, BYTES("\x00"), 9, 22},
+    {"arrival seconds 86,401, and no more", &journey_sheet, 29, BYTES("\x81\xA3\x05"), 4, 29},
+    {"a passing point with a door side", &journey_sheet, 35, BYTES("\x02\x01\x01\x02"), 4, 38},
+    {"departure seconds 86,400, and no more", &journey_sheet, 45, BYTES("\x80\xA3\x05"), 4, 45},
+    {"one temporary constraint, and no more", &journey_sheet, 51, BYTES("\x01"), 4, 51},
+    {"a journey's sheet with a byte more", &journey_sheet, 52, BYTES("\x00"), 9, 52},
+};
 
 static void damaged_sheets(void)
 {
-    damaged_sheet("an empty sheet", 0, "", 0, 9);
-    damaged_sheet("a sheet without its last byte", 24, "", 0, 9);
-    damaged_sheet("a sheet with a byte more", 25, "\x00", 1, 9);
-    damaged_sheet("a sheet that ends within a number", 2, "", 0, 9);
-    damaged_sheet("the number 80 00", 0, "\x80\x00", 2, 9);
-    damaged_sheet("the packet number as 86 00", 0, "\x86\x00", 2, 9);
-    damaged_sheet("the number 4,294,967,296", 1, "\x80\x80\x80\x80\x10", 5, 9);
-    damaged_sheet("a number of six groups", 1, "\x80\x80\x80\x80\x80\x01", 6, 9);
-    damaged_sheet("packet number 7 and no more", 0, "\x07", 1, 2);
+    for (size_t i = 0; i < sizeof SHEETS / sizeof *SHEETS; ++i) {
+        struct bytes b = *SHEETS[i].whole;
+        memcpy(b.byte + SHEETS[i].kept, SHEETS[i].after, SHEETS[i].count);
+        b.length = SHEETS[i].kept + SHEETS[i].count;
+        refuses(SHEETS[i].name, seglink_sheet_to_packet, &b, SHEETS[i].refusal, SHEETS[i].place);
+        if (SHEETS[i].whole == &desk_sheet)
+            sheet_asked(SHEETS[i].name, &b, SHEETS[i].refusal, SHEETS[i].place);
+    }
 }
 
 // ---- The cases of journeys
 
-static const struct bytes smallest_journey_packet = {17, {0x04, 0x00, 0x0B}};
-static const struct bytes smallest_journey_sheet = {8, {0x04}};
-static const struct bytes journey_packet = {
-    42, {0x04, 0x00, 0xD1, 0x00, 0x01, 0x23, 0x45, 0x00, 0x00, 0x01, 0x00, 0x00, 0x00, 0x00, 0x07,
-         0x20, 0x2A, 0xCC, 0x4D, 0x5E, 0x6F, 0x78, 0x8C, 0x14, 0x2E, 0xCA, 0x86, 0x42, 0x0C, 0x0E, 0x6A, 0x30, 0x12, 0xCA, 0x3A, 0xDB,
-         0xA0, 0xA8, 0xBF, 0xE1, 0x30, 0x00}};
-static const struct bytes journey_sheet = {
-    52, {0x04, 0xC5, 0xC6, 0x04, 0x01, 0x00, 0x00, 0x07, 0x01, 0x01, 0xD9, 0x02, 0xEF, 0x9B, 0xAF, 0xCD, 0x08, 0x11, 0x82, 0x01, 0x01, 0x01,
-         0x90, 0xE4, 0xD0, 0xB2, 0x07, 0xB9, 0x60, 0x80, 0xA3, 0x05, 0xD9, 0x04, 0x01, 0x00, 0x01, 0x01,
-         0x02, 0x01, 0x00, 0x01, 0xA0, 0xB7, 0x01, 0xFF, 0xA2, 0x05, 0x89, 0x06, 0x01, 0x00}};
-
 // One field of the journey of one timing point changed.
-static const struct { const char *name; size_t place; uint32_t value, refusal; } STOPPED[] = {
+static const struct { const char *name; size_t field; uint32_t value, refusal; } STOPPED[] = {
     {"a journey with packet number 5", NUMBER, 5, 2},
     {"a journey with packet number 7", NUMBER, 7, 2},
     {"a journey with packet number 0", NUMBER, 0, 2},
@@ -682,7 +830,6 @@ static const struct { const char *name; size_t place; uint32_t value, refusal; }
     {"alignment 2", TP_ALIGNMENT, 2, 0},
     {"alignment 3", TP_ALIGNMENT, 3, 4},
     {"a skipped stopping point", STOP_SKIP_PASSES, 1, 0},
-    {"a passing point with all eight fields", STOP_SKIP_PASSES, 2, 4},
     {"stop kind 3", STOP_SKIP_PASSES, 3, 4},
     {"information 0", TP_INFORMATION, 0, 0},
     {"information 2", TP_INFORMATION, 2, 4},
@@ -695,7 +842,7 @@ static const struct { const char *name; size_t place; uint32_t value, refusal; }
 };
 
 // The same, of the journey whose point is passed: each of the last eight fields.
-static const struct { const char *name; size_t place; uint32_t value, refusal; } PASSED[] = {
+static const struct { const char *name; size_t field; uint32_t value, refusal; } PASSED[] = {
     {"a passing point", STOP_SKIP_PASSES, 2, 0},
     {"a door side at a passing point", DOOR_SIDE, 1, 4},
     {"centralised opening at a passing point", CENTRALISED_OPENING, 1, 4},
@@ -707,15 +854,15 @@ static const struct { const char *name; size_t place; uint32_t value, refusal; }
     {"automatic closing at a passing point", AUTOMATIC_CLOSING, 1, 4},
 };
 
-static void one_changed(struct fields *s, bool passed, const char *name, size_t place, uint32_t value, uint32_t refusal)
+static void one_changed(struct fields *s, bool passed, const char *name, size_t field, uint32_t value, uint32_t refusal)
 {
     one_journey(s, passed);
-    s->field[place] = (struct field){s->field[place].width, value, value, value};
-    both(name, s, refusal);
+    s->field[field] = (struct field){s->field[field].width, value, value, value};
+    both(name, s, refusal, field);
 }
 
 // Numbers that a sheet can have and the packet's field cannot hold.
-static const struct { const char *name; size_t place; uint32_t number; } WIDE[] = {
+static const struct { const char *name; size_t field; uint32_t number; } WIDE[] = {
     {"packet number 260", NUMBER, 260},
     {"256 segments", SEGMENTS, 256},
     {"NID_C 1,024", FIRST_NID_C, 1024},
@@ -735,14 +882,14 @@ static const struct { const char *name; size_t place; uint32_t number; } WIDE[] 
 static void journey_fields(struct fields *s)
 {
     for (size_t i = 0; i < sizeof STOPPED / sizeof *STOPPED; ++i)
-        one_changed(s, false, STOPPED[i].name, STOPPED[i].place, STOPPED[i].value, STOPPED[i].refusal);
+        one_changed(s, false, STOPPED[i].name, STOPPED[i].field, STOPPED[i].value, STOPPED[i].refusal);
     for (size_t i = 0; i < sizeof PASSED / sizeof *PASSED; ++i)
-        one_changed(s, true, PASSED[i].name, PASSED[i].place, PASSED[i].value, PASSED[i].refusal);
+        one_changed(s, true, PASSED[i].name, PASSED[i].field, PASSED[i].value, PASSED[i].refusal);
     for (size_t i = 0; i < sizeof WIDE / sizeof *WIDE; ++i) {
         one_journey(s, false);
-        s->field[WIDE[i].place].number = WIDE[i].number;
+        s->field[WIDE[i].field].number = WIDE[i].number;
         struct bytes sheet = sheet_of(s, false);
-        refuses(WIDE[i].name, seglink_sheet_to_packet, &sheet, WIDE[i].place == NUMBER ? 2 : 4);
+        refuses(WIDE[i].name, seglink_sheet_to_packet, &sheet, WIDE[i].field == NUMBER ? 2 : 4, byte_of(s, WIDE[i].field));
     }
 }
 
@@ -751,43 +898,28 @@ static void crossed(void)
 {
     struct bytes b = desk_packet;
     b.byte[0] = 4;
-    refuses("a segment's packet with packet number 4", seglink_packet_to_sheet, &b, 6);
+    refuses("a segment's packet with packet number 4", seglink_packet_to_sheet, &b, 13, 131);
     b = desk_sheet;
     b.byte[0] = 4;
-    refuses("a segment's sheet with packet number 4", seglink_sheet_to_packet, &b, 9);
+    refuses("a segment's sheet with packet number 4", seglink_sheet_to_packet, &b, 9, 10);
     b = smallest_journey_packet;
     b.byte[0] = 6;
-    refuses("a journey's packet with packet number 6", seglink_packet_to_sheet, &b, 6);
+    refuses("a journey's packet with packet number 6", seglink_packet_to_sheet, &b, 6, 130);
     b = smallest_journey_sheet;
     b.byte[0] = 6;
-    refuses("a journey's sheet with packet number 6", seglink_sheet_to_packet, &b, 9);
+    refuses("a journey's sheet with packet number 6", seglink_sheet_to_packet, &b, 9, 8);
 }
 
-// The journey's packet cut or lengthened to a count of bytes, L_PACKET_ATO changed, and its last byte changed.
-static void damaged_journey(const char *name, size_t length, uint8_t bits, uint8_t last, uint32_t refusal)
+// A sheet cut anywhere is refused at the number that is not there whole.
+static void cut_sheets(const char *name, const struct bytes *whole)
 {
-    struct bytes b = journey_packet;
-    b.length = length;
-    b.byte[2] = bits;
-    b.byte[41] = last;
-    refuses(name, seglink_packet_to_sheet, &b, refusal);
-}
-
-static void damaged_journeys(void)
-{
-    damaged_journey("a journey of 14 bytes", 14, 209, 0, 1);
-    damaged_journey("a journey of 15 bytes", 15, 209, 0, 3);
-    damaged_journey("a journey without its last byte", 41, 209, 0, 3);
-    damaged_journey("a journey with a byte more", 43, 209, 0, 3);
-    damaged_journey("a journey with a body of no bits", 15, 0, 0, 6);
-    damaged_journey("a journey whose last count does not fit", 41, 208, 0, 6);
-    damaged_journey("a journey with a bit that remains", 42, 210, 0, 6);
-    damaged_journey("a journey with a padding bit", 42, 209, 0x01, 7);
-    damaged_journey("a journey with the first padding bit", 42, 209, 0x40, 7);
-    for (size_t length = 0; length < journey_sheet.length; ++length) {
-        struct bytes b = journey_sheet;
+    for (size_t length = 0; length < whole->length; ++length) {
+        struct bytes b = *whole;
+        uint32_t place = (uint32_t)length;
+        while (place > 0 && b.byte[place - 1] > 127)
+            --place;
         b.length = length;
-        refuses("a journey's sheet cut", seglink_sheet_to_packet, &b, 9);
+        refuses(name, seglink_sheet_to_packet, &b, 9, place);
     }
 }
 
@@ -797,29 +929,22 @@ static void too_long(const char *name, struct fields *s, uint32_t segments, uint
     full_journey(s, segments, points);
     check(name, "the body's count of bits", body_bits(s), bits);
     struct bytes b = sheet_of(s, false);
-    refuses(name, seglink_sheet_to_packet, &b, 12);
-    b.length += 1;
-    refuses(name, seglink_sheet_to_packet, &b, 9);
-    b.length -= 2;
-    refuses(name, seglink_sheet_to_packet, &b, 9);
-    b.length += 1;
-    b.byte[b.length - 1] = 1;
-    refuses(name, seglink_sheet_to_packet, &b, 4);
+    uint32_t length = (uint32_t)b.length;
+    refuses(name, seglink_sheet_to_packet, &b, 12, 0);
+    b.length = length + 1;
+    refuses(name, seglink_sheet_to_packet, &b, 9, length);
+    b.length = length - 1;
+    refuses(name, seglink_sheet_to_packet, &b, 9, length - 1);
+    b.length = length;
+    b.byte[length - 1] = 1;
+    refuses(name, seglink_sheet_to_packet, &b, 4, length - 1);
 }
 
-// The questions take a segment: 2, whatever the train and the place.
+// The questions take a segment: 2, whatever the train and x.
 static void asks(const char *name, const struct bytes *packet, const struct bytes *sheet)
 {
-    seglink_train train = {.length = 0, .cant = 0};
-    seglink_altitude altitude = seglink_altitude_of_packet(packet->byte, packet->length);
-    check(name, "the refusal of its altitude", altitude.refusal, 2);
-    check(name, "its altitude", (size_t)altitude.altitude, 0);
-    seglink_speed from_packet = seglink_speed_from_packet(packet->byte, packet->length, train, 0);
-    check(name, "the refusal of a speed from its packet", from_packet.refusal, 2);
-    check(name, "its speed from its packet", from_packet.speed, 0);
-    seglink_speed from_sheet = seglink_speed_from_sheet(sheet->byte, sheet->length, train, 0);
-    check(name, "the refusal of a speed from its sheet", from_sheet.refusal, 2);
-    check(name, "its speed from its sheet", from_sheet.speed, 0);
+    packet_asked(name, packet, 2, 0);
+    sheet_asked(name, sheet, 2, 0);
 }
 
 static void journeys(struct fields *s)
@@ -830,20 +955,20 @@ static void journeys(struct fields *s)
     converts("a journey, byte by byte", seglink_sheet_to_packet, &journey_sheet, &journey_packet);
     smallest_journey(s);
     sizes("the smallest journey", s, 11, 17, 8);
-    both("the smallest journey", s, 0);
+    both("the smallest journey", s, 0, 0);
     one_journey(s, false);
     sizes("a journey of one timing point", s, 209, 42, 52);
-    both("a journey of one timing point", s, 0);
+    both("a journey of one timing point", s, 0, 0);
     mixed_journey(s);
-    both("a mixed journey", s, 0);
+    both("a mixed journey", s, 0, 0);
     full_journey(s, 41, 486);
     sizes("the largest packet of a journey", s, 65534, SEGLINK_LARGEST_JOURNEY_PACKET, 15174);
-    both("the largest packet of a journey", s, 0);
+    both("the largest packet of a journey", s, 0, 0);
     full_journey(s, 18, 498);
     sizes("the largest sheet of a journey", s, 65495, 8202, 15212);
-    both("the largest sheet of a journey", s, 0);
+    both("the largest sheet of a journey", s, 0, 0);
     full_journey(s, 255, 371);
-    both("a journey over 255 segments", s, 0);
+    both("a journey over 255 segments", s, 0, 0);
     too_long("a journey of 65,537 bits", s, 56, 478, 65537);
     too_long("the largest journey and a segment", s, 42, 486, 65603);
     too_long("the largest journey and a timing point", s, 41, 487, 65663);
@@ -855,23 +980,25 @@ static void journeys(struct fields *s)
     asks("a journey cut after its header, and after its packet number", &packet, &sheet);
     journey_fields(s);
     crossed();
-    damaged_journeys();
+    cut_sheets("a journey's sheet cut", &journey_sheet);
 }
 
 static int all_checks(struct fields *s)
 {
     smallest(s);
     sizes("the smallest segment", s, 185, 39, 23);
-    both("the smallest segment", s, 0);
+    both("the smallest segment", s, 0, 0);
     largest(s);
     sizes("the largest segment", s, 15884, 2001, 5608);
-    both("the largest segment", s, 0);
+    both("the largest segment", s, 0, 0);
     mixed(s);
-    both("a mixed segment", s, 0);
+    both("a mixed segment", s, 0, 0);
     desk_cases(s);
     altitudes(s);
     single_fields(s);
     lists(s);
+    cut_sheets("the desk sheet cut", &desk_sheet);
+    reframed_packets();
     damaged_packets();
     damaged_sheets();
     journeys(s);
@@ -901,7 +1028,7 @@ static void timed(const char *name, conversion *convert, const struct bytes *in,
 {
     size_t repeats = FIELDS_A_ROUND / fields;
     double took[ROUNDS];
-    seglink_converted c = {0, 0};
+    seglink_converted c = {0};
     for (int r = 0; r < ROUNDS; ++r) {
         double began = now();
         for (size_t i = 0; i < repeats; ++i) {

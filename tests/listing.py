@@ -64,24 +64,33 @@ def accepted():
 
 
 def refused():
-    yield "empty input", b"", 1
-    yield "fourteen bytes", SAMPLE[:14], 1
-    yield "packet number 7", packet(body(), number=7), 2
-    yield "a journey of no segments", packet(field(3, 1) + field(8, 0), number=4), 2
-    yield "the sample journey", (ROOT / "examples" / "journey.packet").read_bytes(), 2
-    yield "without its last byte", SAMPLE[:-1], 3
-    yield "a byte more", SAMPLE + b"\0", 3
-    yield "V_STATIC 121", packet(body(first=(121, 0))), 4
-    yield "a location of 0", packet(body(length=9, changes=[(0, 1, 0)])), 5
-    yield "a location at L_SP", packet(body(length=9, changes=[(9, 1, 0)])), 5
-    yield "a location that does not rise", packet(body(length=9, changes=[(2, 1, 0), (2, 1, 0)])), 5
-    yield "a field that does not fit", packet(body()[:-1]), 6
-    yield "bits that remain", packet(body() + "0"), 6
-    yield "a padding bit", packet(body(), padding="0000001"), 7
+    """Packets with their refusal and its place: the first bit of the field at fault, the first that is left, the first padding bit that is 1."""
+    yield "empty input", b"", 1, 0
+    yield "fourteen bytes", SAMPLE[:14], 1, 0
+    yield "packet number 7", packet(body(), number=7), 2, 0
+    yield "a journey of no segments", packet(field(3, 1) + field(8, 0), number=4), 2, 0
+    yield "the sample journey", (ROOT / "examples" / "journey.packet").read_bytes(), 2, 0
+    yield "without its last byte", SAMPLE[:-1], 3, 0
+    yield "a byte more", SAMPLE + b"\0", 3, 0
+    yield "a digit A", SAMPLE[:6] + b"\x4a" + SAMPLE[7:], 4, 24
+    yield "V_STATIC 121", packet(body(first=(121, 0))), 4, 253
+    yield "a class 11 of an entry", packet(body(first=(16, 0, [(1, 0, 7), (0, 11, 7)]))), 4, 281
+    yield "a location of 0", packet(body(length=9, changes=[(0, 1, 0)])), 5, 271
+    yield "a location at L_SP", packet(body(length=9, changes=[(9, 1, 0)])), 5, 271
+    yield "a location that does not rise", packet(body(length=9, changes=[(2, 1, 0), (2, 1, 0)])), 5, 308
+    yield "a body of no bits", packet(""), 6, 120
+    yield "a field that does not fit", packet(body()[:-1]), 6, 300
+    yield "bits that remain", packet(body() + "0"), 13, 305
+    yield "a padding bit", packet(body(), padding="0000001"), 7, 311
+    yield "two padding bits", packet(body(), padding="0100100"), 7, 306
     for size in (8208, 9000, 100000):
-        yield f"{size} bytes of packet number 6", b"\6" + b"\xff" * (size - 1), 3
-        yield f"{size} bytes of another", b"\xff" * size, 2
-    yield "8207 bytes, the most that pass rule 3", packet(body() + "0" * (65535 - len(body()))), 6
+        yield f"{size} bytes of packet number 6", b"\6" + b"\xff" * (size - 1), 3, 0
+        yield f"{size} bytes of another", b"\xff" * size, 2, 0
+    yield "8207 bytes, the most that pass rule 3", packet(body() + "0" * (65535 - len(body()))), 13, 305
+    # the largest body has 15,884 bits, after 120 of the header
+    largest = body((0, 0), LAST, 0, (120, 1, MOST), [(x, 120, 1, MOST) for x in range(1, 32)],
+                   [(x, 5, 1) for x in range(1, 24)], [(x, 1000) for x in range(1, 24)])
+    yield "the largest segment's last current", packet(largest[:-10] + field(10, 1001)), 4, 15994
 
 
 def said(data):
@@ -103,7 +112,7 @@ def piece_by_piece(data):
 
 def main():
     cases = [(name, said, data, text) for name, data, text in accepted()]
-    cases += [(name, said, data, f"REFUSED {number}\n") for name, data, number in refused()]
+    cases += [(name, said, data, f"REFUSED {number} AT {place}\n") for name, data, number, place in refused()]
     cases += [("the document's packet, piece by piece", piece_by_piece, SAMPLE, TWO_LINES)]
     failed = 0
     for name, how, data, text in cases:

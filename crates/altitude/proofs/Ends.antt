@@ -20,6 +20,6 @@ pub largest : centimetres 1048575 ≡ pos 948575
 largest = refl
 
 -- "is accepted: 39 bytes, length 1 cm, altitude -100,000"
-pub sample : altitudeOf firstPacket ≡ record { refusal = 0; altitude = negsuc 99999 }
+pub sample : altitudeOf firstPacket ≡ record { refusal = 0; place = 0; altitude = negsuc 99999 }
 unfolding altitudeOf fromPacket fieldAt digits entries changes
 sample = refl

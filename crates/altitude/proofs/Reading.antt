@@ -47,7 +47,7 @@ twelfth b l h =
 module _ (s : List ℕ) where
   -- what is known of the altitude's field in an accepted packet
   pub record Field : Type 0 where
-    pub value : altitudeOf s ≡ record { refusal = 0; altitude = centimetres (fieldAt s 233 20) }
+    pub value : altitudeOf s ≡ record { refusal = 0; place = 0; altitude = centimetres (fieldAt s 233 20) }
     pub inside : 253 ≤ 8 * length s
     pub present : 13 < length (valuesOf (fromPacket wireChanges s))
 
@@ -63,13 +63,13 @@ module _ (s : List ℕ) where
         let l = valuesOf (fromPacket wireChanges s) in
         let w = whole 6 s stop e in
         let o = parts Segment s stop l e a in
-        let c = packet-only (fields wireChanges) (bitsBetween s 24 stop) (o .values) (o .reads) in
+        let c = packet-only (fields wireChanges) 24 (bitsBetween s 24 stop) (o .values) (o .reads) in
         let d = twelfth (bitsBetween s 24 stop) (o .values) (record { good = c .0; bits = c .1 }) in
         let long : length (bitsBetween s 24 stop) ≡ stop - 24 = rest-length s stop 24 (w .placed) in
         let far : 253 ≤ stop = omega (arith, d .inside) in
         let v : altitudeField l ≡ fieldAt s 233 20 = ap altitudeField (o .all) ∙ d .value ∙ field-bits stop far in
         record {
-          value = ap altitudeOfRead a ∙ λ j. record { refusal = 0; altitude = centimetres (v j) };
+          value = ap altitudeOfRead a ∙ λ j. record { refusal = 0; place = 0; altitude = centimetres (v j) };
           inside = omega (arith, w .inside);
           present = omega (arith, d .present, ap length (o .all));
         }
@@ -88,14 +88,14 @@ module _ (s : List ℕ) where
   unfolding packetVerdict fromPacket fields sheetFields
   altitude-accepted n e = verdict-accepted packet-sorts (sizeFrom sheet (treeSheetFields Segment) 0) (fromPacket wireChanges s) n e λ p q. accepted-field p
 
-  pub altitude-refused : (r : ℕ) → Refused r ≡ packetVerdict Segment s → altitudeOfRead (refused r 0) ≡ altitudeOf s
+  pub altitude-refused : (r place : ℕ) → Refused r place ≡ packetVerdict Segment s → altitudeOfRead (refused r place) ≡ altitudeOf s
   unfolding packetVerdict altitudeOf fromPacket fields sheetFields
-  altitude-refused r e = verdict-refused packet-sorts (sizeFrom sheet (treeSheetFields Segment) 0) (fromPacket wireChanges s) r e λ left p. rw p
+  altitude-refused r place e = rw (verdict-refused packet-sorts (sizeFrom sheet (treeSheetFields Segment) 0) (fromPacket wireChanges s) r place e)
 
   -- the signed number made of the field, as it is returned
   pub altitude-done : (n : ℕ) → SheetBytes n ≡ packetVerdict Segment s → (v : ℕ) (z : ℤ) → v ≡ fieldAt s 233 20 → z ≡ centimetres v
-      → _≡_ {A = Altitude} (record { refusal = 0; altitude = toZ w32 (ofZ w32 z) }) (altitudeOf s)
+      → _≡_ {A = Altitude} (record { refusal = 0; place = 0; altitude = toZ w32 (ofZ w32 z) }) (altitudeOf s)
   altitude-done n e v z p q =
       let f : v < 2 ^ 20 = rw p (field-small s 233 20 20 (lit≤ tt)) in
       let k : toZ w32 (ofZ w32 z) ≡ centimetres (fieldAt s 233 20) = rw q (toZ-ofZ (centimetres-fit v f)) ∙ ap centimetres p in
-      (λ j. record { refusal = 0; altitude = k j }) ∙ sym (altitude-accepted n e .value)
+      (λ j. record { refusal = 0; place = 0; altitude = k j }) ∙ sym (altitude-accepted n e .value)

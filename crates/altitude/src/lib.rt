@@ -6,10 +6,11 @@ use judge::PacketVerdict;
 use kinds::body;
 use link::Tree;
 
-// A refusal's number, or 0 and the altitude.
+// A refusal's number and its place, or 0 and the altitude.
 #[repr(C)]
 pub struct Altitude {
     pub refusal: u32,
+    pub place: u32,
     pub altitude: i32,
 }
 
@@ -38,8 +39,9 @@ pub fn altitude_of_packet(packet: &[u8]) -> Altitude
     ensures { λ r. ⌜ r ≡ altitudeOf (now (packet .entry)) ⌝ }
 {
     match judge_packet::judge_packet(Tree::Segment, packet) {
-        PacketVerdict::Refused(r) => Altitude {
+        PacketVerdict::Refused(r, place) => Altitude {
             refusal: r,
+            place,
             altitude: 0,
         },
         PacketVerdict::SheetBytes(_) => {
@@ -47,6 +49,7 @@ pub fn altitude_of_packet(packet: &[u8]) -> Altitude
             let altitude = signed(v);
             Altitude {
                 refusal: 0,
+                place: 0,
                 altitude,
             }
         }

@@ -16,7 +16,7 @@ use Rattle.format.specs.Format.{end, accepted, read, valuesOf, sheetNumbers}
 use Rattle.format.specs.Media.{packet}
 use Rattle.format.proofs.Generic.{never}
 use Rattle.segment.specs.Segment.{profile, voltage, current, part, lists, body, fields, wireChanges}
-use Rattle.segment.specs.Frame.{packetNumber, bodyBits, padding, fromOne, fieldBits}
+use Rattle.segment.specs.Frame.{packetNumber, bodyBits, padding, firstOne, fieldBits}
 use Rattle.segment.specs.Judgement.{fromPacket}
 use Rattle.segment.proofs.Framing.{padded-accepted}
 use Rattle.speed.specs.declared.Train.{Train}
@@ -40,7 +40,7 @@ module _ (s : List ℕ) where
       by-cases (ltb (length s) 15) (λ a. absurd (never (rw a at e))) λ a.
       by-cases (eqb (packetNumber s) 6) (λ b.
       by-cases (eqb (length s) (15 + (m + 7) / 8)) (λ c.
-      padded-accepted 6 (fromOne (padding s)) (read packet (fields wireChanges) (fieldBits s)) l (rw (a, b, c) at e) λ v p none q.
+      padded-accepted 6 (firstOne (120 + bodyBits s) (padding s)) (read packet (fields wireChanges) 24 (fieldBits s)) l (rw (a, b, c) at e) λ v p zero q.
       let long : 15 ≤ length s = ltb-false (length s) 15 a in
       let size : length s ≡ 15 + (m + 7) / 8 = eqb-true (length s) (15 + (m + 7) / 8) c in
       let few : m < 2 ^ 16 = field-small s 8 16 16 (lit≤ tt) in

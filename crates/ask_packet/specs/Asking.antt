@@ -30,4 +30,4 @@ pub record Reads (s : List ℕ) (f : Format) (at : ℕ) (l : List Item) : Type 0
   pub inside : endOf s ≤ 8 * length s
   pub few : endOf s < 2 ^ 32
   pub long : 8 ≤ length s
-  pub reads : read packet f (bitsBetween s at (endOf s)) ≡ accepted l
+  pub reads : read packet f at (bitsBetween s at (endOf s)) ≡ accepted l

@@ -192,7 +192,7 @@ module _ (s : List ℕ) where
   module _ (e : AcceptedSheet s) (ok : Bytes s) where
     all-reads : Reads s (then nidPacketAto headPart) 0 (valuesOf (fromSheet wireChanges s))
     unfolding fromSheet
-    all-reads = record { before = omega arith; ok = ok; reads = ap (λ (f : Format). read sheet f s) (sym sheet-part) ∙ e }
+    all-reads = record { before = omega arith; ok = ok; reads = ap (λ (f : Format). read sheet f 0 s) (sym sheet-part) ∙ e }
 
     -- the fields after the packet number
     pub head-past : Past (Reads s) headPart 1 (drop 1 (numbersOfSheet s))

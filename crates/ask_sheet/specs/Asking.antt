@@ -52,7 +52,7 @@ entryEnd s at = shortEnd s (shortEnd s (at + 1))
 pub record Reads (s : List ℕ) (f : Format) (at : ℕ) (l : List Item) : Type 0 where
   pub before : at ≤ length s
   pub ok : Bytes s
-  pub reads : read sheet f (drop at s) ≡ accepted l
+  pub reads : read sheet f at (drop at s) ≡ accepted l
 
 -- the head of a sheet was read: its L_SP, and where the speed profile starts
 pub record HeadRead (s : List ℕ) (lsp at : ℕ) : Type 0 where

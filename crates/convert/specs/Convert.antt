@@ -15,21 +15,21 @@ pub record Outcome : Type 0 where
   pub answer : Converted
   pub room : List ℕ
 
--- "It returns its number with length .. 0, and the lent room keeps every byte it had"
-abbrev pub refusedWith : ℕ → List ℕ → Outcome
-refusedWith r room = record { answer = record { refusal = r; length = 0 }; room = room }
+-- "It returns its number with length .. 0, and the lent room keeps every byte it had"; "Every refusal carries its place"
+abbrev pub refusedWith : ℕ → ℕ → List ℕ → Outcome
+refusedWith r place room = record { answer = record { refusal = r; place = place; length = 0 }; room = room }
 
--- "Success returns the length, with the bytes past it as they were"
+-- "Success returns the length, with the bytes past it as they were"; its place is 0
 abbrev pub successWith : List ℕ → List ℕ → Outcome
-successWith bytes room = record { answer = record { refusal = 0; length = length bytes }; room = bytes ++ drop (length bytes) room }
+successWith bytes room = record { answer = record { refusal = 0; place = 0; length = length bytes }; room = bytes ++ drop (length bytes) room }
 
--- "8: result longer than the lent room"
+-- "8: result longer than the lent room", with the place 0
 abbrev pub fitted : List ℕ → List ℕ → Outcome
-fitted bytes room = cond (ltb (length room) (length bytes)) (refusedWith 8 room) (successWith bytes room)
+fitted bytes room = cond (ltb (length room) (length bytes)) (refusedWith 8 0 room) (successWith bytes room)
 
 -- "Conversions then judge 8"
 abbrev pub converted : (List Item → List ℕ) → Read → List ℕ → Outcome
-converted write (refused r left) room = refusedWith r room
+converted write (refused r place) room = refusedWith r place room
 converted write (accepted l) room = fitted (write l) room
 
 -- "packet to sheet", a segment's or a journey's

@@ -39,11 +39,11 @@ pub record SheetWritable (t : Tree) (s room : List ℕ) : Type 0 where
 
 -- the numbers of the fields after the packet number, where the fields end at the bit stop
 abbrev pub fieldsOf : Tree → List ℕ → ℕ → List ℕ
-fieldsOf t s stop = write sheet (treeFields t) (valuesOf (read packet (treeFields t) (bitsBetween s 24 stop)))
+fieldsOf t s stop = write sheet (treeFields t) (valuesOf (read packet (treeFields t) 24 (bitsBetween s 24 stop)))
 
 pub record FieldsWritable (t : Tree) (s : List ℕ) (stop : ℕ) (room : List ℕ) (start : ℕ) : Type 0 where
   pub place : Placed s 24 stop
-  pub accepts : read packet (treeFields t) (bitsBetween s 24 stop) ≡ accepted (valuesOf (read packet (treeFields t) (bitsBetween s 24 stop)))
+  pub accepts : read packet (treeFields t) 24 (bitsBetween s 24 stop) ≡ accepted (valuesOf (read packet (treeFields t) 24 (bitsBetween s 24 stop)))
   pub holds : start + length (fieldsOf t s stop) ≤ length room
 
 -- the bits of a sheet's fields after the packet number
@@ -56,7 +56,7 @@ SheetAccepted t s = sheetJudged t s ≡ accepted (valuesOf (sheetJudged t s))
 
 -- the body's values, from its place in the sheet on
 abbrev pub bodyRead : Tree → List ℕ → ℕ → Read
-bodyRead t s at = read sheet (treeBody t) (drop at s)
+bodyRead t s at = read sheet (treeBody t) at (drop at s)
 
 abbrev pub bodyBitsOf : Tree → List ℕ → ℕ → List Bool
 bodyBitsOf t s at = write packet (treeBody t) (valuesOf (bodyRead t s at))

@@ -30,9 +30,9 @@ room n = replicate n 0xAA
 -- "Success returns the length", and fills a room of its size; a refusal's room "keeps every byte it had"
 abbrev pub convertsTo : (List ℕ → List ℕ → Outcome) → List ℕ → Reply → Case
 convertsTo operation s (bytes b) =
-    record { said = conversionSaid (operation s (room (length b))); due = conversionSaid (record { answer = record { refusal = 0; length = length b }; room = b }) }
-convertsTo operation s (refusal r) =
-    record { said = conversionSaid (operation s (room 3)); due = conversionSaid (record { answer = record { refusal = r; length = 0 }; room = room 3 }) }
+    record { said = conversionSaid (operation s (room (length b))); due = conversionSaid (record { answer = record { refusal = 0; place = 0; length = length b }; room = b }) }
+convertsTo operation s (refusal r place) =
+    record { said = conversionSaid (operation s (room 3)); due = conversionSaid (record { answer = record { refusal = r; place = place; length = 0 }; room = room 3 }) }
 
 -- "packet to sheet, sheet to packet"
 abbrev pub converts : Question → Reply → Case
@@ -51,11 +51,11 @@ changePacket front next = sheetToPacket (changeSheet front next) (room 43) .room
 
 -- "a 200 cm train gets": from the sheet
 abbrev pub getsFromSheet : ℕ → ℕ → ℕ → ℕ → Case
-getsFromSheet front next x v = record { said = speedSaid (speedFromSheet (changeSheet front next) plain x); due = speedSaid (record { refusal = 0; speed = v }) }
+getsFromSheet front next x v = record { said = speedSaid (speedFromSheet (changeSheet front next) plain x); due = speedSaid (record { refusal = 0; place = 0; speed = v }) }
 
 -- "a 200 cm train gets": from its packet
 abbrev pub getsFromPacket : ℕ → ℕ → ℕ → ℕ → Case
-getsFromPacket front next x v = record { said = speedSaid (speedFromPacket (changePacket front next) plain x); due = speedSaid (record { refusal = 0; speed = v }) }
+getsFromPacket front next x v = record { said = speedSaid (speedFromPacket (changePacket front next) plain x); due = speedSaid (record { refusal = 0; place = 0; speed = v }) }
 
 -- ---- A1: "the journey on the same link, as packet number 4"
 
@@ -70,29 +70,29 @@ journeySheetBytes = 0x04 ∷ replicate 7 0
 abbrev pub pointSheet : List ℕ → ℕ → List ℕ → List ℕ
 pointSheet seconds stop rest = 0x04 ∷ replicate 6 0 ++ 0x01 ∷ replicate 5 0 ++ 0x01 ∷ 0x00 ∷ 0x00 ∷ seconds ++ 0x00 ∷ 0x00 ∷ stop ∷ 0x00 ∷ 0x00 ∷ rest
 
--- the refusal of a sheet
-abbrev pub refusedSheet : List ℕ → ℕ → Case
-refusedSheet s r = converts (askPacketOf s) (refusal r)
+-- the refusal of a sheet, and its place
+abbrev pub refusedSheet : List ℕ → ℕ → ℕ → Case
+refusedSheet s r place = converts (askPacketOf s) (refusal r place)
 
 -- what of a sheet is refused for want of room is accepted
 abbrev pub journeys : List Case
 journeys =
     converts (askSheetOf journeyPacket) (bytes journeySheetBytes) ∷ converts (askPacketOf journeySheetBytes) (bytes journeyPacket)
     -- "2 now means neither 4 nor 6, or 4 where a segment is needed (the conversions take both)"
-    ∷ refusedSheet (0x05 ∷ replicate 7 0) 2
-    ∷ record { said = speedSaid (speedFromPacket journeyPacket plain 0); due = speedSaid (record { refusal = 2; speed = 0 }) }
-    ∷ record { said = speedSaid (speedFromSheet journeySheetBytes plain 0); due = speedSaid (record { refusal = 2; speed = 0 }) }
-    ∷ record { said = altitudeSaid (altitudeOf journeyPacket); due = altitudeSaid (record { refusal = 2; altitude = pos 0 }) }
+    ∷ refusedSheet (0x05 ∷ replicate 7 0) 2 0
+    ∷ record { said = speedSaid (speedFromPacket journeyPacket plain 0); due = speedSaid (record { refusal = 2; place = 0; speed = 0 }) }
+    ∷ record { said = speedSaid (speedFromSheet journeySheetBytes plain 0); due = speedSaid (record { refusal = 2; place = 0; speed = 0 }) }
+    ∷ record { said = altitudeSaid (altitudeOf journeyPacket); due = altitudeSaid (record { refusal = 2; place = 0; altitude = pos 0 }) }
     -- "Latest arrival seconds reach 86,400"
-    ∷ refusedSheet (pointSheet (0x80 ∷ 0xA3 ∷ 0x05 ∷ []) 0 (replicate 9 0)) 8 ∷ refusedSheet (pointSheet (0x81 ∷ 0xA3 ∷ 0x05 ∷ []) 0 (replicate 9 0)) 4
+    ∷ refusedSheet (pointSheet (0x80 ∷ 0xA3 ∷ 0x05 ∷ []) 0 (replicate 9 0)) 8 0 ∷ refusedSheet (pointSheet (0x81 ∷ 0xA3 ∷ 0x05 ∷ []) 0 (replicate 9 0)) 4 16
     -- "departure seconds 86,399"
-    ∷ refusedSheet (pointSheet (0x00 ∷ []) 0 (replicate 5 0 ++ 0xFF ∷ 0xA2 ∷ 0x05 ∷ replicate 3 0)) 8
-    ∷ refusedSheet (pointSheet (0x00 ∷ []) 0 (replicate 5 0 ++ 0x80 ∷ 0xA3 ∷ 0x05 ∷ replicate 3 0)) 4
+    ∷ refusedSheet (pointSheet (0x00 ∷ []) 0 (replicate 5 0 ++ 0xFF ∷ 0xA2 ∷ 0x05 ∷ replicate 3 0)) 8 0
+    ∷ refusedSheet (pointSheet (0x00 ∷ []) 0 (replicate 5 0 ++ 0x80 ∷ 0xA3 ∷ 0x05 ∷ replicate 3 0)) 4 27
     -- "At a passing point the last eight fields .. are 0", and at a skipped stopping point they need not be
-    ∷ refusedSheet (pointSheet (0x00 ∷ []) 2 (replicate 9 0)) 8 ∷ refusedSheet (pointSheet (0x00 ∷ []) 2 (0x01 ∷ replicate 8 0)) 4
-    ∷ refusedSheet (pointSheet (0x00 ∷ []) 2 (replicate 7 0 ++ 0x01 ∷ 0x00 ∷ [])) 4 ∷ refusedSheet (pointSheet (0x00 ∷ []) 1 (replicate 7 0 ++ 0x01 ∷ 0x00 ∷ [])) 8
+    ∷ refusedSheet (pointSheet (0x00 ∷ []) 2 (replicate 9 0)) 8 0 ∷ refusedSheet (pointSheet (0x00 ∷ []) 2 (0x01 ∷ replicate 8 0)) 4 22
+    ∷ refusedSheet (pointSheet (0x00 ∷ []) 2 (replicate 7 0 ++ 0x01 ∷ 0x00 ∷ [])) 4 29 ∷ refusedSheet (pointSheet (0x00 ∷ []) 1 (replicate 7 0 ++ 0x01 ∷ 0x00 ∷ [])) 8 0
     -- "a 5-bit count of temporary constraints that must be 0 for now"
-    ∷ refusedSheet (pointSheet (0x00 ∷ []) 0 (replicate 8 0 ++ 0x01 ∷ [])) 4
+    ∷ refusedSheet (pointSheet (0x00 ∷ []) 0 (replicate 8 0 ++ 0x01 ∷ [])) 4 30
     ∷ []
 
 -- "The (P) cases form a single table proved by a single statement"
@@ -100,9 +100,9 @@ abbrev pub desk : List Case
 desk =
     map (λ c. converts (c .ask) (c .answer)) conversions
     -- "is accepted: 39 bytes, length 1 cm, altitude -100,000, 80 km/h, no current limit"
-    ++ record { said = altitudeSaid (altitudeOf firstPacket); due = altitudeSaid (record { refusal = 0; altitude = negsuc 99999 }) }
-    ∷ record { said = speedSaid (speedFromPacket firstPacket plain 0); due = speedSaid (record { refusal = 0; speed = 80 }) }
-    ∷ record { said = speedSaid (speedFromPacket firstPacket plain 1); due = speedSaid (record { refusal = 11; speed = 0 }) }
+    ++ record { said = altitudeSaid (altitudeOf firstPacket); due = altitudeSaid (record { refusal = 0; place = 0; altitude = negsuc 99999 }) }
+    ∷ record { said = speedSaid (speedFromPacket firstPacket plain 0); due = speedSaid (record { refusal = 0; place = 0; speed = 80 }) }
+    ∷ record { said = speedSaid (speedFromPacket firstPacket plain 1); due = speedSaid (record { refusal = 11; place = 0; speed = 0 }) }
     -- "a 200 cm train gets 100 at 699 and 140 at 700. With Q_FRONT 1 it gets 140 at 500"
     ∷ getsFromSheet 0 0 699 100 ∷ getsFromSheet 0 0 700 140 ∷ getsFromSheet 1 1 500 140
     ∷ getsFromPacket 0 0 699 100 ∷ getsFromPacket 0 0 700 140 ∷ getsFromPacket 1 1 500 140

@@ -53,8 +53,8 @@ few-bits x f (refused r n) h = absurd h
 
 -- what a whole tree comes to: the bits so far, and those of its values
 pub run-told : (s : List ℕ) (f : Format) (at : ℕ) (x : List Bool)
-    → writer s .run f at x ≡ answerOf Told.not (λ l. Told.told (x ++ write packet f l)) (read sheet f (drop at s))
-run-told s f at x = pass-read sheet (recording packet) f x (drop at s) ∙ go (read sheet f (drop at s))
+    → writer s .run f at x ≡ answerOf Told.not (λ l. Told.told (x ++ write packet f l)) (read sheet f at (drop at s))
+run-told s f at x = pass-read sheet (recording packet) f x at (drop at s) ∙ go (read sheet f at (drop at s))
   where
     go : (r : Read) → answerOf Told.not (λ l. Told.told (made (recording packet) f l x)) r ≡ answerOf Told.not (λ l. Told.told (x ++ write packet f l)) r
     go (accepted l) = ap Told.told (made-record packet f l x)
@@ -63,7 +63,7 @@ run-told s f at x = pass-read sheet (recording packet) f x (drop at s) ∙ go (r
 pub at-small : {part : Format → Format} {s room : List ℕ} {p : Spot} → Ready part s room p → p .at < 2 ^ 32
 at-small {part} {s} {p = p} h =
     let a = h .ahead in
-    omega (arith, h .filled .count, few-bits (h .bits) (part (a .follows)) (read sheet (part (a .follows)) (drop (p .from) s)) (rw (run-told s (part (a .follows)) (p .from) (h .bits)) at (a .good)))
+    omega (arith, h .filled .count, few-bits (h .bits) (part (a .follows)) (read sheet (part (a .follows)) (p .from) (drop (p .from) s)) (rw (run-told s (part (a .follows)) (p .from) (h .bits)) at (a .good)))
 
 -- ---- a number that is there
 

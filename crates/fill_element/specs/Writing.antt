@@ -20,7 +20,7 @@ writer s = passing sheet (recording packet) (λ at. drop at s) (λ at x. at ≤ 
 -- all is written, and its bits can be counted
 abbrev pub Few : Told (List Bool) → Type 0
 Few (Told.told x) = length x < 2 ^ 32
-Few (Told.not r) = ⊥
+Few (Told.not r at) = ⊥
 
 -- A part may be written from here: the sheet is accepted with what follows, after the bits that are put.
 pub record Ready (part : Format → Format) (s room : List ℕ) (p : Spot) : Type 0 where

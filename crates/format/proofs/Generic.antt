@@ -2,7 +2,7 @@
 -- Assumes nothing.
 use mathlib.Core.Path.{_≡_, refl, ap, _∙_}
 use mathlib.Core.List.{List, [], _∷_, _++_}
-use Prim.Native.Nat.{ℕ}
+use Prim.Native.Nat.{ℕ, _+_}
 use native.Mathlib.Omega.{arith}
 use lib.ListN.{length}
 use Rattle.kinds.specs.declared.Item.{Item}
@@ -29,18 +29,18 @@ follow-accepted n (step i s) next l e = let p = with-accepted i (next i s) l e i
 
 module _ {A : Type 0} (m : Medium A) (Good : Kind → Item → Type 0) (Ok : List A → Type 0) (law : LawfulMedium m Good Ok) where
   -- what was written of conforming values is read as those values
-  pub read-write : {f : Format} {l : List Item} → Conforming Good f l → read m f (write m f l) ≡ accepted l
-  read-write done = refl
-  read-write (also {k = k} {next = next} {i = i} {l = l} g c) =
-      rw (law .again k i (write m (next (i .packet)) l) g) (ap (with i) (read-write c))
+  pub read-write : {f : Format} {l : List Item} → Conforming Good f l → (at : ℕ) → read m f at (write m f l) ≡ accepted l
+  read-write done at = refl
+  read-write (also {k = k} {next = next} {i = i} {l = l} g c) at =
+      rw (law .again k i (write m (next (i .packet)) l) g) (ap (with i) (read-write c (at + length (m .put k i))))
 
   -- what is accepted is what is written of conforming values, and nothing else
-  pub write-read : (f : Format) (s : List A) (l : List Item) → Ok s → read m f s ≡ accepted l → Conforming Good f l × (s ≡ write m f l)
-  write-read end [] [] ok e = (done, refl)
-  write-read end [] (i ∷ l) ok e = absurd (let z : _≡_ {A = ℕ} 0 1 = cc in omega arith)
-  write-read end (x ∷ s) l ok e = absurd (never e)
-  write-read (field k next) s l ok e =
-      let (i, t, u, p, q, c) = follow-accepted (length s) (m .take k s) (λ j v. read m (next (j .packet)) v) l e in
+  pub write-read : (f : Format) (at : ℕ) (s : List A) (l : List Item) → Ok s → read m f at s ≡ accepted l → Conforming Good f l × (s ≡ write m f l)
+  write-read end at [] [] ok e = (done, refl)
+  write-read end at [] (i ∷ l) ok e = absurd (let z : _≡_ {A = ℕ} 0 1 = cc in omega arith)
+  write-read end at (x ∷ s) l ok e = absurd (never e)
+  write-read (field k next) at s l ok e =
+      let (i, t, u, p, q, c) = follow-accepted at (m .take k s) (λ j v. read m (next (j .packet)) (at + length (m .put k j)) v) l e in
       let g = law .only k s i t ok p in
-      let h = write-read (next (i .packet)) t u (g .2) q in
+      let h = write-read (next (i .packet)) (at + length (m .put k i)) t u (g .2) q in
       rw c (also (g .0) (h .0), g .1 ∙ ap (λ v. m .put k i ++ v) (h .1))

@@ -5,7 +5,7 @@ use mathlib.Core.Bool.{Bool}
 use mathlib.Core.List.{List, [], _∷_, _++_, append-assoc}
 use mathlib.Core.Logic.{_↔_}
 use mathlib.Core.Option.{Option, none, some}
-use Prim.Native.Nat.{ℕ, _^_, _<_}
+use Prim.Native.Nat.{ℕ, _+_, _^_, _<_}
 use native.Mathlib.Nat.{mod-eq-of-lt}
 use native.Mathlib.Omega.{arith}
 use borrow.Author.Tests.{ltb-true, ltb-false, lt-ltb, le-ltb}
@@ -36,6 +36,11 @@ pub record Faulting {A : Type 0} (m : Medium A) (Fault : Kind → List A → ℕ
   pub stops : (k : Kind) (s : List A) (r : ℕ) → Ok s → m .take k s ≡ stop r → Fault k s r
   pub faults : (k : Kind) (s : List A) (r : ℕ) → Ok s → Fault k s r → m .take k s ≡ stop r
 
+-- values that conform to the whole tree are a front of it
+pub all-front : {Good : Kind → Item → Type 0} {f : Format} {l : List Item} → Conforming Good f l → Front Good f l end
+all-front done = here
+all-front (also g c) = past g (all-front c)
+
 -- what holds of every kind holds of the one after a front
 pub every-front : {Holds : Kind → Type 0} {Good : Kind → Item → Type 0} {f : Format} {l : List Item} {k : Kind} {next : ℕ → Format}
     → Every Holds f → Front Good f l (field k next) → Holds k
@@ -48,7 +53,7 @@ every-map h (each {k = k} p e) = each (h k p) (λ v. every-map h (e v))
 
 -- whatever judges so: an answer, or one ground
 pub judged : {Values : List Item → Type 0} {On : ℕ → ℕ → Type 0} (j : Read) → ((l : List Item) → (j ≡ accepted l) ↔ Values l)
-    → ((r left : ℕ) → (j ≡ refused r left) ↔ On r left) → OneJudgement Values On
+    → ((r place : ℕ) → (j ≡ refused r place) ↔ On r place) → OneJudgement Values On
 judged {Values} {On} j values on = record {
   ending = go j refl;
   apart = λ p v g. never (sym (on (p .0) (p .1) .1 g) ∙ values (v .0) .1 (v .1));
@@ -57,9 +62,9 @@ judged {Values} {On} j values on = record {
   where
     go : (t : Read) → j ≡ t → Ending ((l : List Item) × Values l) {I = ℕ × ℕ} (λ p. On (p .0) (p .1))
     go (accepted l) e = answered (l, values l .0 e)
-    go (refused r left) e = grounded (r, left) (on r left .0 e)
+    go (refused r place) e = grounded (r, place) (on r place .0 e)
 
-    same : {r left q more : ℕ} → refused r left ≡ refused q more → _≡_ {A = ℕ × ℕ} (r, left) (q, more)
+    same : {r place q other : ℕ} → refused r place ≡ refused q other → _≡_ {A = ℕ × ℕ} (r, place) (q, other)
     same e = cc
 
 with-refused : {C : Type 0} (i : Item) (t : Read) (r n : ℕ) → with i t ≡ refused r n → (t ≡ refused r n → C) → C
@@ -74,15 +79,24 @@ follow-refused m (step i s) next r n e at after = with-refused i (next i s) r n 
 
 module _ {A : Type 0} {m : Medium A} {Good : Kind → Item → Type 0} {Fault : Kind → List A → ℕ → Type 0} {Ok : List A → Type 0}
     (law : LawfulMedium m Good Ok) (bad : Faulting m Fault Ok) where
+  -- nothing is written of no values
+  nothing : (f : Format) → write m f [] ≡ []
+  nothing end = refl
+  nothing (field k next) = refl
+
   -- ---- refused, and so a ground
 
-  module _ {k : Kind} (next : ℕ → Format) (i : Item) (t : List A) (r left : ℕ) (g : Good k i) where
+  module _ {k : Kind} (next : ℕ → Format) (i : Item) (at : ℕ) (t : List A) (r place : ℕ) (g : Good k i) where
     longer : (s rest : List A) (l : List Item) → s ≡ m .put k i ++ t → t ≡ write m (next (i .packet)) l ++ rest
         → s ≡ write m (field k next) (i ∷ l) ++ rest
     longer s rest l p q = p ∙ ap (λ (v : List A). m .put k i ++ v) q ∙ sym (append-assoc (m .put k i) (write m (next (i .packet)) l) rest)
 
+    further : (l : List Item) → place ≡ at + length (m .put k i) + length (write m (next (i .packet)) l) → place ≡ at + length (write m (field k next) (i ∷ l))
+    further l e = rw length-append (omega arith)
+
     -- a ground after a good value is one before it
-    earlier : (s : List A) → s ≡ m .put k i ++ t → Ground m Good Fault (next (i .packet)) t r left → Ground m Good Fault (field k next) s r left
+    earlier : (s : List A) → s ≡ m .put k i ++ t → Ground m Good Fault (next (i .packet)) (at + length (m .put k i)) t r place
+        → Ground m Good Fault (field k next) at s r place
     earlier s p (atField a) = atField (record {
       values = i ∷ a .values;
       kind = a .kind;
@@ -91,7 +105,7 @@ module _ {A : Type 0} {m : Medium A} {Good : Kind → Item → Type 0} {Fault : 
       rest = a .rest;
       whole = longer s (a .rest) (a .values) p (a .whole);
       fault = a .fault;
-      place = a .place;
+      stands = further (a .values) (a .stands);
     })
     earlier s p (leftOver a) = leftOver (record {
       values = i ∷ a .values;
@@ -100,63 +114,61 @@ module _ {A : Type 0} {m : Medium A} {Good : Kind → Item → Type 0} {Fault : 
       whole = longer s (a .rest) (a .values) p (a .whole);
       some = a .some;
       number = a .number;
-      place = a .place;
+      stands = further (a .values) (a .stands);
     })
 
-  ground : (f : Format) (s : List A) (r left : ℕ) → Ok s → read m f s ≡ refused r left → Ground m Good Fault f s r left
-  ground end [] r left ok e = absurd (never (sym e))
-  ground end (x ∷ s) r left ok e =
-      leftOver (record { values = []; good = done; rest = x ∷ s; whole = refl; some = omega arith; number = cc; place = cc })
-  ground (field k next) s r left ok e =
-      follow-refused (length s) (m .take k s) (λ i t. read m (next (i .packet)) t) r left e
-      (λ d p. atField (record { values = []; kind = k; next = next; front = here; rest = s; whole = refl; fault = bad .stops k s r ok d; place = sym p }))
-      λ i t d q. let g = law .only k s i t ok d in earlier next i t r left (g .0) s (g .1) (ground (next (i .packet)) t r left (g .2) q)
+  ground : (f : Format) (at : ℕ) (s : List A) (r place : ℕ) → Ok s → read m f at s ≡ refused r place → Ground m Good Fault f at s r place
+  ground end at [] r place ok e = absurd (never (sym e))
+  ground end at (x ∷ s) r place ok e =
+      let p : at ≡ place = cc in
+      leftOver (record { values = []; good = done; rest = x ∷ s; whole = refl; some = omega arith; number = cc; stands = omega arith })
+  ground (field k next) at s r place ok e =
+      follow-refused at (m .take k s) (λ i t. read m (next (i .packet)) (at + length (m .put k i)) t) r place e
+      (λ d p. atField (record { values = []; kind = k; next = next; front = here; rest = s; whole = refl; fault = bad .stops k s r ok d; stands = omega arith }))
+      λ i t d q. let g = law .only k s i t ok d in
+      earlier next i at t r place (g .0) s (g .1) (ground (next (i .packet)) (at + length (m .put k i)) t r place (g .2) q)
 
   -- ---- a ground, and so refused
 
   -- what is refused after values that conform is refused with them in front
-  past-front : {f g : Format} {l : List Item} → Front Good f l g → (rest : List A) (r left : ℕ) → Ok (write m f l ++ rest)
-      → (Ok rest → read m g rest ≡ refused r left) → read m f (write m f l ++ rest) ≡ refused r left
-  past-front (here {f = f}) rest r left ok e = rw (nothing f) (e (rw (nothing f) at ok))
-    where
-      nothing : (f : Format) → write m f [] ≡ []
-      nothing end = refl
-      nothing (field k next) = refl
-  past-front (past {k = k} {next = next} {i = i} {l = l} g c) rest r left ok e =
+  past-front : {f g : Format} {l : List Item} → Front Good f l g → (at : ℕ) (rest : List A) (r place : ℕ) → Ok (write m f l ++ rest)
+      → (Ok rest → read m g (at + length (write m f l)) rest ≡ refused r place) → read m f at (write m f l ++ rest) ≡ refused r place
+  past-front (here {f = f}) at rest r place ok e =
+      let z : at + 0 ≡ at = omega arith in
+      rw (nothing f) (rw (nothing f, z) at (e (rw (nothing f) at ok)))
+  past-front (past {k = k} {next = next} {i = i} {l = l} g c) at rest r place ok e =
       let t : List A = write m (next (i .packet)) l ++ rest in
       let same : (m .put k i ++ write m (next (i .packet)) l) ++ rest ≡ m .put k i ++ t = append-assoc (m .put k i) (write m (next (i .packet)) l) rest in
       let taken : m .take k (m .put k i ++ t) ≡ step i t = law .again k i t g in
       let fine : Ok t = law .only k (m .put k i ++ t) i t (rw same at ok) taken .2 in
-      rw (same, taken, past-front c rest r left fine e)
+      let far : at + length (m .put k i ++ write m (next (i .packet)) l) ≡ at + length (m .put k i) + length (write m (next (i .packet)) l) =
+      rw length-append (omega arith) in
+      rw (same, taken, past-front c (at + length (m .put k i)) rest r place fine (λ o. rw far at (e o)))
 
-  -- values that conform to the whole tree are a front of it
-  all-front : {f : Format} {l : List Item} → Conforming Good f l → Front Good f l end
-  all-front done = here
-  all-front (also g c) = past g (all-front c)
+  left-refused : (at : ℕ) (rest : List A) → 0 < length rest → read m end at rest ≡ refused (m .left) at
+  left-refused at [] h = absurd (omega arith)
+  left-refused at (x ∷ s) h = refl
 
-  left-refused : (rest : List A) → 0 < length rest → read m end rest ≡ refused (m .left) (length rest)
-  left-refused [] h = absurd (omega arith)
-  left-refused (x ∷ s) h = refl
-
-  given : (f : Format) (s : List A) (r left : ℕ) → Ok s → Ground m Good Fault f s r left → read m f s ≡ refused r left
-  given f s r left ok (atField a) =
-      rw (a .whole, a .place) (past-front (a .front) (a .rest) r (length (a .rest)) (rw (a .whole) at ok)
+  given : (f : Format) (at : ℕ) (s : List A) (r place : ℕ) → Ok s → Ground m Good Fault f at s r place → read m f at s ≡ refused r place
+  given f at s r place ok (atField a) =
+      rw (a .whole, a .stands) (past-front (a .front) at (a .rest) r (at + length (write m f (a .values))) (rw (a .whole) at ok)
       λ fine. rw (bad .faults (a .kind) (a .rest) r fine (a .fault)))
-  given f s r left ok (leftOver a) =
-      rw (a .whole, a .place, a .number) (past-front (all-front (a .good)) (a .rest) (m .left) (length (a .rest)) (rw (a .whole) at ok)
-      λ fine. left-refused (a .rest) (a .some))
+  given f at s r place ok (leftOver a) =
+      rw (a .whole, a .stands, a .number) (past-front (all-front (a .good)) at (a .rest) (m .left) (at + length (write m f (a .values))) (rw (a .whole) at ok)
+      λ fine. left-refused (at + length (write m f (a .values))) (a .rest) (a .some))
 
-  -- "Each refusal is given then and not otherwise"
-  pub refused-ground : (f : Format) (s : List A) (r left : ℕ) → Ok s → (read m f s ≡ refused r left) ↔ Ground m Good Fault f s r left
-  refused-ground f s r left ok = (ground f s r left ok, given f s r left ok)
+  module _ (f : Format) (at : ℕ) (s : List A) (ok : Ok s) where
+    -- "Each refusal is given then and not otherwise", with its place
+    pub refused-ground : (r place : ℕ) → (read m f at s ≡ refused r place) ↔ Ground m Good Fault f at s r place
+    refused-ground r place = (ground f at s r place ok, given f at s r place ok)
 
-  pub accepted-written : (f : Format) (s : List A) (l : List Item) → Ok s → (read m f s ≡ accepted l) ↔ Written m Good f s l
-  accepted-written f s l ok =
-      (λ e. let p = write-read m Good Ok law f s l ok e in record { good = p .0; whole = p .1 }, λ w. rw (w .whole) (read-write m Good Ok law (w .good)))
+    pub accepted-written : (l : List Item) → (read m f at s ≡ accepted l) ↔ Written m Good f s l
+    accepted-written l =
+        (λ e. let p = write-read m Good Ok law f at s l ok e in record { good = p .0; whole = p .1 }, λ w. rw (w .whole) (read-write m Good Ok law (w .good) at))
 
-  -- every input is written of conforming values, or has one ground
-  pub one-judgement : (f : Format) (s : List A) → Ok s → OneJudgement (Written m Good f s) (Ground m Good Fault f s)
-  one-judgement f s ok = judged (read m f s) (λ l. accepted-written f s l ok) (λ r left. refused-ground f s r left ok)
+    -- every input is written of conforming values, or has one ground
+    pub one-judgement : OneJudgement (Written m Good f s) (Ground m Good Fault f at s)
+    one-judgement = judged (read m f at s) accepted-written refused-ground
 
 -- ---- the two media
 
@@ -239,14 +251,14 @@ groups-faulting = record { stops = groups-stops; faults = groups-faults }
 
 -- ---- the theorems, for every format
 
-pub packet-written : (f : Format) (s : List Bool) (l : List Item) → (read packet f s ≡ accepted l) ↔ Written packet InPacket f s l
-packet-written f s l = accepted-written packet-lawful bits-faulting f s l tt
+pub packet-written : (f : Format) (at : ℕ) (s : List Bool) (l : List Item) → (read packet f at s ≡ accepted l) ↔ Written packet InPacket f s l
+packet-written f at s l = accepted-written packet-lawful bits-faulting f at s tt l
 
-pub packet-ground : (f : Format) (s : List Bool) (r left : ℕ) → (read packet f s ≡ refused r left) ↔ Ground packet InPacket BitsFault f s r left
-packet-ground f s r left = refused-ground packet-lawful bits-faulting f s r left tt
+pub packet-ground : (f : Format) (at : ℕ) (s : List Bool) (r place : ℕ) → (read packet f at s ≡ refused r place) ↔ Ground packet InPacket BitsFault f at s r place
+packet-ground f at s r place = refused-ground packet-lawful bits-faulting f at s tt r place
 
-pub sheet-ground : (f : Format) (s : List ℕ) (r left : ℕ) → Bytes s → (read sheet f s ≡ refused r left) ↔ Ground sheet InSheet GroupsFault f s r left
-sheet-ground f s r left ok = refused-ground sheet-lawful groups-faulting f s r left ok
+pub sheet-ground : (f : Format) (at : ℕ) (s : List ℕ) (r place : ℕ) → Bytes s → (read sheet f at s ≡ refused r place) ↔ Ground sheet InSheet GroupsFault f at s r place
+sheet-ground f at s r place ok = refused-ground sheet-lawful groups-faulting f at s ok r place
 
-pub sheet-written : (f : Format) (s : List ℕ) (l : List Item) → Bytes s → (read sheet f s ≡ accepted l) ↔ Written sheet InSheet f s l
-sheet-written f s l ok = accepted-written sheet-lawful groups-faulting f s l ok
+pub sheet-written : (f : Format) (at : ℕ) (s : List ℕ) (l : List Item) → Bytes s → (read sheet f at s ≡ accepted l) ↔ Written sheet InSheet f s l
+sheet-written f at s l ok = accepted-written sheet-lawful groups-faulting f at s ok l

@@ -70,13 +70,13 @@ same-lowered (field k next) (i ∷ l) (j ∷ m) e =
 
 module _ (f : Format) (w : Lawful f) where
   -- from a packet to its sheet and back: the same bits
-  pub packet-sheet-packet : (s : List Bool) (l : List Item) → read packet f s ≡ accepted l
-      → (read sheet f (write sheet f l) ≡ accepted l) × (write packet f l ≡ s)
-  packet-sheet-packet s l e = let p = packet-only f s l e in (sheet-again (to-sheet w (p .0)), sym (p .1))
+  pub packet-sheet-packet : (at to : ℕ) (s : List Bool) (l : List Item) → read packet f at s ≡ accepted l
+      → (read sheet f to (write sheet f l) ≡ accepted l) × (write packet f l ≡ s)
+  packet-sheet-packet at to s l e = let p = packet-only f at s l e in (sheet-again (to-sheet w (p .0)) to, sym (p .1))
 
   -- from conforming values of a sheet to its packet: accepted, with the values lowered
-  pub sheet-packet : (l : List Item) → Conforming InSheet f l → read packet f (write packet f l) ≡ accepted (givenBack f l)
-  sheet-packet l c = rw (← lowered-bits f l) (packet-again (to-packet w c))
+  pub sheet-packet : (l : List Item) → Conforming InSheet f l → (at : ℕ) → read packet f at (write packet f l) ≡ accepted (givenBack f l)
+  sheet-packet l c at = rw (← lowered-bits f l) (packet-again (to-packet w c) at)
 
   -- the same packet exactly for the same packet values
   pub same-packet : (l m : List Item) → Conforming InSheet f l → Conforming InSheet f m
@@ -85,7 +85,7 @@ module _ (f : Format) (w : Lawful f) where
     where
       only : write packet f l ≡ write packet f m → packetValues l ≡ packetValues m
       only e =
-          let p : accepted (givenBack f l) ≡ accepted (givenBack f m) = sym (sheet-packet l cl) ∙ ap (read packet f) e ∙ sheet-packet m cm in
+          let p : accepted (givenBack f l) ≡ accepted (givenBack f m) = sym (sheet-packet l cl 0) ∙ ap (read packet f 0) e ∙ sheet-packet m cm 0 in
           let q : givenBack f l ≡ givenBack f m = cc in
           sym (lowered-values cl) ∙ ap packetValues q ∙ lowered-values cm
 

@@ -82,7 +82,7 @@ bytes-drop zero s ok = ok
 bytes-drop (suc n) [] ok = ok
 bytes-drop (suc n) (b ∷ s) ok = bytes-drop n s (ok .1)
 
-from-sheet : {C : Type 0} (k : Kind) (a : ℕ) (o : Option ℕ) (i : Item) → k .lower a ≡ o → fieldWith k a o ≡ Is i
+pub from-sheet : {C : Type 0} (k : Kind) (a : ℕ) (o : Option ℕ) (i : Item) → k .lower a ≡ o → fieldWith k a o ≡ Is i
     → ((v : ℕ) → k .lower a ≡ some v → i ≡ record { sheet = a; packet = v } → C) → C
 from-sheet k a none i d e f = absurd (let z : _≡_ {A = ℕ} 0 1 = cc in omega arith)
 from-sheet k a (some v) i d e f = f v d (cc)
@@ -106,14 +106,14 @@ sheet-lawful = record { again = groups-again; only = groups-only }
 
 -- ---- the theorems, for every format
 
-pub packet-again : {f : Format} {l : List Item} → Conforming InPacket f l → read packet f (write packet f l) ≡ accepted l
-packet-again c = read-write packet InPacket (λ _. Unit {0}) packet-lawful c
+pub packet-again : {f : Format} {l : List Item} → Conforming InPacket f l → (at : ℕ) → read packet f at (write packet f l) ≡ accepted l
+packet-again c at = read-write packet InPacket (λ _. Unit {0}) packet-lawful c at
 
-pub sheet-again : {f : Format} {l : List Item} → Conforming InSheet f l → read sheet f (write sheet f l) ≡ accepted l
-sheet-again c = read-write sheet InSheet Bytes sheet-lawful c
+pub sheet-again : {f : Format} {l : List Item} → Conforming InSheet f l → (at : ℕ) → read sheet f at (write sheet f l) ≡ accepted l
+sheet-again c at = read-write sheet InSheet Bytes sheet-lawful c at
 
-pub packet-only : (f : Format) (s : List Bool) (l : List Item) → read packet f s ≡ accepted l → Conforming InPacket f l × (s ≡ write packet f l)
-packet-only f s l e = write-read packet InPacket (λ _. Unit {0}) packet-lawful f s l tt e
+pub packet-only : (f : Format) (at : ℕ) (s : List Bool) (l : List Item) → read packet f at s ≡ accepted l → Conforming InPacket f l × (s ≡ write packet f l)
+packet-only f at s l e = write-read packet InPacket (λ _. Unit {0}) packet-lawful f at s l tt e
 
-pub sheet-only : (f : Format) (s : List ℕ) (l : List Item) → Bytes s → read sheet f s ≡ accepted l → Conforming InSheet f l × (s ≡ write sheet f l)
-sheet-only f s l ok e = write-read sheet InSheet Bytes sheet-lawful f s l ok e
+pub sheet-only : (f : Format) (at : ℕ) (s : List ℕ) (l : List Item) → Bytes s → read sheet f at s ≡ accepted l → Conforming InSheet f l × (s ≡ write sheet f l)
+sheet-only f at s l ok e = write-read sheet InSheet Bytes sheet-lawful f at s l ok e

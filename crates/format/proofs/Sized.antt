@@ -14,8 +14,10 @@ use Rattle.kinds.specs.Kind.{Kind}
 use Rattle.fields.proofs.Lawful.{LawfulKind}
 use Rattle.format.specs.Format.{Format, end, field, Medium, write}
 use Rattle.format.specs.Media.{packet, sheet}
-use Rattle.format.specs.Conforming.{Conforming, done, also, InPacket, InSheet}
+use Rattle.format.specs.Conforming.{Conforming, also, InPacket, InSheet}
+use Rattle.format.specs.Grounds.{Front, here, past, Ground, atField, leftOver}
 use Rattle.format.proofs.Lawful.{Lawful, ends, goes}
+use Rattle.format.proofs.Grounds.{all-front}
 
 -- a format of lawful kinds, with the sum of its fields' least and most costs, or wider bounds
 pub data Measured (lo hi : Kind → ℕ) : Format → ℕ → ℕ → Type 0 where
@@ -45,11 +47,22 @@ module _ {A : Type 0} {m : Medium A} {Good : Kind → Item → Type 0} {lo hi : 
       rw length-append (omega (arith, price .least k i w g, size-least (rest (i .packet) (price .allows k i w g)) c))
   size-least (wider s p q) c = omega (arith, size-least s c)
 
+  -- of values that conform to the front of it
+  pub front-most : {f g : Format} {low high : ℕ} → Measured lo hi f low high → {l : List Item} → Front Good f l g → length (write m f l) ≤ high
+  front-most over here = omega arith
+  front-most (plus w rest) here = omega arith
+  front-most (plus {k = k} w rest) (past {i = i} g c) =
+      rw length-append (omega (arith, price .most k i w g, front-most (rest (i .packet) (price .allows k i w g)) c))
+  front-most (wider s p q) c = omega (arith, front-most s c)
+
   pub size-most : {f : Format} {low high : ℕ} → Measured lo hi f low high → {l : List Item} → Conforming Good f l → length (write m f l) ≤ high
-  size-most over done = omega arith
-  size-most (plus {k = k} w rest) (also {i = i} g c) =
-      rw length-append (omega (arith, price .most k i w g, size-most (rest (i .packet) (price .allows k i w g)) c))
-  size-most (wider s p q) c = omega (arith, size-most s c)
+  size-most s c = front-most s (all-front c)
+
+  -- so far a refusal's place can be from where it began
+  pub ground-most : {Fault : Kind → List A → ℕ → Type 0} {f : Format} {low high : ℕ} → Measured lo hi f low high → {at : ℕ} {s : List A} {r place : ℕ}
+      → Ground m Good Fault f at s r place → place ≤ at + high
+  ground-most s (atField a) = omega (arith, a .stands, front-most s (a .front))
+  ground-most s (leftOver a) = omega (arith, a .stands, size-most s (a .good))
 
 -- a packet's field costs its width
 pub packet-priced : Priced packet InPacket (λ k. k .width) (λ k. k .width)

@@ -12,14 +12,14 @@ use Rattle.format.specs.Pass.{made}
 use Rattle.format.specs.Tasks.{counting, countingWithin, recording}
 
 module _ {A : Type 0} (out : Medium A) where
-  pub made-count : {C : Type 0} (answer refusal : ℕ → C) (f : Format) (l : List Item) (n : ℕ) → made (counting out answer refusal) f l n ≡ n + length (write out f l)
+  pub made-count : {C : Type 0} (answer : ℕ → C) (refusal : ℕ → ℕ → C) (f : Format) (l : List Item) (n : ℕ) → made (counting out answer refusal) f l n ≡ n + length (write out f l)
   made-count answer refusal end l n = omega arith
   made-count answer refusal (field k next) [] n = omega arith
   made-count answer refusal (field k next) (i ∷ l) n =
       made-count answer refusal (next (i .packet)) l (n + length (out .put k i))
       ∙ rw (length-append (out .put k i) (write out (next (i .packet)) l)) (omega arith)
 
-  pub made-within : {C : Type 0} (m : ℕ) (answer refusal : ℕ → C) (f : Format) (l : List Item) (n : ℕ) → n < m
+  pub made-within : {C : Type 0} (m : ℕ) (answer : ℕ → C) (refusal : ℕ → ℕ → C) (f : Format) (l : List Item) (n : ℕ) → n < m
       → made (countingWithin m out answer refusal) f l n ≡ (n + length (write out f l)) % m
   made-within m answer refusal end l n h = let e : n + 0 ≡ n = omega arith in rw e (sym (mod-eq-of-lt h))
   made-within m answer refusal (field k next) [] n h = let e : n + 0 ≡ n = omega arith in rw e (sym (mod-eq-of-lt h))

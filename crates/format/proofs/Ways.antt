@@ -18,7 +18,7 @@ module _ {X B : Type 0} {w : Way X B} where
     pub over-on : {to : ℕ} {y : X} {r : Went X} → Over w p at x (Went.on to y) → Over w q to y r → Over w (λ f. p (q f)) at x r
     over-on a b = record { goes = λ f. a .goes (q f) ∙ b .goes f; stands = b .stands }
 
-    pub over-off : {r : ℕ} → Over w p at x (Went.off r) → Over w (λ f. p (q f)) at x (Went.off r)
+    pub over-off : {r place : ℕ} → Over w p at x (Went.off r place) → Over w (λ f. p (q f)) at x (Went.off r place)
     over-off a = record { goes = λ f. a .goes (q f); stands = tt }
 
   -- nothing, at the same place
@@ -32,7 +32,7 @@ module _ {X B : Type 0} {w : Way X B} where
         → Over w (λ f. field k (λ u. part u f)) at x r
     value-on a b = record { goes = λ f. a .goes (λ u. part u f) ∙ b .goes f; stands = b .stands }
 
-    pub value-off : {r : ℕ} → Took w k at x (Got.off r) → Over w (λ f. field k (λ u. part u f)) at x (Went.off r)
+    pub value-off : {r place : ℕ} → Took w k at x (Got.off r place) → Over w (λ f. field k (λ u. part u f)) at x (Went.off r place)
     value-off a = record { goes = λ f. a .goes (λ u. part u f); stands = tt }
 
   -- ---- a part with a value: made of other parts, and what depends on the value
@@ -44,24 +44,24 @@ module _ {X B : Type 0} {w : Way X B} where
     pub gave-on : {to : ℕ} {y : X} {r : Got X} → Over w p at x (Went.on to y) → Gave w q to y r → Gave w (λ next. p (q next)) at x r
     gave-on a b = record { goes = λ next. a .goes (q next) ∙ b .goes next; stands = b .stands }
 
-    pub gave-off : {r : ℕ} → Over w p at x (Went.off r) → Gave w (λ next. p (q next)) at x (Got.off r)
+    pub gave-off : {r place : ℕ} → Over w p at x (Went.off r place) → Gave w (λ next. p (q next)) at x (Got.off r place)
     gave-off a = record { goes = λ next. a .goes (q next); stands = tt }
 
   module _ {p : (ℕ → Format) → Format} {q : Format → Format} {at : ℕ} {x : X} where
     pub gave-then : {v to a : ℕ} {y z : X} → Gave w p at x (Got.is v to y) → Over w q to y (Went.on a z) → Gave w (λ next. p (λ u. q (next u))) at x (Got.is v a z)
     gave-then {v} g o = record { goes = λ next. g .goes (λ u. q (next u)) ∙ o .goes (next v); stands = o .stands }
 
-    pub gave-stop : {v to r : ℕ} {y : X} → Gave w p at x (Got.is v to y) → Over w q to y (Went.off r) → Gave w (λ next. p (λ u. q (next u))) at x (Got.off r)
+    pub gave-stop : {v to r place : ℕ} {y : X} → Gave w p at x (Got.is v to y) → Over w q to y (Went.off r place) → Gave w (λ next. p (λ u. q (next u))) at x (Got.off r place)
     gave-stop {v} g o = record { goes = λ next. g .goes (λ u. q (next u)) ∙ o .goes (next v); stands = tt }
 
-  pub gave-none : {p : (ℕ → Format) → Format} (q : Format → Format) {at : ℕ} {x : X} {r : ℕ} → Gave w p at x (Got.off r) → Gave w (λ next. p (λ u. q (next u))) at x (Got.off r)
+  pub gave-none : {p : (ℕ → Format) → Format} (q : Format → Format) {at : ℕ} {x : X} {r place : ℕ} → Gave w p at x (Got.off r place) → Gave w (λ next. p (λ u. q (next u))) at x (Got.off r place)
   gave-none q g = record { goes = λ next. g .goes (λ u. q (next u)); stands = tt }
 
   module _ {p : (ℕ → Format) → Format} {at : ℕ} {x : X} (part : ℕ → Format → Format) where
     pub part-on : {v to : ℕ} {y : X} {r : Went X} → Gave w p at x (Got.is v to y) → Over w (part v) to y r → Over w (λ f. p (λ u. part u f)) at x r
     part-on a b = record { goes = λ f. a .goes (λ u. part u f) ∙ b .goes f; stands = b .stands }
 
-    pub part-off : {r : ℕ} → Gave w p at x (Got.off r) → Over w (λ f. p (λ u. part u f)) at x (Went.off r)
+    pub part-off : {r place : ℕ} → Gave w p at x (Got.off r place) → Over w (λ f. p (λ u. part u f)) at x (Went.off r place)
     part-off a = record { goes = λ f. a .goes (λ u. part u f); stands = tt }
 
   -- ---- the loops: what is left of a part
@@ -72,18 +72,23 @@ module _ {X B : Type 0} {w : Way X B} where
   pub left-none : {p : Format → Format} {at to : ℕ} {x y : X} → Left w p (λ f. f) at x to y → Over w p at x (Went.on to y)
   left-none l = record { goes = l .same; stands = l .stands }
 
+  -- the part that is left, by another step
+
+  pub left-rest : {p q : Format → Format} {at to : ℕ} {x y : X} {r : Went X} → Left w p q at x to y → Over w q to y r → Over w p at x r
+  left-rest l o = record { goes = λ f. l .same f ∙ o .goes f; stands = o .stands }
+
   module _ {p : Format → Format} (q r : Format → Format) {at to : ℕ} {x y : X} (l : Left w p (λ f. q (r f)) at x to y) where
     pub left-on : {a : ℕ} {z : X} → Over w q to y (Went.on a z) → Left w p r at x a z
     left-on o = record { stands = o .stands; same = λ f. l .same f ∙ o .goes (r f) }
 
-    pub left-off : {e : ℕ} → Over w q to y (Went.off e) → Over w p at x (Went.off e)
+    pub left-off : {e place : ℕ} → Over w q to y (Went.off e place) → Over w p at x (Went.off e place)
     left-off o = record { goes = λ f. l .same f ∙ o .goes (r f); stands = tt }
 
   module _ {k : Kind} {p : Format → Format} {at to : ℕ} {x y : X} (part : ℕ → Format → Format) (l : Left w p (λ f. field k (λ u. part u f)) at x to y) where
     pub left-value : {v a : ℕ} {z : X} → Took w k to y (Got.is v a z) → Left w p (part v) at x a z
     left-value o = record { stands = o .stands; same = λ f. l .same f ∙ o .goes (λ u. part u f) }
 
-    pub left-refused : {e : ℕ} → Took w k to y (Got.off e) → Over w p at x (Went.off e)
+    pub left-refused : {e place : ℕ} → Took w k to y (Got.off e place) → Over w p at x (Went.off e place)
     left-refused o = record { goes = λ f. l .same f ∙ o .goes (λ u. part u f); stands = tt }
 
   -- the same part in other words
@@ -110,7 +115,7 @@ module _ {X B : Type 0} {w : Way X B} where
     ahead-as q e h = record { follows = h .follows; good = rw (e (h .follows)) at (h .good) }
 
     -- no good answer is a refusal
-    pub ahead-never : {k : Kind} (part : ℕ → Format → Format) {at : ℕ} {x : X} {r : ℕ} {C : Type 0} → (Good (w .refusal r) → ⊥) → Took w k at x (Got.off r)
+    pub ahead-never : {k : Kind} (part : ℕ → Format → Format) {at : ℕ} {x : X} {r place : ℕ} {C : Type 0} → (Good (w .refusal r place) → ⊥) → Took w k at x (Got.off r place)
         → Ahead w Good (λ f. field k (λ u. part u f)) at x → C
     ahead-never part n o h = absurd (n (rw (o .goes (λ u. part u (h .follows))) at (h .good)))
 
@@ -121,5 +126,5 @@ module _ {A X B : Type 0} {m : Medium A} {view : ℕ → List A} {took : Kind �
   pub took-is : {i : Item} {to : ℕ} → Taken.Is i to ≡ took k at → Here to (t .on k i x) → Took (passing m t view Here) k at x (Got.is (i .packet) to (t .on k i x))
   took-is e s = record { goes = λ next. rw (pass-field seen t k next x at h, ← e); stands = s }
 
-  pub took-off : {r : ℕ} → Taken.Refused r ≡ took k at → Took (passing m t view Here) k at x (Got.off r)
+  pub took-off : {r : ℕ} → Taken.Refused r ≡ took k at → Took (passing m t view Here) k at x (Got.off r at)
   took-off e = record { goes = λ next. rw (pass-field seen t k next x at h, ← e); stands = tt }

@@ -1,7 +1,7 @@
 -- Formats, and what it is to read and to write one in any medium.
 -- Assumes nothing.
 use mathlib.Core.List.{List, [], _∷_, _++_, map}
-use Prim.Native.Nat.{ℕ}
+use Prim.Native.Nat.{ℕ, _+_}
 use lib.ListN.{length}
 use Rattle.kinds.specs.declared.Item.{Item}
 use Rattle.kinds.specs.Kind.{Kind}
@@ -15,7 +15,7 @@ pub data Format : Type 0 where
 abbrev pub then : Kind → Format → Format
 then k f = field k (λ _. f)
 
--- "A packet is judged": the values of the fields, or a refusal's number and how much was left where it was given, which is its place
+-- "A packet is judged": the values of the fields, or a refusal's number "with a place"
 pub data Read : Type 0 where
   accepted : List Item → Read
   refused : ℕ → ℕ → Read
@@ -25,7 +25,7 @@ pub data FieldStep (A : Type 0) : Type 0 where
   step : Item → List A → FieldStep A
   stop : ℕ → FieldStep A
 
--- how a medium takes a field in front, and puts one; and the refusal where something is left after the last: "6 for bits left", "9 for bytes left"
+-- how a medium takes a field in front, and puts one; and the refusal where something is left after the last: "13 .. for body bits left", "9 for bytes left"
 pub record Medium (A : Type 0) : Type 0 where
   pub take : Kind → List A → FieldStep A
   pub put : Kind → Item → List A
@@ -34,19 +34,19 @@ pub record Medium (A : Type 0) : Type 0 where
 -- "field by field in order": a value in front of those read after it
 abbrev pub with : Item → Read → Read
 with i (accepted l) = accepted (i ∷ l)
-with i (refused r n) = refused r n
+with i (refused r place) = refused r place
 
 module _ {A : Type 0} where
-  -- "field by field in order": what one field gives, and then the others
+  -- "field by field in order": what one field gives, and then the others; "the first bit of the field at fault", "the first byte of the number"
   abbrev pub follow : ℕ → FieldStep A → (Item → List A → Read) → Read
-  follow n (step i s) next = with i (next i s)
-  follow n (stop r) next = refused r n
+  follow at (step i s) next = with i (next i s)
+  follow at (stop r) next = refused r at
 
-  -- "field by field in order", then the refusal for what is left
-  abbrev pub read : Medium A → Format → List A → Read
-  read m end [] = accepted []
-  read m end (x ∷ s) = refused (m .left) (length (x ∷ s))
-  read m (field k next) s = follow (length s) (m .take k s) (λ i t. read m (next (i .packet)) t)
+  -- "field by field in order", each after what is put for the one before it; then the refusal for what is left: "the place is the first one left"
+  abbrev pub read : Medium A → Format → ℕ → List A → Read
+  read m end at [] = accepted []
+  read m end at (x ∷ s) = refused (m .left) at
+  read m (field k next) at s = follow at (m .take k s) (λ i t. read m (next (i .packet)) (at + length (m .put k i)) t)
 
   -- "numbers one after the other", and a packet's fields so: what is put for each value
   abbrev pub write : Medium A → Format → List Item → List A
@@ -57,12 +57,12 @@ module _ {A : Type 0} where
 -- the values that were read, and none where they were refused
 abbrev pub valuesOf : Read → List Item
 valuesOf (accepted l) = l
-valuesOf (refused r left) = []
+valuesOf (refused r place) = []
 
--- what is answered: of the values that were read, or of a refusal, which "returns its number"
-abbrev pub answerOf : {B : Type 0} → (ℕ → B) → (List Item → B) → Read → B
+-- what is answered: of the values that were read, or of a refusal, which "carries its place"
+abbrev pub answerOf : {B : Type 0} → (ℕ → ℕ → B) → (List Item → B) → Read → B
 answerOf refusal value (accepted l) = value l
-answerOf refusal value (refused r left) = refusal r
+answerOf refusal value (refused r place) = refusal r place
 
 -- the column "Packet": the fields' values in the packet
 abbrev pub packetValues : List Item → List ℕ

@@ -1,10 +1,10 @@
--- The grounds of a refusal, for any tree and any medium: what stands in front of the fault, the fault, and how much was left there. No reader is run.
+-- The grounds of a refusal, for any tree and any medium: what stands in front of the fault, the fault, and its place. No reader is run.
 -- Assumes nothing.
 use mathlib.Core.Path.{_≡_}
 use mathlib.Core.Bool.{Bool, false}
 use mathlib.Core.List.{List, [], _∷_, _++_}
 use mathlib.Core.Option.{none}
-use Prim.Native.Nat.{ℕ, _^_, _<_}
+use Prim.Native.Nat.{ℕ, _+_, _^_, _<_}
 use lib.ListN.{length}
 use Rattle.bits.specs.Bits.{bitsOf}
 use Rattle.numbers.specs.Numbers.{groupsIn}
@@ -55,8 +55,8 @@ pub data GroupsFault (k : Kind) (bytes : List ℕ) (r : ℕ) : Type 0 where
   unallowed : (a : ℕ) → Begins bytes a → k .lower a ≡ none → r ≡ k .refusal → GroupsFault k bytes r
 
 module _ {A : Type 0} (m : Medium A) (Good : Kind → Item → Type 0) (Fault : Kind → List A → ℕ → Type 0) where
-  -- "field by field in order": a field at fault, after values that conform
-  pub record AtField (f : Format) (s : List A) (r left : ℕ) : Type 0 where
+  -- "field by field in order": a field at fault, after values that conform; its place, "the first bit of the field at fault", "the first byte of the number"
+  pub record AtField (f : Format) (at : ℕ) (s : List A) (r place : ℕ) : Type 0 where
     pub values : List Item
     pub kind : Kind
     pub next : ℕ → Format
@@ -64,22 +64,22 @@ module _ {A : Type 0} (m : Medium A) (Good : Kind → Item → Type 0) (Fault : 
     pub rest : List A
     pub whole : s ≡ write m f values ++ rest
     pub fault : Fault kind rest r
-    pub place : left ≡ length rest
+    pub stands : place ≡ at + length (write m f values)
 
-  -- "6 for bits left", "9 for bytes left": something left after the last field
-  pub record LeftOver (f : Format) (s : List A) (r left : ℕ) : Type 0 where
+  -- "13 .. for body bits left", "9 for bytes left": something left after the last field; "the place is the first one left"
+  pub record LeftOver (f : Format) (at : ℕ) (s : List A) (r place : ℕ) : Type 0 where
     pub values : List Item
     pub good : Conforming Good f values
     pub rest : List A
     pub whole : s ≡ write m f values ++ rest
     pub some : 0 < length rest
     pub number : r ≡ m .left
-    pub place : left ≡ length rest
+    pub stands : place ≡ at + length (write m f values)
 
-  -- the ground on which r is given, with so much left: "field by field in order", then what is left over
-  pub data Ground (f : Format) (s : List A) (r left : ℕ) : Type 0 where
-    atField : AtField f s r left → Ground f s r left
-    leftOver : LeftOver f s r left → Ground f s r left
+  -- the ground on which r is given at a place, for what stands at the place at: "field by field in order", then what is left over
+  pub data Ground (f : Format) (at : ℕ) (s : List A) (r place : ℕ) : Type 0 where
+    atField : AtField f at s r place → Ground f at s r place
+    leftOver : LeftOver f at s r place → Ground f at s r place
 
 -- "an answer or the one refusal": an answer, or a ground
 pub data Ending (Answered : Type 0) {I : Type 0} (Ground : I → Type 0) : Type 0 where
@@ -92,6 +92,6 @@ pub record OneEnding (Answered : Type 0) {I : Type 0} (Ground : I → Type 0) : 
   pub apart : (i : I) → Answered → Ground i → ⊥
   pub one : (i j : I) → Ground i → Ground j → i ≡ j
 
--- "Each refusal is given then and not otherwise", with its place, for whoever judges: a ground for its number and how much was left
+-- "Each refusal is given then and not otherwise", with its place, for whoever judges: a ground for its number and its place
 abbrev pub OneJudgement : (List Item → Type 0) → (ℕ → ℕ → Type 0) → Type 0
 OneJudgement Values Ground = OneEnding ((l : List Item) × Values l) {I = ℕ × ℕ} (λ p. Ground (p .0) (p .1))

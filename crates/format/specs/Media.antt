@@ -29,9 +29,9 @@ takeBits k s = cond (ltb (length s) (k .width)) (stop 6) (stepped (valueInPacket
 abbrev pub putBits : Kind → Item → List Bool
 putBits k i = bitsOf (k .width) (i .packet)
 
--- a packet's bits: 6 also where "bits remain after the last field"
+-- a packet's bits: "13 .. for body bits left after the last field"
 abbrev pub packet : Medium Bool
-packet = record { take = takeBits; put = putBits; left = 6 }
+packet = record { take = takeBits; put = putBits; left = 13 }
 
 -- "9: sheet ends too soon, .. or a number is not in its shortest form", "9 before 2, 4 or 5"
 abbrev pub numbered : Kind → Number → List ℕ → FieldStep ℕ

@@ -1,10 +1,9 @@
 // The frame of a packet: its refusals, the bit where its fields end, and its padding.
 ghost use mathlib.Core.Path.{_≡_};
-ghost use Prim.Native.Nat.{_+_, _*_, _-_, _^_, _≤_, _<_};
-ghost use lib.ListN.{length};
-ghost use lib.Dec.{eqb};
-ghost use Rattle.bits.specs.Bits.{fieldAt};
-ghost use Rattle.frame.specs.Framed.{frameOf};
+ghost use Prim.Native.Nat.{_+_, _*_, _^_, _≤_, _<_};
+ghost use lib.ListN.{length, drop};
+ghost use Rattle.bits.specs.Bits.{bitsOfBytes};
+ghost use Rattle.frame.specs.Framed.{frameOf, oneOrEnd};
 use kinds::header;
 
 pub enum Frame {
@@ -42,10 +41,11 @@ pub fn judge_frame(s: &[u8], number: u32) -> Frame
     }
 }
 
-// Whether the bits from stop on, fewer than eight, are zero.
-pub fn zero_from(s: &[u8], stop: usize) -> bool
+// The first of the bits from stop on, fewer than eight, that is 1, or the packet's end.
+pub fn first_one(s: &[u8], stop: usize) -> usize
     requires { ⌜ (stop ≤ 8 * length (now s)) × (8 * length (now s) < stop + 8) × (stop < 2 ^ 32) ⌝ }
-    ensures { λ r. ⌜ r ≡ eqb (fieldAt (now (s .entry)) stop (8 * length (now (s .entry)) - stop)) 0 ⌝ }
+    ensures { λ r. ⌜ r ≡ oneOrEnd stop (drop stop (bitsOfBytes (now (s .entry)))) ⌝ }
 {
-    bits::read_field(s, stop, (8 * s.len() - stop) as u32) == 0
+    let padding = bits::read_field(s, stop, (8 * s.len() - stop) as u32);
+    8 * s.len() - (32 - u32::leading_zeros(padding)) as usize
 }

@@ -8,7 +8,7 @@ use Rattle.bits.specs.Bits.{bitsOfBytes}
 use Rattle.kinds.specs.declared.Item.{Item}
 use Rattle.format.specs.Format.{Read, accepted, refused, read, valuesOf, answerOf}
 use Rattle.format.specs.Media.{packet}
-use Rattle.segment.specs.Frame.{fromOne, numberItem}
+use Rattle.segment.specs.Frame.{firstOne, numberItem}
 use Rattle.link.specs.declared.Tree.{Tree}
 use Rattle.link.specs.Link.{treeNumber, treeFields}
 use Rattle.link.specs.Trees.{treePacket}
@@ -21,14 +21,14 @@ use Rattle.frame.specs.Framed.{frameOf}
 use Rattle.frame.proofs.Framing.{packet-frame, packet-fields}
 use Rattle.judge.proofs.Sizes.{Sorts, packet-sorts}
 
-module _ {B : Type 0} {accepts refuses : ℕ → B} (sorts : Sorts accepts refuses) (size : List Item → ℕ) where
+module _ {B : Type 0} {accepts : ℕ → B} {refuses : ℕ → ℕ → B} (sorts : Sorts accepts refuses) (size : List Item → ℕ) where
   pub verdict-accepted : {C : Type 0} (r : Read) (n : ℕ) → accepts n ≡ verdictOf accepts refuses size r → (r ≡ accepted (valuesOf r) → n ≡ size (valuesOf r) → C) → C
   verdict-accepted (accepted l) n e k = k refl (sorts .size e)
-  verdict-accepted (refused r left) n e k = absurd (sorts .apart (sym e))
+  verdict-accepted (refused r place) n e k = absurd (sorts .apart (sym e))
 
-  pub verdict-refused : {C : Type 0} (r : Read) (q : ℕ) → refuses q ≡ verdictOf accepts refuses size r → ((left : ℕ) → r ≡ refused q left → C) → C
-  verdict-refused (accepted l) q e k = absurd (sorts .apart e)
-  verdict-refused (refused r left) q e k = let p : r ≡ q = sym (sorts .number e) in k left (rw p)
+  pub verdict-refused : (r : Read) (q place : ℕ) → refuses q place ≡ verdictOf accepts refuses size r → r ≡ refused q place
+  verdict-refused (accepted l) q place e = absurd (sorts .apart e)
+  verdict-refused (refused r p) q place e = rw (sorts .number e, sorts .place e)
 
 module _ (t : Tree) (s : List ℕ) where
   -- the frame of an accepted packet is whole
@@ -40,11 +40,11 @@ module _ (t : Tree) (s : List ℕ) where
   -- the fields' own values
   pub record Parts (stop : ℕ) (l : List Item) : Type 0 where
     pub values : List Item
-    pub reads : read packet (treeFields t) (bitsBetween s 24 stop) ≡ accepted values
+    pub reads : read packet (treeFields t) 24 (bitsBetween s 24 stop) ≡ accepted values
     pub all : l ≡ numberItem (treeNumber t) ∷ values
 
   pub parts : (stop : ℕ) (l : List Item) → Frame.End stop ≡ frameOf (treeNumber t) s → treePacket t s ≡ accepted l → Parts stop l
   parts stop l e a =
-      padded-accepted (treeNumber t) (fromOne (drop stop (bitsOfBytes s))) (read packet (treeFields t) (bitsBetween s 24 stop)) l
+      padded-accepted (treeNumber t) (firstOne stop (drop stop (bitsOfBytes s))) (read packet (treeFields t) 24 (bitsBetween s 24 stop)) l
       (sym (packet-fields (treeNumber t) s (treeFields t) stop e) ∙ a) λ m p none q.
       record { values = m; reads = p; all = q }

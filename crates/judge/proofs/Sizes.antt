@@ -26,14 +26,15 @@ number-byte Journey = refl
 pub size-first : (t : Tree) (l : List Item) → sizeFrom sheet (treeFields t) 1 l ≡ sizeFrom sheet (treeSheetFields t) 0 (numberItem (treeNumber t) ∷ l)
 size-first t l = rw length-append (omega (arith, number-byte t))
 
--- a verdict is a refusal or not, and tells its number
-pub record Sorts {B : Type 0} (accepts refuses : ℕ → B) : Type 0 where
+-- a verdict is a refusal or not, and tells its number and its place
+pub record Sorts {B : Type 0} (accepts : ℕ → B) (refuses : ℕ → ℕ → B) : Type 0 where
   pub size : {m n : ℕ} → accepts m ≡ accepts n → m ≡ n
-  pub number : {q r : ℕ} → refuses q ≡ refuses r → q ≡ r
-  pub apart : {r n : ℕ} → refuses r ≡ accepts n → ⊥
+  pub number : {q r p place : ℕ} → refuses q p ≡ refuses r place → q ≡ r
+  pub place : {q r p place : ℕ} → refuses q p ≡ refuses r place → p ≡ place
+  pub apart : {r place n : ℕ} → refuses r place ≡ accepts n → ⊥
 
 pub packet-sorts : Sorts PacketVerdict.SheetBytes PacketVerdict.Refused
-packet-sorts = record { size = λ e. cc; number = λ e. cc; apart = λ e. let z : _≡_ {A = ℕ} 0 1 = cc in omega arith }
+packet-sorts = record { size = λ e. cc; number = λ e. cc; place = λ e. cc; apart = λ e. let z : _≡_ {A = ℕ} 0 1 = cc in omega arith }
 
 pub sheet-sorts : Sorts SheetVerdict.PacketBits SheetVerdict.Refused
-sheet-sorts = record { size = λ e. cc; number = λ e. cc; apart = λ e. let z : _≡_ {A = ℕ} 0 1 = cc in omega arith }
+sheet-sorts = record { size = λ e. cc; number = λ e. cc; place = λ e. cc; apart = λ e. let z : _≡_ {A = ℕ} 0 1 = cc in omega arith }

@@ -16,8 +16,8 @@ use Rattle.judge.specs.declared.PacketVerdict.the-variants as PacketVerd
 use Rattle.judge.specs.declared.SheetVerdict.{SheetVerdict}
 use Rattle.judge.specs.declared.SheetVerdict.the-variants as SheetVerdict
 
--- the size of what is made of the values that were read, or a refusal's number
-abbrev pub verdictOf : {B : Type 0} → (ℕ → B) → (ℕ → B) → (List Item → ℕ) → Read → B
+-- the size of what is made of the values that were read, or a refusal with its place
+abbrev pub verdictOf : {B : Type 0} → (ℕ → B) → (ℕ → ℕ → B) → (List Item → ℕ) → Read → B
 verdictOf accepts refuses size r = answerOf refuses (λ l. accepts (size l)) r
 
 -- n and the length of what is written of the values
@@ -27,7 +27,7 @@ sizeFrom m f n l = n + length (write m f l)
 -- the verdict on the fields of a tree's packet, which end at the bit stop, with the bytes of the packet's sheet
 abbrev pub fieldsVerdict : Tree → List ℕ → ℕ → PacketVerdict
 fieldsVerdict t s stop =
-    verdictOf PacketVerdict.SheetBytes PacketVerdict.Refused (λ l. sizeFrom sheet (treeSheetFields t) 0 (numberItem (treeNumber t) ∷ l)) (read packet (treeFields t) (bitsBetween s 24 stop))
+    verdictOf PacketVerdict.SheetBytes PacketVerdict.Refused (λ l. sizeFrom sheet (treeSheetFields t) 0 (numberItem (treeNumber t) ∷ l)) (read packet (treeFields t) 24 (bitsBetween s 24 stop))
 
 -- the verdict on a packet of a tree, with the bytes of its sheet
 unfoldable pub packetVerdict : Tree → List ℕ → PacketVerdict

@@ -2,17 +2,22 @@
 -- Assumes nothing.
 use mathlib.Core.Path.{_≡_, refl, _∙_}
 use mathlib.Core.List.{List}
-use Prim.Native.Nat.{ℕ, zero, suc, _+_, _*_, _-_, _/_, _%_, _≤_}
+use Prim.Native.Nat.{ℕ, zero, suc, _+_, _*_, _-_, _/_, _%_, _≤_, _<_}
 use native.Mathlib.Omega.{arith}
-use borrow.Author.Tests.{ne-eqb}
-use lib.Dec.{lit≤}
+use borrow.Author.Tests.{ne-eqb, lt-ltb, le-ltb}
+use lib.Dec.{eqb, lit≤}
 use lib.ListN.{length}
 use Rattle.bits.specs.Bits.{fieldAt}
+use Rattle.bits.proofs.Tests.{by-cases}
 use Rattle.bits.proofs.Windows.{field-front, field-back, read-window}
+use Rattle.numbers.proofs.Counting.{count-some, count-five}
 use Rattle.kinds.specs.Kinds.{speed, qFront, nIter, qDiff, class, mVoltage, nidCTraction}
+use Rattle.kinds.specs.declared.Field.{Field}
+use Rattle.kinds.specs.declared.Field.the-variants.{Is}
+use Rattle.kinds.specs.declared.Field.the-variants as Judged
 use Rattle.kinds.specs.Judged.{valueInPacket}
 use Rattle.counts.specs.Counts.{bytesOf}
-use Rattle.counts.proofs.Bytes.{bytes-some, both-in, one-byte, class-refusal}
+use Rattle.counts.proofs.Bytes.{bytes-some, bytes-none, both-in, high-out, one-byte, class-refusal}
 use Rattle.format.specs.Format.{then}
 use Rattle.format.proofs.Ways.{over-on, over-off, value-on, value-off, gave-on, gave-off, gave-took}
 use Rattle.segment.specs.Segment.{voltage}
@@ -28,10 +33,26 @@ pub class-wide : (q : ℕ) → Wide (class q)
 class-wide zero = record { some = lit≤ tt; most = lit≤ tt }
 class-wide (suc q) = record { some = lit≤ tt; most = lit≤ tt }
 
--- an entry that has bytes
-past-some : (at n r : ℕ) → (r ≡ 0 → ⊥) → pastEntry at n r ≡ On (at + 13) (n + r)
-past-some at n zero z = absurd (z refl)
-past-some at n (suc r) z = refl
+-- a value has at most five bytes, and an entry fewer than 16
+bytes-five : (f : Field) → bytesOf f ≤ 5
+bytes-five (Is i) = count-five (i .sheet)
+bytes-five (Judged.Refused r) = omega arith
+
+both-few : (a b : ℕ) → bothBytes a b ≤ a + b
+both-few a b = by-cases (eqb a 0) (λ e. rw e (omega arith)) (λ e. by-cases (eqb b 0) (λ d. rw (e, d) (omega arith)) (λ d. rw (e, d) (omega arith)))
+
+pub entry-few : (q c v : ℕ) {r d : ℕ} → r ≡ nameBytes q c → d ≡ bytesOf (valueInPacket speed v) → r + d < 16
+entry-few q c v e g =
+    let a = valueInPacket qDiff q in
+    let b = valueInPacket (class q) c in
+    omega (arith, e, g, both-few (bytesOf a) (bytesOf b), bytes-five a, bytes-five b, bytes-five (valueInPacket speed v))
+
+-- Q_DIFF is refused from 3 on
+q-none : (q : ℕ) → 2 < q → 0 ≡ bytesOf (valueInPacket qDiff q)
+q-none q h = bytes-none qDiff q (high-out 0 2 q h)
+
+q-some : (q : ℕ) → q ≤ 2 → bytesOf (valueInPacket qDiff q) ≡ 0 → ⊥
+q-some q h z = omega (arith, z, bytes-some qDiff q (both-in 0 2 q (omega arith) h) refl, count-some q)
 
 -- the bytes of two fields, by cases
 both-cases : {C : Type 0} (a b : ℕ) → (a ≡ 0 → C) → ((a ≡ 0 → ⊥) → b ≡ 0 → C) → ((a ≡ 0 → ⊥) → (b ≡ 0 → ⊥) → bothBytes a b ≡ a + b → C) → C
@@ -41,12 +62,12 @@ both-cases (suc a) (suc b) f g k =
     k (λ z. omega arith) (λ z. omega arith) (rw (ne-eqb (suc a) 0 (λ z. omega arith), ne-eqb (suc b) 0 (λ z. omega arith)))
 
 -- the step over an entry, from its bytes
-module _ (s : List ℕ) (stop : ℕ) {at n r : ℕ} (o : Over entry s stop at n (pastEntry at n r)) where
-  pub entry-refused : r ≡ 0 → Over entry s stop at n (Refused 4)
-  entry-refused z = rw z at o
+module _ (s : List ℕ) (stop : ℕ) {at n r : ℕ} where
+  pub entry-refused : Over entry s stop at n (pastEntry at n r) → 16 ≤ r → Over entry s stop at n (Refused 4 (at + (r - 16)))
+  entry-refused o h = rw (le-ltb r 16 h) at o
 
-  pub entry-passed : (r ≡ 0 → ⊥) → Over entry s stop at n (On (at + 13) (n + r))
-  entry-passed z = rw (past-some at n r z) at o
+  pub entry-passed : Over entry s stop at n (pastEntry at n r) → r < 16 → Over entry s stop at n (On (at + 13) (n + r))
+  entry-passed o h = rw (lt-ltb r 16 h) at o
 
 module _ (s : List ℕ) (stop : ℕ) {at n : ℕ} (h : Standing s stop at n) where
   inside : (w : ℕ) → w ≤ stop - at → at + w ≤ 8 * length s
@@ -65,14 +86,14 @@ module _ (s : List ℕ) (stop : ℕ) {at n : ℕ} (h : Standing s stop at n) whe
     speed-value : t % 128 ≡ fieldAt s (at + 2 + 4) 7
     speed-value = let p : at + 2 + 4 ≡ at + 6 = omega arith in rw (e, p) (field-back s at 6 7 (inside 13 room))
 
-    pub entry-off : a ≡ 0 → Over entry s stop at n (Refused 4)
+    entry-off : a ≡ 0 → Over entry s stop at n (Refused 4 at)
     entry-off z = value-off (λ q f. then (class q) (then speed f)) (took-none s stop qDiff 2 refl h (lit≤ tt) (omega arith) q-value ea z)
 
     module _ (za : a ≡ 0 → ⊥) where
       q-took : Took qDiff s stop at n (Next.Is (t / 2048) (at + 2) (n + a))
       q-took = took-some s stop qDiff 2 refl h (lit≤ tt) (omega arith) q-value ea za
 
-      pub class-off : b ≡ 0 → Over entry s stop at n (Refused 4)
+      class-off : b ≡ 0 → Over entry s stop at n (Refused 4 (at + 2))
       class-off z =
           value-on (λ q f. then (class q) (then speed f)) q-took
           (over-off (past-off s stop (rw (class-refusal (t / 2048)) at (took-none s stop (class (t / 2048)) 4 (class-width (t / 2048)) (q-took .stands) (lit≤ tt) (omega arith) class-value eb z))))
@@ -81,16 +102,16 @@ module _ (s : List ℕ) (stop : ℕ) {at n : ℕ} (h : Standing s stop at n) whe
         class-took : Took (class (t / 2048)) s stop (at + 2) (n + a) (Next.Is (t / 128 % 16) (at + 2 + 4) (n + a + b))
         class-took = took-some s stop (class (t / 2048)) 4 (class-width (t / 2048)) (q-took .stands) (lit≤ tt) (omega arith) class-value eb zb
 
-        pub speed-off : d ≡ 0 → Over entry s stop at n (Refused 4)
+        speed-off : d ≡ 0 → Over entry s stop at n (Refused 4 (at + 2 + 4))
         speed-off z =
             value-on (λ q f. then (class q) (then speed f)) q-took
             (over-on (past s stop class-took) (past-off s stop (took-none s stop speed 7 refl (class-took .stands) (lit≤ tt) (omega arith) speed-value ed z)))
 
-        pub entry-on : (d ≡ 0 → ⊥) → Over entry s stop at n (pastEntry at n (a + b + d))
+        entry-on : (d ≡ 0 → ⊥) → Over entry s stop at n (On (at + 13) (n + (a + b + d)))
         entry-on z =
             let p : at + 2 + 4 + 7 ≡ at + 13 = omega arith in
             let m : n + a + b + d ≡ n + (a + b + d) = omega arith in
-            rw (past-some at n (a + b + d) (λ y. omega arith), ← m, ← p) (value-on (λ q f. then (class q) (then speed f)) q-took
+            rw (← m, ← p) (value-on (λ q f. then (class q) (then speed f)) q-took
             (over-on (past s stop class-took) (past s stop (took-some s stop speed 7 refl (class-took .stands) (lit≤ tt) (omega arith) speed-value ed z))))
 
   -- the same with the bytes of Q_DIFF and class together
@@ -105,20 +126,25 @@ module _ (s : List ℕ) (stop : ℕ) {at n : ℕ} (h : Standing s stop at n) whe
     unfolding q-bytes class-bytes
     named = let q : t / 128 / 16 ≡ t / 2048 = omega arith in rw q at er
 
-    pub name-refused : r ≡ 0 → Over entry s stop at n (Refused 4)
+    pub q-refused : 2 < t / 2048 → Over entry s stop at n (pastEntry at n 16)
+    q-refused z = let p : at + 0 ≡ at = omega arith in rw p (entry-off room e (q-none (t / 2048) z) refl ed refl)
+
+    pub class-refused : r ≡ 0 → t / 2048 ≤ 2 → Over entry s stop at n (pastEntry at n 18)
     unfolding q-bytes class-bytes
-    name-refused z =
-        both-cases q-bytes class-bytes (λ za. entry-off room e refl refl ed za)
+    class-refused z q =
+        both-cases q-bytes class-bytes (λ za. absurd (q-some (t / 2048) q za))
         (λ za zb. class-off room e refl refl ed za zb)
         (λ za zb p. absurd (za (omega (arith, named, p))))
 
     module _ (z : r ≡ 0 → ⊥) where
-      pub speed-refused : d ≡ 0 → Over entry s stop at n (Refused 4)
+      pub speed-refused : d ≡ 0 → Over entry s stop at n (pastEntry at n 22)
       unfolding q-bytes class-bytes
       speed-refused zd =
-          both-cases q-bytes class-bytes (λ za. entry-off room e refl refl ed za)
-          (λ za zb. class-off room e refl refl ed za zb)
-          (λ za zb p. speed-off room e refl refl ed za zb zd)
+          let p : at + 2 + 4 ≡ at + 6 = omega arith in
+          both-cases q-bytes class-bytes
+          (λ za. absurd (z (named ∙ rw za)))
+          (λ za zb. absurd (z (named ∙ rw (ne-eqb q-bytes 0 za, zb))))
+          (λ za zb _. rw p at (speed-off room e refl refl ed za zb zd))
 
       pub entry-counted : (d ≡ 0 → ⊥) → Over entry s stop at n (pastEntry at n (r + d))
       unfolding q-bytes class-bytes
@@ -126,7 +152,7 @@ module _ (s : List ℕ) (stop : ℕ) {at n : ℕ} (h : Standing s stop at n) whe
           both-cases q-bytes class-bytes
           (λ za. absurd (z (named ∙ rw za)))
           (λ za zb. absurd (z (named ∙ rw (ne-eqb q-bytes 0 za, zb))))
-          (λ za zb p. rw (named ∙ p) (entry-on room e refl refl ed za zb zd))
+          (λ za zb p. rw (lt-ltb (r + d) 16 (entry-few (t / 128 / 16) (t / 128 % 16) (t % 128) er ed), named ∙ p) (entry-on room e refl refl ed za zb zd))
 
   -- ---- V_STATIC 7, Q_FRONT 1, N_ITER 5: the last two may have any value
 
@@ -140,7 +166,7 @@ module _ (s : List ℕ) (stop : ℕ) {at n : ℕ} (h : Standing s stop at n) whe
     count-value : t % 32 ≡ fieldAt s (at + 7 + 1) 5
     count-value = let p : at + 7 + 1 ≡ at + 8 = omega arith in rw (e, p) (field-back s at 8 5 (inside 13 room))
 
-    pub head-off : a ≡ 0 → Gave profileHead s stop at n (Next.Refused 4)
+    pub head-off : a ≡ 0 → Gave profileHead s stop at n (Next.Refused 4 at)
     head-off z = gave-off (past-off s stop (took-none s stop speed 7 refl h (lit≤ tt) (omega arith) static-value ea z))
 
     module _ (z : a ≡ 0 → ⊥) where
@@ -173,14 +199,14 @@ module _ (s : List ℕ) (stop : ℕ) {at n : ℕ} (h : Standing s stop at n) whe
     traction-value : t % 1024 ≡ fieldAt s (at + 4) 10
     traction-value = rw e (field-back s at 4 10 (inside 14 room))
 
-    pub volts-off : a ≡ 0 → Over voltage s stop at n (Refused 4)
+    pub volts-off : a ≡ 0 → Over voltage s stop at n (Refused 4 at)
     volts-off z = value-off (λ u f. then (nidCTraction u) f) (took-none s stop mVoltage 4 refl h (lit≤ tt) (omega arith) volts-value ea z)
 
     module _ (za : a ≡ 0 → ⊥) where
       volts-took : Took mVoltage s stop at n (Next.Is (t / 1024) (at + 4) (n + a))
       volts-took = took-some s stop mVoltage 4 refl h (lit≤ tt) (omega arith) volts-value ea za
 
-      pub traction-off : b ≡ 0 → Over voltage s stop at n (Refused 4)
+      pub traction-off : b ≡ 0 → Over voltage s stop at n (Refused 4 (at + 4))
       traction-off z =
           value-on (λ u f. then (nidCTraction u) f) volts-took
           (past-off s stop (took-none s stop (nidCTraction (t / 1024)) 10 refl (volts-took .stands) (lit≤ tt) (omega arith) traction-value eb z))

@@ -1,8 +1,8 @@
 -- The fields of an element of the speed profile before its entries, and an entry counted. What the code below a promise is held to; no promise names it.
 -- Assumes nothing.
 use mathlib.Core.Bool.{cond}
-use Prim.Native.Nat.{ℕ, zero, suc, _+_}
-use lib.Dec.{eqb}
+use Prim.Native.Nat.{ℕ, _+_, _-_}
+use lib.Dec.{eqb, ltb}
 use Rattle.kinds.specs.Kinds.{speed, qFront, nIter, qDiff, class}
 use Rattle.kinds.specs.Judged.{valueInPacket}
 use Rattle.counts.specs.Counts.{bytesOf}
@@ -22,7 +22,6 @@ bothBytes a b = cond (eqb a 0) 0 (cond (eqb b 0) 0 (a + b))
 abbrev pub nameBytes : ℕ → ℕ → ℕ
 nameBytes q v = bothBytes (bytesOf (valueInPacket qDiff q)) (bytesOf (valueInPacket (class q) v))
 
--- the step over an entry of r bytes at the bit at: "4" where there are none
+-- the step over an entry of r bytes at the bit at; from 16 on, the refusal of the field that stands so far on
 abbrev pub pastEntry : ℕ → ℕ → ℕ → Step
-pastEntry at n zero = Refused 4
-pastEntry at n (suc r) = On (at + 13) (n + suc r)
+pastEntry at n r = cond (ltb r 16) (On (at + 13) (n + r)) (Refused 4 (at + (r - 16)))

@@ -20,9 +20,9 @@ fn cut_entry(s: &[u8], stop: usize, at: usize, n: usize) -> Step
     ensures { λ r. ⌜ Over parts.entry (now (s .entry)) stop at n r ⌝ }
 {
     match judge_field::field(s, stop, at, n, body::QDiff::rule()) {
-        Next::Refused(r) => Step::Refused(r),
+        Next::Refused(r, place) => Step::Refused(r, place),
         Next::Is(q, at2, n2) => match judge_field::plain(s, stop, at2, n2, body::class_at(q)) {
-            Step::Refused(r) => Step::Refused(r),
+            Step::Refused(r, place) => Step::Refused(r, place),
             Step::On(at3, n3) => judge_field::plain(s, stop, at3, n3, body::VStatic::rule()),
         },
     }
@@ -30,6 +30,13 @@ fn cut_entry(s: &[u8], stop: usize, at: usize, n: usize) -> Step
 
 // The bits of an entry: Q_DIFF 2, class 4, V_DIFF 7.
 const ENTRY: usize = 13;
+
+// Where the class and V_DIFF stand in an entry, and a number above the bytes of one.
+const CLASS: usize = 2;
+
+const SPEED: usize = 6;
+
+const FAULT: usize = 16;
 
 // The names that an entry may have, Q_DIFF 2 and class 4, a bit for each; and those whose class has two bytes.
 const NAMES: u64 = 0x7000707FF;
@@ -47,19 +54,22 @@ fn name_bytes(name: u32) -> u32
     2 + ((LONG_NAMES >> name) % 2) as u32
 }
 
-// The bytes of an entry whose bits are all there, read at once; 0 where a field is refused.
+// The bytes of an entry whose bits are all there, read at once; or FAULT and how far on the field stands that is refused.
 fn whole_entry(s: &[u8], stop: usize, at: usize, n: usize) -> usize
     requires { ⌜ Standing (now s) stop at n × (13 ≤ stop - at) ⌝ }
-    ensures { λ r. ⌜ Over parts.entry (now (s .entry)) stop at n (pastEntry at n r) ⌝ }
+    ensures { λ r. ⌜ Over parts.entry (now (s .entry)) stop at n (pastEntry at n r) × (r < 29) ⌝ }
 {
     let t = bits::read_window(s, at, ENTRY as u32);
     let name = name_bytes(t / 128);
     if name == 0 {
-        return 0;
+        if t / 2048 <= body::QDiff::LARGEST {
+            return FAULT + CLASS;
+        }
+        return FAULT;
     }
     let speed = counts::speed(t % 128);
     if speed == 0 {
-        return 0;
+        return FAULT + SPEED;
     }
     name as usize + speed as usize
 }
@@ -74,8 +84,8 @@ fn whole_entries(s: &[u8], stop: usize, at: usize, n: usize, count: u32) -> Step
     let mut left = count;
     while 0 < left {
         let bytes = whole_entry(s, stop, to, m);
-        if bytes == 0 {
-            return Step::Refused(OUT_OF_RANGE);
+        if FAULT <= bytes {
+            return Step::Refused(OUT_OF_RANGE, (to + (bytes - FAULT)) as u32);
         }
         to += ENTRY;
         m += bytes;
@@ -94,8 +104,8 @@ fn cut_entries(s: &[u8], stop: usize, at: usize, n: usize, count: u32) -> Step
     let mut left = count;
     while 0 < left {
         match cut_entry(s, stop, to, m) {
-            Step::Refused(r) => {
-                return Step::Refused(r);
+            Step::Refused(r, place) => {
+                return Step::Refused(r, place);
             }
             Step::On(a, b) => {
                 to = a;
@@ -126,9 +136,9 @@ fn cut_profile(s: &[u8], stop: usize, at: usize, n: usize) -> Next
     ensures { λ r. ⌜ Gave profileHead (now (s .entry)) stop at n r ⌝ }
 {
     match judge_field::plain(s, stop, at, n, body::VStatic::rule()) {
-        Step::Refused(r) => Next::Refused(r),
+        Step::Refused(r, place) => Next::Refused(r, place),
         Step::On(at2, n2) => match judge_field::plain(s, stop, at2, n2, body::QFront::rule()) {
-            Step::Refused(r) => Next::Refused(r),
+            Step::Refused(r, place) => Next::Refused(r, place),
             Step::On(at3, n3) => judge_field::count(s, stop, at3, n3, body::NIter::LARGEST),
         },
     }
@@ -148,7 +158,7 @@ fn profile_head(s: &[u8], stop: usize, at: usize, n: usize) -> Next
     let t = bits::read_window(s, at, HEAD as u32);
     let speed = counts::speed(t / 64);
     if speed == 0 {
-        return Next::Refused(OUT_OF_RANGE);
+        return Next::Refused(OUT_OF_RANGE, at as u32);
     }
     Next::Is(t % 32, at + HEAD, n + speed as usize + 2)
 }
@@ -159,7 +169,7 @@ fn profile(s: &[u8], stop: usize, at: usize, n: usize) -> Step
     ensures { λ r. ⌜ Over segment.profile (now (s .entry)) stop at n r ⌝ }
 {
     match profile_head(s, stop, at, n) {
-        Next::Refused(r) => Step::Refused(r),
+        Next::Refused(r, place) => Step::Refused(r, place),
         Next::Is(count, at2, n2) => entries(s, stop, at2, n2, count),
     }
 }
@@ -172,7 +182,7 @@ fn cut_wire(s: &[u8], stop: usize, at: usize, n: usize) -> Step
     ensures { λ r. ⌜ Over segment.voltage (now (s .entry)) stop at n r ⌝ }
 {
     match judge_field::field(s, stop, at, n, body::MVoltage::rule()) {
-        Next::Refused(r) => Step::Refused(r),
+        Next::Refused(r, place) => Step::Refused(r, place),
         Next::Is(u, at2, n2) => {
             judge_field::plain(s, stop, at2, n2, body::NidCTraction::rule(u))
         }
@@ -181,6 +191,8 @@ fn cut_wire(s: &[u8], stop: usize, at: usize, n: usize) -> Step
 
 // The bits of M_VOLTAGE 4 and NID_CTRACTION 10.
 const WIRE: usize = 14;
+
+const VOLTAGE: usize = body::MVoltage::WIDTH as usize;
 
 // The same: where their bits are all there, they are read at once.
 fn wire(s: &[u8], stop: usize, at: usize, n: usize) -> Step
@@ -193,11 +205,11 @@ fn wire(s: &[u8], stop: usize, at: usize, n: usize) -> Step
     let t = bits::read_window(s, at, WIRE as u32);
     let volts = counts::volts(t / 1024);
     if volts == 0 {
-        return Step::Refused(OUT_OF_RANGE);
+        return Step::Refused(OUT_OF_RANGE, at as u32);
     }
     let traction = counts::traction(t / 1024, t % 1024);
     if traction == 0 {
-        return Step::Refused(OUT_OF_RANGE);
+        return Step::Refused(OUT_OF_RANGE, (at + VOLTAGE) as u32);
     }
     Step::On(at + WIRE, n + volts as usize + traction as usize)
 }

@@ -28,17 +28,17 @@ module _ (s : List ℕ) (stop : ℕ) where
   -- ---- a field of w bits: they are not all there, or its value is v, of r bytes in the sheet, none where it is refused
 
   module _ (k : Kind) (w : ℕ) (e : k .width ≡ w) {at n : ℕ} (h : Standing s stop at n) where
-    refused : {r : ℕ} → Taken.Refused r ≡ bitsTaken k s at stop → Took k s stop at n (Next.Refused r)
+    refused : {r : ℕ} → Taken.Refused r ≡ bitsTaken k s at stop → Took k s stop at n (Next.Refused r at)
     refused q = took-off (packet-seen s stop) judging (Standing s stop) k (placed h) q
 
-    pub took-short : stop - at < w → Took k s stop at n (Next.Refused 6)
+    pub took-short : stop - at < w → Took k s stop at n (Next.Refused 6 at)
     took-short l = refused (bits-short k s at stop (rw e l))
 
     module _ (some : 1 ≤ w) (room : w ≤ stop - at) {v r : ℕ} (ev : v ≡ fieldAt s at w) (er : r ≡ bytesOf (valueInPacket k v)) where
       there : takenAt (valueInPacket k v) (at + w) ≡ bitsTaken k s at stop
       there = rw (ev, ← e) (bits-whole k s at stop (rw e room))
 
-      pub took-none : r ≡ 0 → Took k s stop at n (Next.Refused (k .refusal))
+      pub took-none : r ≡ 0 → Took k s stop at n (Next.Refused (k .refusal) at)
       took-none z =
           by-cases (k .allowed v)
           (λ a. absurd (let f : bytesOf (valueInPacket k v) ≡ length (groupsIn (k .raise v)) = rw a in omega (arith, count-some (k .raise v))))
@@ -62,5 +62,5 @@ module _ (s : List ℕ) (stop : ℕ) where
   pub past : {k : Kind} {at n v to m : ℕ} → Took k s stop at n (Next.Is v to m) → Over (then k) s stop at n (On to m)
   past t = value-on (λ v f. f) t (over-none (t .stands))
 
-  pub past-off : {k : Kind} {at n r : ℕ} → Took k s stop at n (Next.Refused r) → Over (then k) s stop at n (Refused r)
+  pub past-off : {k : Kind} {at n r place : ℕ} → Took k s stop at n (Next.Refused r place) → Over (then k) s stop at n (Refused r place)
   past-off t = value-off (λ v f. f) t

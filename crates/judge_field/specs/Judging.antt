@@ -24,7 +24,7 @@ judging = counting sheet PacketVerdict.SheetBytes PacketVerdict.Refused
 
 -- the verdict on a tree that stands at the bit at, n bytes so far
 abbrev pub verdictAt : List ℕ → ℕ → Format → ℕ → ℕ → PacketVerdict
-verdictAt s stop f at n = pass packet judging f n (bitsBetween s at stop)
+verdictAt s stop f at n = pass packet judging f n at (bitsBetween s at stop)
 
 -- a place in a packet whose fields end at the bit stop, with n bytes counted before it
 pub record Standing (s : List ℕ) (stop at n : ℕ) : Type 0 where
@@ -40,11 +40,11 @@ judge s stop = passing packet judging (λ at. bitsBetween s at stop) (Standing s
 
 abbrev pub went : Step → Went ℕ
 went (On at n) = Went.on at n
-went (Refused r) = Went.off r
+went (Refused r at) = Went.off r at
 
 abbrev pub got : Next → Got ℕ
 got (Next.Is v at n) = Got.is v at n
-got (Next.Refused r) = Got.off r
+got (Next.Refused r at) = Got.off r at
 
 -- A step over a part of the tree: whatever follows the part, the verdict is the verdict from the step on.
 abbrev pub Over : (Format → Format) → List ℕ → ℕ → ℕ → ℕ → Step → Type 0

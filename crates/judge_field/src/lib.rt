@@ -10,16 +10,16 @@ use kinds::OUT_OF_RANGE;
 use kinds::Rule;
 use kinds::body;
 
-// The place after a part with the bytes counted so far, or a refusal.
+// The place after a part with the bytes counted so far, or a refusal and its place.
 pub enum Step {
     On(usize, usize),
-    Refused(u32),
+    Refused(u32, u32),
 }
 
 // The same after a field, with its value.
 pub enum Next {
     Is(u32, usize, usize),
-    Refused(u32),
+    Refused(u32, u32),
 }
 
 // A field at the bit at, n bytes counted before it.
@@ -29,12 +29,12 @@ pub fn field(s: &[u8], stop: usize, at: usize, n: usize, rule: Rule) -> Next
 {
     let width = fields::width(rule);
     if stop - at < width as usize {
-        return Next::Refused(judge::UNFIT);
+        return Next::Refused(judge::UNFIT, at as u32);
     }
     let v = bits::read_window(s, at, width);
     let bytes = counts::by(rule, v);
     if bytes == 0 {
-        return Next::Refused(counts::refusal(rule));
+        return Next::Refused(counts::refusal(rule), at as u32);
     }
     Next::Is(v, at + width as usize, n + bytes as usize)
 }
@@ -45,7 +45,7 @@ pub fn plain(s: &[u8], stop: usize, at: usize, n: usize, rule: Rule) -> Step
     ensures { λ r. ⌜ Over (then (meaning rule)) (now (s .entry)) stop at n r ⌝ }
 {
     match field(s, stop, at, n, rule) {
-        Next::Refused(r) => Step::Refused(r),
+        Next::Refused(r, place) => Step::Refused(r, place),
         Next::Is(_, to, m) => Step::On(to, m),
     }
 }
@@ -60,12 +60,12 @@ pub fn count(s: &[u8], stop: usize, at: usize, n: usize, limit: u32) -> Next
     ensures { λ r. ⌜ Took (nIter limit) (now (s .entry)) stop at n r ⌝ }
 {
     if stop - at < COUNT {
-        return Next::Refused(judge::UNFIT);
+        return Next::Refused(judge::UNFIT, at as u32);
     }
     let v = bits::read_window(s, at, body::NIter::WIDTH);
     let bytes = counts::one(limit, v);
     if bytes == 0 {
-        return Next::Refused(OUT_OF_RANGE);
+        return Next::Refused(OUT_OF_RANGE, at as u32);
     }
     Next::Is(v, at + COUNT, n + bytes as usize)
 }
@@ -78,12 +78,12 @@ pub fn location(s: &[u8], stop: usize, at: usize, n: usize, last: u32, lsp: u32)
     ensures { λ r. ⌜ Took (dLocation last lsp) (now (s .entry)) stop at n r ⌝ }
 {
     if stop - at < PLACE {
-        return Next::Refused(judge::UNFIT);
+        return Next::Refused(judge::UNFIT, at as u32);
     }
     let v = bits::read_window(s, at, body::DLocation::WIDTH);
     let bytes = counts::location(last, lsp, v);
     if bytes == 0 {
-        return Next::Refused(LOCATION);
+        return Next::Refused(LOCATION, at as u32);
     }
     Next::Is(v, at + PLACE, n + bytes as usize)
 }
@@ -96,11 +96,11 @@ pub fn current(s: &[u8], stop: usize, at: usize, n: usize) -> Step
     ensures { λ r. ⌜ Over segment.current (now (s .entry)) stop at n r ⌝ }
 {
     if stop - at < CURRENT {
-        return Step::Refused(judge::UNFIT);
+        return Step::Refused(judge::UNFIT, at as u32);
     }
     let bytes = counts::current(bits::read_window(s, at, body::MCurrent::WIDTH));
     if bytes == 0 {
-        return Step::Refused(OUT_OF_RANGE);
+        return Step::Refused(OUT_OF_RANGE, at as u32);
     }
     Step::On(at + CURRENT, n + bytes as usize)
 }

@@ -2,7 +2,7 @@
 -- Assumes nothing.
 use mathlib.Core.Path.{_≡_, refl}
 use mathlib.Core.List.{List}
-use Prim.Native.Nat.{ℕ, zero, suc, _+_, _-_, _^_, _≤_, _<_}
+use Prim.Native.Nat.{ℕ, _+_, _-_, _^_, _≤_, _<_}
 use native.Mathlib.Nat.{le-refl}
 use native.Mathlib.Omega.{arith}
 use lib.Dec.{lit≤}
@@ -15,25 +15,15 @@ use Rattle.kinds.specs.Kind.{upTo}
 use Rattle.kinds.specs.Kinds.{nidOperational, tTimestampSeconds, lSp, qUtcOffset}
 use Rattle.kinds.specs.Judged.{valueInPacket}
 use Rattle.counts.specs.Counts.{bytesOf}
-use Rattle.counts.proofs.Bytes.{bytes-some, bytes-none, both-in, low-out}
-use Rattle.format.specs.Format.{then, field}
-use Rattle.format.proofs.Ways.{over-on, over-off, gave-on, gave-off, gave-then, gave-stop, gave-none, gave-took}
+use Rattle.counts.proofs.Bytes.{bytes-some, both-in}
+use Rattle.format.specs.Format.{then}
+use Rattle.format.proofs.Ways.{over-on, gave-on, gave-then, gave-took}
 use Rattle.segment.specs.Parts.{kindAt, runs}
-use Rattle.judge_field.specs.declared.Step.{Step}
-use Rattle.judge_field.specs.declared.Step.the-variants.{On, Refused}
+use Rattle.judge_field.specs.declared.Step.the-variants.{On}
 use Rattle.judge_field.specs.declared.Next.the-variants as Next
 use Rattle.judge_field.specs.Judging.{Standing, Over, Took, Gave}
-use Rattle.judge_field.proofs.Steps.{took-none, took-some, past, past-off}
-use Rattle.judge_head.specs.Head.{headPart, stepTo, PartBytes, Passed}
-
--- bytes that are some, and none
-pub counted-some : (to n r : ℕ) → (r ≡ 0 → ⊥) → stepTo to n r ≡ On to (n + r)
-counted-some to n zero z = absurd (z refl)
-counted-some to n (suc r) z = refl
-
-pub counted-none : (to n r : ℕ) → r ≡ 0 → stepTo to n r ≡ Refused 4
-counted-none to n zero z = refl
-counted-none to n (suc r) z = absurd (omega arith)
+use Rattle.judge_field.proofs.Steps.{took-some, past}
+use Rattle.judge_head.specs.Head.{headPart, Passed}
 
 module _ (s : List ℕ) where
   module _ (stop : ℕ) where
@@ -49,12 +39,6 @@ module _ (s : List ℕ) where
 
   module _ {a b c d e : ℕ} (ea : a ≡ bytesOf (valueInPacket nidOperational (fieldAt s 24 32))) (eb : b ≡ length (groupsIn (fieldAt s 56 24))) (ec : c ≡ length (groupsIn (fieldAt s 80 15)))
       (ed : d ≡ bytesOf (valueInPacket tTimestampSeconds (fieldAt s 95 17))) (ee : e ≡ length (groupsIn (fieldAt s 112 8))) where
-    pub header-off : a ≡ 0 → PartBytes (runs 0 5) s 24 120 0
-    unfolding runs kindAt
-    header-off z stop n h l =
-        let o = over-off {q = runs 1 4} (past-off s stop (took-none s stop nidOperational 32 refl h (lit≤ tt) (omega arith) refl ea z)) in
-        record { goes = o .goes; stands = o .stands }
-
     module _ (za : a ≡ 0 → ⊥) where
       -- the three fields before the seconds
       before : (stop n : ℕ) → Standing s stop 24 n → 120 ≤ stop → Over (λ f. then nidOperational (then (upTo 24 16777215) (then (upTo 15 32767) f))) s stop 24 n (On 95 (n + a + b + c))
@@ -63,21 +47,14 @@ module _ (s : List ℕ) where
           let p = any stop 24 16777215 refl (lit≤ tt) (o .stands) (omega arith) eb in
           over-on o (over-on p (any stop 15 32767 refl (lit≤ tt) (p .stands) (omega arith) ec))
 
-      pub seconds-off : d ≡ 0 → PartBytes (runs 0 5) s 24 120 0
-      unfolding runs kindAt
-      seconds-off z stop n h l =
-          let o = before stop n h l in
-          let q = over-on o (over-off {q = runs 4 1} (past-off s stop (took-none s stop tTimestampSeconds 17 refl (o .stands) (lit≤ tt) (omega arith) refl ed z))) in
-          record { goes = q .goes; stands = q .stands }
-
-      pub header-on : (d ≡ 0 → ⊥) → PartBytes (runs 0 5) s 24 120 (a + b + c + d + e)
+      pub header-on : (d ≡ 0 → ⊥) → Passed (runs 0 5) s 24 120 (a + b + c + d + e)
       unfolding runs kindAt
       header-on z stop n h l =
           let o = before stop n h l in
           let p = past s stop (took-some s stop tTimestampSeconds 17 refl (o .stands) (lit≤ tt) (omega arith) refl ed z) in
           let q = over-on o (over-on p (any stop 8 255 refl (lit≤ tt) (p .stands) (omega arith) ee)) in
           let m : n + a + b + c + d + e ≡ n + (a + b + c + d + e) = omega arith in
-          rw (counted-some 120 n (a + b + c + d + e) (λ y. omega (arith, za, y)), ← m) (record { goes = q .goes; stands = q .stands })
+          rw (← m) (record { goes = q .goes; stands = q .stands })
 
   -- ---- NID_C to the versions
 
@@ -96,74 +73,30 @@ module _ (s : List ℕ) where
   -- ---- the fields between L_SP and the lists
 
   module _ {a b c : ℕ} (ea : a ≡ length (groupsIn (fieldAt s 202 24))) (eb : b ≡ bytesOf (valueInPacket qUtcOffset (fieldAt s 226 7))) (ec : c ≡ length (groupsIn (fieldAt s 233 20))) where
-    pub clock-off : b ≡ 0 → PartBytes (runs 10 3) s 202 253 0
-    unfolding runs kindAt
-    clock-off z stop n h l =
-        let o = any stop 24 16777215 refl (lit≤ tt) h (omega arith) ea in
-        let q = over-on o (over-off {q = runs 12 1} (past-off s stop (took-none s stop qUtcOffset 7 refl (o .stands) (lit≤ tt) (omega arith) refl eb z))) in
-        record { goes = q .goes; stands = q .stands }
-
-    pub offset-on : (b ≡ 0 → ⊥) → PartBytes (runs 10 3) s 202 253 (a + b + c)
+    pub offset-on : (b ≡ 0 → ⊥) → Passed (runs 10 3) s 202 253 (a + b + c)
     unfolding runs kindAt
     offset-on z stop n h l =
         let o = any stop 24 16777215 refl (lit≤ tt) h (omega arith) ea in
         let p = past s stop (took-some s stop qUtcOffset 7 refl (o .stands) (lit≤ tt) (omega arith) refl eb z) in
         let q = over-on o (over-on p (any stop 20 1048575 refl (lit≤ tt) (p .stands) (omega arith) ec)) in
         let m : n + a + b + c ≡ n + (a + b + c) = omega arith in
-        rw (counted-some 253 n (a + b + c) (λ y. omega (arith, z, y)), ← m) (record { goes = q .goes; stands = q .stands })
-
-  -- ---- the header alone
-
-  module _ {stop : ℕ} (h : Standing s stop 24 1) (room : 120 ≤ stop) (a : ℕ) (ca : PartBytes (runs 0 5) s 24 120 a) where
-    pub header-refused : a ≡ 0 → Over (runs 0 5) s stop 24 1 (Refused 4)
-    header-refused z = rw (counted-none 120 1 a z) at (ca stop 1 h room)
-
-    pub header-over : (a ≡ 0 → ⊥) → Over (runs 0 5) s stop 24 1 (On 120 (1 + a))
-    header-over z = rw (counted-some 120 1 a z) at (ca stop 1 h room)
+        rw (← m) (record { goes = q .goes; stands = q .stands })
 
   -- ---- the whole
 
-  module _ {stop : ℕ} (h : Standing s stop 24 1) (room : 253 ≤ stop) {a : ℕ} (ca : PartBytes (runs 0 5) s 24 120 a) where
-    pub head-off : a ≡ 0 → Gave headPart s stop 24 1 (Next.Refused 4)
+  module _ {stop : ℕ} (h : Standing s stop 24 1) (room : 253 ≤ stop) (a b d : ℕ) {r v : ℕ} (ca : Passed (runs 0 5) s 24 120 a) (cb : Passed (runs 5 4) s 120 178 b)
+      (ev : v ≡ fieldAt s 178 24) (zv : v ≡ 0 → ⊥) (er : r ≡ length (groupsIn v)) (cd : Passed (runs 10 3) s 202 253 d) where
+    pub head-on : Gave headPart s stop 24 1 (Next.Is v 253 (1 + a + b + r + d))
     unfolding runs
-    head-off z =
-        let g = gave-off {q = λ next. runs 5 4 (field lSp λ lsp. runs 10 3 (next lsp))} (header-refused h (omega arith) a ca z) in
+    head-on =
+        let o = ca stop 1 h (omega arith) in
+        let p = cb stop (1 + a) (o .stands) (omega arith) in
+        let l : fieldAt s 178 24 < 2 ^ 24 = field-small s 178 24 24 (le-refl 24) in
+        let t : Took lSp s stop 178 (1 + a + b) (Next.Is v 202 (1 + a + b + r)) =
+        took-some s stop lSp 24 refl (p .stands) (lit≤ tt) (omega arith) ev
+        (bytes-some lSp v (both-in 1 16777215 v (omega (arith, zv)) (omega (arith, ev, l))) er) (λ y. omega (arith, er, y, count-some v)) in
+        let g = gave-on o (gave-on p (gave-then (gave-took t) (cd stop (1 + a + b + r) (t .stands) room))) in
         record { goes = g .goes; stands = g .stands }
-
-    module _ (za : a ≡ 0 → ⊥) (b : ℕ) {v : ℕ} (cb : Passed (runs 5 4) s 120 178 b) (ev : v ≡ fieldAt s 178 24) where
-      head-first : Over (runs 0 5) s stop 24 1 (On 120 (1 + a))
-      head-first = header-over h (omega arith) a ca za
-
-      identity-over : Over (runs 5 4) s stop 120 (1 + a) (On 178 (1 + a + b))
-      identity-over = cb stop (1 + a) (head-first .stands) (omega arith)
-
-      pub length-off : v ≡ 0 → Gave headPart s stop 24 1 (Next.Refused 4)
-      unfolding runs
-      length-off z =
-          let k = took-none s stop lSp 24 refl (identity-over .stands) (lit≤ tt) (omega arith) ev (bytes-none lSp v (low-out 1 16777215 v (omega arith))) refl in
-          let g = gave-on head-first (gave-on identity-over (gave-none (runs 10 3) (gave-took k))) in
-          record { goes = g .goes; stands = g .stands }
-
-      module _ (zv : v ≡ 0 → ⊥) {r : ℕ} (d : ℕ) (er : r ≡ length (groupsIn v)) (cd : PartBytes (runs 10 3) s 202 253 d) where
-        length-took : Took lSp s stop 178 (1 + a + b) (Next.Is v 202 (1 + a + b + r))
-        length-took =
-            let l : fieldAt s 178 24 < 2 ^ 24 = field-small s 178 24 24 (le-refl 24) in
-            took-some s stop lSp 24 refl (identity-over .stands) (lit≤ tt) (omega arith) ev
-            (bytes-some lSp v (both-in 1 16777215 v (omega (arith, zv)) (omega (arith, ev, l))) er) (λ y. omega (arith, er, y, count-some v))
-
-        pub offset-off : d ≡ 0 → Gave headPart s stop 24 1 (Next.Refused 4)
-        unfolding runs
-        offset-off z =
-            let o = rw (counted-none 253 (1 + a + b + r) d z) at (cd stop (1 + a + b + r) (length-took .stands) room) in
-            let g = gave-on head-first (gave-on identity-over (gave-stop (gave-took length-took) o)) in
-            record { goes = g .goes; stands = g .stands }
-
-        pub head-on : (d ≡ 0 → ⊥) → Gave headPart s stop 24 1 (Next.Is v 253 (1 + a + b + r + d))
-        unfolding runs
-        head-on z =
-            let o = rw (counted-some 253 (1 + a + b + r) d z) at (cd stop (1 + a + b + r) (length-took .stands) room) in
-            let g = gave-on head-first (gave-on identity-over (gave-then (gave-took length-took) o)) in
-            record { goes = g .goes; stands = g .stands }
 
 -- ---- one field among the thirteen
 

@@ -8,7 +8,6 @@ ghost use Rattle.judge_field.specs.Judging.{Standing, Over, Gave};
 ghost use Rattle.judge_head.specs.Head.{headPart, PartBytes, Passed};
 use judge_field::Next;
 use judge_field::Step;
-use kinds::OUT_OF_RANGE;
 use kinds::Rule;
 use kinds::body;
 use kinds::header;
@@ -47,8 +46,8 @@ fn run(s: &[u8], stop: usize, at: usize, n: usize, first: u32, end: u32) -> Step
     let mut i = first;
     while i < end {
         match judge_field::plain(s, stop, to, m, rule_of(i)) {
-            Step::Refused(r) => {
-                return Step::Refused(r);
+            Step::Refused(r, place) => {
+                return Step::Refused(r, place);
             }
             Step::On(a, b) => {
                 to = a;
@@ -66,11 +65,11 @@ fn cut_head(s: &[u8], stop: usize) -> Next
     ensures { λ r. ⌜ Gave headPart (now (s .entry)) stop 24 1 r ⌝ }
 {
     match run(s, stop, frame::FIRST_FIELD, 1, 0, 9) {
-        Step::Refused(r) => Next::Refused(r),
+        Step::Refused(r, place) => Next::Refused(r, place),
         Step::On(at2, n2) => match judge_field::field(s, stop, at2, n2, body::LSp::rule()) {
-            Next::Refused(r) => Next::Refused(r),
+            Next::Refused(r, place) => Next::Refused(r, place),
             Next::Is(lsp, at3, n3) => match run(s, stop, at3, n3, 10, 13) {
-                Step::Refused(r) => Next::Refused(r),
+                Step::Refused(r, place) => Next::Refused(r, place),
                 Step::On(at4, n4) => Next::Is(lsp, at4, n4),
             },
         },
@@ -110,7 +109,7 @@ const END: usize = ALTITUDE + body::MSpAltitude::WIDTH as usize;
 // The bytes of a packet in which eight bytes begin with each field's first: a whole packet has no fewer.
 const LONG: usize = ALTITUDE / 8 + 9;
 
-// The header: NID_OPERATIONAL and the seconds can be refused.
+// The bytes of the header, 0 where NID_OPERATIONAL or the seconds are refused.
 fn header_bytes(s: &[u8]) -> usize
     requires { ⌜ 38 ≤ length (now s) ⌝ }
     ensures { λ r. ⌜ PartBytes (runs 0 5) (now (s .entry)) 24 120 r ⌝ }
@@ -137,7 +136,7 @@ fn header_bytes(s: &[u8]) -> usize
     operational as usize + engine as usize + date as usize + seconds as usize + counter as usize
 }
 
-// NID_C, NID_SP and the two versions: none can be refused.
+// Those of NID_C, NID_SP and the two versions: none can be refused.
 fn identity_bytes(s: &[u8]) -> usize
     requires { ⌜ 38 ≤ length (now s) ⌝ }
     ensures { λ r. ⌜ Passed (runs 5 4) (now (s .entry)) 120 178 r ⌝ }
@@ -149,7 +148,7 @@ fn identity_bytes(s: &[u8]) -> usize
     country as usize + identity as usize + major as usize + minor as usize
 }
 
-// The fields between L_SP and the lists: Q_UTC_Offset can be refused.
+// Those of the fields between L_SP and the lists, 0 where Q_UTC_Offset is refused.
 fn offset_bytes(s: &[u8]) -> usize
     requires { ⌜ 38 ≤ length (now s) ⌝ }
     ensures { λ r. ⌜ PartBytes (runs 10 3) (now (s .entry)) 202 253 r ⌝ }
@@ -166,22 +165,22 @@ fn offset_bytes(s: &[u8]) -> usize
     offset as usize + clock as usize + altitude as usize
 }
 
-// The same as `cut_head`.
+// The same as `cut_head`, which tells a refusal.
 fn whole_head(s: &[u8], stop: usize) -> Next
     requires { ⌜ Standing (now s) stop 24 1 × (38 ≤ length (now s)) × (253 ≤ stop) ⌝ }
     ensures { λ r. ⌜ Gave headPart (now (s .entry)) stop 24 1 r ⌝ }
 {
     let header = header_bytes(s);
     if header == 0 {
-        return Next::Refused(OUT_OF_RANGE);
+        return cut_head(s, stop);
     }
     let lsp = bits::read_window(s, LENGTH, body::LSp::WIDTH);
     if lsp == 0 {
-        return Next::Refused(OUT_OF_RANGE);
+        return cut_head(s, stop);
     }
     let offsets = offset_bytes(s);
     if offsets == 0 {
-        return Next::Refused(OUT_OF_RANGE);
+        return cut_head(s, stop);
     }
     let identity = identity_bytes(s);
     let length = grouping::groups(lsp);

@@ -46,7 +46,7 @@ module _ {X B : Type 0} {w : Way X B} {at : ℕ} {x : X} where
       more : Left w p (λ f. one (journeySegments constraints (left - 1) f)) at x to y
       more = left-as (λ f. one (journeySegments constraints (left - 1) f)) (segments-more left some) here
 
-      pub segments-off : {r : ℕ} → Over w (journeySegment constraints) to y (Went.off r) → Over w p at x (Went.off r)
+      pub segments-off : {r place : ℕ} → Over w (journeySegment constraints) to y (Went.off r place) → Over w p at x (Went.off r place)
       segments-off o = left-off one (journeySegments constraints (left - 1)) more o
 
       pub segments-on : {a : ℕ} {z : X} → Over w (journeySegment constraints) to y (Went.on a z) → Left w p (journeySegments constraints (left - 1)) at x a z

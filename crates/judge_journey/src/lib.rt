@@ -18,7 +18,7 @@ fn cut_head(s: &[u8], stop: usize, at: usize, n: usize) -> Next
     let widths = journey::segment_widths();
     let most = journey::segment_most();
     match judge_row::row(s, stop, at, n, &widths, &most) {
-        Step::Refused(r) => Next::Refused(r),
+        Step::Refused(r, place) => Next::Refused(r, place),
         Step::On(at2, n2) => judge_field::count(s, stop, at2, n2, body::NIter::LARGEST),
     }
 }
@@ -61,11 +61,11 @@ fn segment(s: &[u8], stop: usize, at: usize, n: usize) -> Step
     ensures { λ r. ⌜ Over (journeySegment constraints) (now (s .entry)) stop at n r ⌝ }
 {
     match segment_head(s, stop, at, n) {
-        Next::Refused(r) => Step::Refused(r),
+        Next::Refused(r, place) => Step::Refused(r, place),
         Next::Is(count, at2, n2) => match judge_point::points(s, stop, at2, n2, count) {
-            Step::Refused(r) => Step::Refused(r),
+            Step::Refused(r, place) => Step::Refused(r, place),
             Step::On(at3, n3) => match judge_field::count(s, stop, at3, n3, journey::CONSTRAINTS) {
-                Next::Refused(r) => Step::Refused(r),
+                Next::Refused(r, place) => Step::Refused(r, place),
                 Next::Is(_, at4, n4) => Step::On(at4, n4),
             },
         },
@@ -82,8 +82,8 @@ fn segments(s: &[u8], stop: usize, at: usize, n: usize, count: u32) -> Step
     let mut left = count;
     while 0 < left {
         match segment(s, stop, to, m) {
-            Step::Refused(r) => {
-                return Step::Refused(r);
+            Step::Refused(r, place) => {
+                return Step::Refused(r, place);
             }
             Step::On(a, b) => {
                 to = a;
@@ -101,9 +101,9 @@ fn body(s: &[u8], stop: usize, at: usize, n: usize) -> Step
     ensures { λ r. ⌜ Over journeyBodyPart (now (s .entry)) stop at n r ⌝ }
 {
     match judge_field::plain(s, stop, at, n, QJpStatus::rule()) {
-        Step::Refused(r) => Step::Refused(r),
+        Step::Refused(r, place) => Step::Refused(r, place),
         Step::On(at2, n2) => match judge_field::field(s, stop, at2, n2, NIterSp::rule()) {
-            Next::Refused(r) => Step::Refused(r),
+            Next::Refused(r, place) => Step::Refused(r, place),
             Next::Is(count, at3, n3) => segments(s, stop, at3, n3, count),
         },
     }
@@ -115,7 +115,7 @@ pub fn fields(s: &[u8], stop: usize) -> Step
     ensures { λ r. ⌜ Over journeyPart (now (s .entry)) stop 24 1 r ⌝ }
 {
     match judge_head::header_fields(s, stop) {
-        Step::Refused(r) => Step::Refused(r),
+        Step::Refused(r, place) => Step::Refused(r, place),
         Step::On(at, n) => body(s, stop, at, n),
     }
 }

@@ -23,7 +23,7 @@ fn constraints(s: &[u8], at: usize, n: u32) -> Step
     ensures { λ r. ⌜ Over (then (nIter journey.constraints)) (now (s .entry)) at n r ⌝ }
 {
     match ranged(s, at, n, NIter::WIDTH, 0, CONSTRAINTS, OUT_OF_RANGE) {
-        Next::Refused(r) => Step::Refused(r),
+        Next::Refused(r, place) => Step::Refused(r, place),
         Next::Is(_, at2, n2) => Step::On(at2, n2),
     }
 }
@@ -44,7 +44,7 @@ fn segment(s: &[u8], at: usize, n: u32) -> Step
     ensures { λ r. ⌜ Over (journey.journeySegment journey.constraints) (now (s .entry)) at n r ⌝ }
 {
     match segment_row(s, at, n) {
-        Step::Refused(r) => Step::Refused(r),
+        Step::Refused(r, place) => Step::Refused(r, place),
         Step::On(at2, n2) => match ranged(
             s,
             at2,
@@ -54,9 +54,9 @@ fn segment(s: &[u8], at: usize, n: u32) -> Step
             NIter::LARGEST,
             OUT_OF_RANGE,
         ) {
-            Next::Refused(r) => Step::Refused(r),
+            Next::Refused(r, place) => Step::Refused(r, place),
             Next::Is(count, at3, n3) => match points(s, at3, n3, count) {
-                Step::Refused(r) => Step::Refused(r),
+                Step::Refused(r, place) => Step::Refused(r, place),
                 Step::On(at4, n4) => constraints(s, at4, n4),
             },
         },
@@ -73,8 +73,8 @@ fn segments(s: &[u8], at: usize, n: u32, count: u32) -> Step
     let mut left = count;
     while 0 < left {
         match segment(s, to, m) {
-            Step::Refused(r) => {
-                return Step::Refused(r);
+            Step::Refused(r, place) => {
+                return Step::Refused(r, place);
             }
             Step::On(a, b) => {
                 to = a;
@@ -100,7 +100,7 @@ fn body(s: &[u8], at: usize, n: u32) -> Step
         QJpStatus::LARGEST,
         OUT_OF_RANGE,
     ) {
-        Next::Refused(r) => Step::Refused(r),
+        Next::Refused(r, place) => Step::Refused(r, place),
         Next::Is(_, at2, n2) => match ranged(
             s,
             at2,
@@ -110,7 +110,7 @@ fn body(s: &[u8], at: usize, n: u32) -> Step
             NIterSp::LARGEST,
             OUT_OF_RANGE,
         ) {
-            Next::Refused(r) => Step::Refused(r),
+            Next::Refused(r, place) => Step::Refused(r, place),
             Next::Is(count, at3, n3) => segments(s, at3, n3, count),
         },
     }
@@ -132,9 +132,9 @@ pub fn fields(s: &[u8], at: usize, n: u32) -> Step
     ensures { λ r. ⌜ Over parts.journeyPart (now (s .entry)) at n r ⌝ }
 {
     match operational(s, at, n) {
-        Step::Refused(r) => Step::Refused(r),
+        Step::Refused(r, place) => Step::Refused(r, place),
         Step::On(at2, n2) => match header_row(s, at2, n2) {
-            Step::Refused(r) => Step::Refused(r),
+            Step::Refused(r, place) => Step::Refused(r, place),
             Step::On(at3, n3) => body(s, at3, n3),
         },
     }

@@ -13,14 +13,14 @@ module _ {X B : Type 0} {w : Way X B} {p : Format → Format} (start : Format �
   change : Left w p (λ f. field (dLocation last lsp) (λ u. start (changes start lsp u (left - 1) f))) at x to y
   change = left-as (λ f. field (dLocation last lsp) (λ u. start (changes start lsp u (left - 1) f))) (changes-more start lsp last left some) here
 
-  pub location-off : {r : ℕ} → Took w (dLocation last lsp) to y (Got.off r) → Over w p at x (Went.off r)
+  pub location-off : {r place : ℕ} → Took w (dLocation last lsp) to y (Got.off r place) → Over w p at x (Went.off r place)
   location-off t = left-refused (λ u f. start (changes start lsp u (left - 1) f)) change t
 
   module _ {v a : ℕ} {z : X} (t : Took w (dLocation last lsp) to y (Got.is v a z)) where
     element : Left w p (λ f. start (changes start lsp v (left - 1) f)) at x a z
     element = left-value (λ u f. start (changes start lsp u (left - 1) f)) change t
 
-    pub element-off : {r : ℕ} → Over w start a z (Went.off r) → Over w p at x (Went.off r)
+    pub element-off : {r place : ℕ} → Over w start a z (Went.off r place) → Over w p at x (Went.off r place)
     element-off o = left-off start (changes start lsp v (left - 1)) element o
 
     pub element-on : {b : ℕ} {u : X} → Over w start a z (Went.on b u) → Left w p (changes start lsp v (left - 1)) at x b u

@@ -37,7 +37,7 @@ whole-part Journey = refl
 -- answers that agree on every list of values
 alike : (value more : List Item → PacketVerdict) (r : Read) → ((l : List Item) → more l ≡ value l) → answerOf PacketVerdict.Refused more r ≡ answerOf PacketVerdict.Refused value r
 alike value more (accepted l) h = h l
-alike value more (refused r left) h = refl
+alike value more (refused r place) h = refl
 
 module _ (s : List ℕ) (stop : ℕ) where
   -- where the fields begin, after the packet number's byte
@@ -47,22 +47,22 @@ module _ (s : List ℕ) (stop : ℕ) where
 module _ (t : Tree) (s : List ℕ) (stop : ℕ) where
   fields-verdict : fieldsVerdict t s stop ≡ verdictAt s stop (treePart t end) 24 1
   fields-verdict =
-      let r = read packet (treeFields t) (bitsBetween s 24 stop) in
+      let r = read packet (treeFields t) 24 (bitsBetween s 24 stop) in
       sym (alike _ (λ l. PacketVerdict.SheetBytes (made judging (treeFields t) l 1)) r (λ l. ap PacketVerdict.SheetBytes (made-count sheet PacketVerdict.SheetBytes PacketVerdict.Refused (treeFields t) l 1 ∙ size-first t l)))
-      ∙ sym (pass-read packet judging (treeFields t) 1 (bitsBetween s 24 stop))
+      ∙ sym (pass-read packet judging (treeFields t) 1 24 (bitsBetween s 24 stop))
       ∙ ap (λ (f : Format). verdictAt s stop f 24 1) (whole-part t)
 
-  pub refused-whole : {r : ℕ} → Over (treePart t) s stop 24 1 (Refused r) → PacketVerdict.Refused r ≡ fieldsVerdict t s stop
+  pub refused-whole : {r place : ℕ} → Over (treePart t) s stop 24 1 (Refused r place) → PacketVerdict.Refused r place ≡ fieldsVerdict t s stop
   refused-whole o = sym (fields-verdict ∙ o .goes end)
 
   pub accepted-whole : {at n : ℕ} → Over (treePart t) s stop 24 1 (On at n) → at ≡ stop → PacketVerdict.SheetBytes n ≡ fieldsVerdict t s stop
-  accepted-whole {at} {n} o e = sym (fields-verdict ∙ o .goes end ∙ ap (λ (u : List _). pass packet judging end n u) (rest-none s stop at e))
+  accepted-whole {at} {n} o e = sym (fields-verdict ∙ o .goes end ∙ ap (λ (u : List _). pass packet judging end n at u) (rest-none s stop at e))
 
-  pub left-whole : {at n : ℕ} → Over (treePart t) s stop 24 1 (On at n) → (at ≡ stop → ⊥) → PacketVerdict.Refused 6 ≡ fieldsVerdict t s stop
+  pub left-whole : {at n : ℕ} → Over (treePart t) s stop 24 1 (On at n) → (at ≡ stop → ⊥) → PacketVerdict.Refused 13 at ≡ fieldsVerdict t s stop
   left-whole {at} {n} o e =
       let h = o .stands in
       sym (fields-verdict ∙ o .goes end ∙ over (bitsBetween s at stop) (rest-some s stop at (record { before = h .before; inside = h .inside; few = h .few }) e))
     where
-      over : (u : List _) → 0 < length u → pass packet judging end n u ≡ PacketVerdict.Refused 6
+      over : (u : List _) → 0 < length u → pass packet judging end n at u ≡ PacketVerdict.Refused 13 at
       over [] l = absurd (omega arith)
       over (b ∷ u) l = refl

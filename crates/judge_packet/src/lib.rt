@@ -29,12 +29,12 @@ fn changes(part: Part, s: &[u8], stop: usize, at: usize, n: usize, lsp: u32, cou
     let mut left = count;
     while 0 < left {
         match judge_field::location(s, stop, to, m, last, lsp) {
-            Next::Refused(r) => {
-                return Step::Refused(r);
+            Next::Refused(r, place) => {
+                return Step::Refused(r, place);
             }
             Next::Is(x, at2, n2) => match judge_element::element(part, s, stop, at2, n2) {
-                Step::Refused(r) => {
-                    return Step::Refused(r);
+                Step::Refused(r, place) => {
+                    return Step::Refused(r, place);
                 }
                 Step::On(at3, n3) => {
                     to = at3;
@@ -54,9 +54,9 @@ fn list(part: Part, s: &[u8], stop: usize, at: usize, n: usize, lsp: u32, limit:
     ensures { λ r. ⌜ Over (segment.part (startOf part) limit lsp) (now (s .entry)) stop at n r ⌝ }
 {
     match judge_element::element(part, s, stop, at, n) {
-        Step::Refused(r) => Step::Refused(r),
+        Step::Refused(r, place) => Step::Refused(r, place),
         Step::On(at2, n2) => match judge_field::count(s, stop, at2, n2, limit) {
-            Next::Refused(r) => Step::Refused(r),
+            Next::Refused(r, place) => Step::Refused(r, place),
             Next::Is(count, at3, n3) => changes(part, s, stop, at3, n3, lsp, count),
         },
     }
@@ -68,9 +68,9 @@ fn lists(s: &[u8], stop: usize, at: usize, n: usize, lsp: u32) -> Step
     ensures { λ r. ⌜ Over (threeLists lsp) (now (s .entry)) stop at n r ⌝ }
 {
     match list(Part::Speeds, s, stop, at, n, lsp, body::NIter::LARGEST) {
-        Step::Refused(r) => Step::Refused(r),
+        Step::Refused(r, place) => Step::Refused(r, place),
         Step::On(at2, n2) => match list(Part::Volts, s, stop, at2, n2, lsp, segment::WIRE_CHANGES) {
-            Step::Refused(r) => Step::Refused(r),
+            Step::Refused(r, place) => Step::Refused(r, place),
             Step::On(at3, n3) => list(Part::Amperes, s, stop, at3, n3, lsp, segment::WIRE_CHANGES),
         },
     }
@@ -82,7 +82,7 @@ fn segment(s: &[u8], stop: usize) -> Step
     ensures { λ r. ⌜ Over wholePart (now (s .entry)) stop 24 1 r ⌝ }
 {
     match judge_head::head(s, stop) {
-        Next::Refused(r) => Step::Refused(r),
+        Next::Refused(r, place) => Step::Refused(r, place),
         Next::Is(lsp, at, n) => lists(s, stop, at, n, lsp),
     }
 }
@@ -104,12 +104,12 @@ fn packet_fields(tree: Tree, s: &[u8], stop: usize) -> PacketVerdict
     ensures { λ r. ⌜ r ≡ fieldsVerdict tree (now (s .entry)) stop ⌝ }
 {
     match fields(tree, s, stop) {
-        Step::Refused(r) => PacketVerdict::Refused(r),
+        Step::Refused(r, place) => PacketVerdict::Refused(r, place),
         Step::On(at, n) => {
             if at == stop {
                 return PacketVerdict::SheetBytes(n);
             }
-            PacketVerdict::Refused(judge::UNFIT)
+            PacketVerdict::Refused(judge::BITS_LEFT, at as u32)
         }
     }
 }
@@ -126,14 +126,15 @@ pub fn judge_packet(tree: Tree, s: &[u8]) -> PacketVerdict
     ensures { λ r. ⌜ r ≡ packetVerdict tree (now (s .entry)) ⌝ }
 {
     match tree_frame(tree, s) {
-        Frame::Refused(r) => PacketVerdict::Refused(r),
+        Frame::Refused(r) => PacketVerdict::Refused(r, 0),
         Frame::End(stop) => match packet_fields(tree, s, stop) {
-            PacketVerdict::Refused(r) => PacketVerdict::Refused(r),
+            PacketVerdict::Refused(r, place) => PacketVerdict::Refused(r, place),
             PacketVerdict::SheetBytes(n) => {
-                if frame::zero_from(s, stop) {
+                let one = frame::first_one(s, stop);
+                if one == 8 * s.len() {
                     PacketVerdict::SheetBytes(n)
                 } else {
-                    PacketVerdict::Refused(frame::PADDING)
+                    PacketVerdict::Refused(frame::PADDING, one as u32)
                 }
             }
         },

@@ -33,7 +33,7 @@ module _ {X B : Type 0} {w : Way X B} {at : ℕ} {x : X} where
       more : Left w p (λ f. timingPoint (timingPoints (left - 1) f)) at x to y
       more = left-as (λ f. timingPoint (timingPoints (left - 1) f)) (points-more left some) here
 
-      pub points-off : {r : ℕ} → Over w timingPoint to y (Went.off r) → Over w p at x (Went.off r)
+      pub points-off : {r place : ℕ} → Over w timingPoint to y (Went.off r place) → Over w p at x (Went.off r place)
       points-off o = left-off timingPoint (timingPoints (left - 1)) more o
 
       pub points-on : {a : ℕ} {z : X} → Over w timingPoint to y (Went.on a z) → Left w p (timingPoints (left - 1)) at x a z

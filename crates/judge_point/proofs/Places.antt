@@ -18,16 +18,16 @@ use Rattle.numbers.proofs.Counting.{count-some, count-five}
 use Rattle.format.specs.Format.{Format}
 use Rattle.format.specs.Ways as ways
 use Rattle.format.specs.Ways.{Went}
-use Rattle.format.proofs.Ways.{over-on, over-off}
+use Rattle.format.proofs.Ways.{over-on}
 use Rattle.rows.specs.Rows.{row, fits}
 use Rattle.journey_kinds.specs.Kinds.{mostAt}
 use Rattle.journey.specs.Journey.{timingPoint}
 use Rattle.journey.specs.Parts.{arrivalWidths, arrivalMost, stoppingWidths, stoppingMost}
 use Rattle.journey.proofs.Parts.{point-rows, arrival-fits}
-use Rattle.judge_field.specs.declared.Step.the-variants.{On, Refused}
+use Rattle.judge_field.specs.declared.Step.the-variants.{On}
 use Rattle.judge_field.specs.Judging.{verdictAt, judge, Standing, Over}
 use Rattle.judge_row.specs.Values.{total, parts, fieldsAt, within, groupsAll, rowBytes}
-use Rattle.judge_row.proofs.Whole.{parts-at, bytes-none, bytes-some, row-known}
+use Rattle.judge_row.proofs.Whole.{parts-at, bytes-some, row-known}
 use Rattle.point_bytes.specs.Windows.{latestWidths, latestMost, marksWidths, marksMost, doorsWidths, leavingWidths, eightMost}
 
 abbrev eightWidths : List ℕ
@@ -113,25 +113,13 @@ module _ (s : List ℕ) (stop : ℕ) {at n : ℕ} (h : Standing s stop at n) (ro
     name-over : Over (row (32 ∷ []) (4294967295 ∷ [])) s stop at n (On (at + 32) (n + a))
     name-over = bytes-some s stop 32 4294967295 [] [] refl h (omega arith) name-bytes (λ z. omega (arith, z, ea, count-some (fieldAt s at 32)))
 
-    pub latest-off : b ≡ 0 → Over timingPoint s stop at n (Refused 4)
-    latest-off z = from (over-on name-over (over-off (bytes-none s stop 15 32767 (17 ∷ []) (86400 ∷ []) refl (name-over .stands) (omega arith) latest-bytes z)))
-
     module _ (zb : b ≡ 0 → ⊥) where
       latest-over : Over (row latestWidths latestMost) s stop (at + 32) (n + a) (On (at + 64) (n + a + b))
       latest-over = let p : at + 32 + 32 ≡ at + 64 = omega arith in rw p at (bytes-some s stop 15 32767 (17 ∷ []) (86400 ∷ []) refl (name-over .stands) (omega arith) latest-bytes zb)
 
-      pub marks-off : c ≡ 0 → Over timingPoint s stop at n (Refused 4)
-      marks-off z =
-          from (over-on name-over (over-on latest-over (over-off (bytes-none s stop 10 1023 (2 ∷ 2 ∷ 2 ∷ 1 ∷ []) (2 ∷ 2 ∷ 1 ∷ 1 ∷ []) refl (latest-over .stands) (omega arith) marks-bytes z))))
-
       module _ (zc : c ≡ 0 → ⊥) where
         marks-over : Over (row marksWidths marksMost) s stop (at + 64) (n + a + b) (On (at + 81) (n + a + b + c))
         marks-over = let p : at + 64 + 17 ≡ at + 81 = omega arith in rw p at (bytes-some s stop 10 1023 (2 ∷ 2 ∷ 2 ∷ 1 ∷ []) (2 ∷ 2 ∷ 1 ∷ 1 ∷ []) refl (latest-over .stands) (omega arith) marks-bytes zc)
-
-        pub eight-off : d ≡ 0 → Over timingPoint s stop at n (Refused 4)
-        eight-off z =
-            from (over-on name-over (over-on latest-over (over-on marks-over
-            (bytes-none s stop 2 (mostAt (marks / 8 % 4) 3) (1 ∷ 1 ∷ 1 ∷ 15 ∷ 17 ∷ 10 ∷ 1 ∷ []) (afterDoor (marks / 8 % 4)) (eight-fits (marks / 8 % 4)) (marks-over .stands) (omega arith) eight-bytes z))))
 
         pub point-on : (d ≡ 0 → ⊥) → Over timingPoint s stop at n (On (at + 129) (n + (a + b + c + d)))
         point-on z =

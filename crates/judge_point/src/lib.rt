@@ -8,7 +8,6 @@ use journey_kinds::NidTp;
 use journey_kinds::QStopSkipPasses;
 use judge_field::Next;
 use judge_field::Step;
-use kinds::OUT_OF_RANGE;
 
 // NID_TP to Q_TP_Alignment.
 fn arrival(s: &[u8], stop: usize, at: usize, n: usize) -> Step
@@ -36,10 +35,10 @@ fn cut_point(s: &[u8], stop: usize, at: usize, n: usize) -> Step
     ensures { λ r. ⌜ Over timingPoint (now (s .entry)) stop at n r ⌝ }
 {
     match arrival(s, stop, at, n) {
-        Step::Refused(r) => Step::Refused(r),
+        Step::Refused(r, place) => Step::Refused(r, place),
         Step::On(at2, n2) => {
             match judge_field::field(s, stop, at2, n2, QStopSkipPasses::rule()) {
-                Next::Refused(r) => Step::Refused(r),
+                Next::Refused(r, place) => Step::Refused(r, place),
                 Next::Is(kind, at3, n3) => stopping(s, stop, at3, n3, kind),
             }
         }
@@ -57,25 +56,25 @@ const LEAVING: usize = 101;
 
 const POINT: usize = 129;
 
-// The same where its bits are all there: they are read at once.
+// The same where its bits are all there: they are read at once, and a refusal is told field by field.
 fn whole_point(s: &[u8], stop: usize, at: usize, n: usize) -> Step
     requires { ⌜ Standing (now s) stop at n × (129 ≤ stop - at) ⌝ }
     ensures { λ r. ⌜ Over timingPoint (now (s .entry)) stop at n r ⌝ }
 {
     let latest = point_bytes::latest_bytes(bits::read_window(s, at + LATEST, 32));
     if latest == 0 {
-        return Step::Refused(OUT_OF_RANGE);
+        return cut_point(s, stop, at, n);
     }
     let t = bits::read_window(s, at + MARKS, 17);
     let marks = point_bytes::marks_bytes(t);
     if marks == 0 {
-        return Step::Refused(OUT_OF_RANGE);
+        return cut_point(s, stop, at, n);
     }
     let doors = bits::read_window(s, at + DOORS, 20);
     let leaving = bits::read_window(s, at + LEAVING, 28);
     let eight = point_bytes::eight_bytes(t / 8 % 4, doors, leaving);
     if eight == 0 {
-        return Step::Refused(OUT_OF_RANGE);
+        return cut_point(s, stop, at, n);
     }
     let name = grouping::groups(bits::read_window(s, at, NidTp::WIDTH));
     Step::On(at + POINT, n + (name + latest + marks + eight) as usize)
@@ -102,8 +101,8 @@ pub fn points(s: &[u8], stop: usize, at: usize, n: usize, count: u32) -> Step
     let mut left = count;
     while 0 < left {
         match point(s, stop, to, m) {
-            Step::Refused(r) => {
-                return Step::Refused(r);
+            Step::Refused(r, place) => {
+                return Step::Refused(r, place);
             }
             Step::On(a, b) => {
                 to = a;

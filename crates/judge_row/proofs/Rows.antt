@@ -70,7 +70,7 @@ module _ (ws ms : List ℕ) (e : fits ws ms ≡ true) (i : ℕ) {X B : Type 0} {
     unfolding row
     more = let l : i < length ms = omega (arith, fits-length ws ms e) in left-as (λ f. then k (rowFrom ws ms (i + 1) f)) (λ f. rw (ek, add-one, drop-cons ws i 0, drop-cons ms i 0)) here
 
-    pub row-off : {r : ℕ} → Over w (then k) to y (Went.off r) → Over w (row ws ms) at x (Went.off r)
+    pub row-off : {r place : ℕ} → Over w (then k) to y (Went.off r place) → Over w (row ws ms) at x (Went.off r place)
     row-off o = left-off (then k) (rowFrom ws ms (i + 1)) more o
 
     pub row-on : {a : ℕ} {z : X} → Over w (then k) to y (Went.on a z) → Left w (row ws ms) (rowFrom ws ms (i + 1)) at x a z

@@ -37,7 +37,7 @@ module _ (s : List ℕ) (stop : ℕ) where
     field-in : leb (fieldAt s at w) m ≡ true → Took (upTo w m) s stop at n (Next.Is (fieldAt s at w) (at + w) (n + length (groupsIn (fieldAt s at w))))
     field-in e = took-some s stop (upTo w m) w refl h some room refl (counts.bytes-some (upTo w m) (fieldAt s at w) (counts.both-in 0 m (fieldAt s at w) (omega arith) (leb-true (fieldAt s at w) m e)) refl) (λ z. omega (arith, z, count-some (fieldAt s at w)))
 
-    field-out : leb (fieldAt s at w) m ≡ false → Took (upTo w m) s stop at n (Next.Refused 4)
+    field-out : leb (fieldAt s at w) m ≡ false → Took (upTo w m) s stop at n (Next.Refused 4 at)
     field-out e = took-none s stop (upTo w m) w refl h some room refl (counts.bytes-none (upTo w m) (fieldAt s at w) (counts.high-out 0 m (fieldAt s at w) (leb-false (fieldAt s at w) m e))) refl
 
     -- what follows may as well be what follows its value
@@ -63,11 +63,12 @@ module _ (s : List ℕ) (stop : ℕ) where
         let r = over-on (past s stop (first-in i)) o in
         rw (← p, ← q) (record { goes = r .goes; stands = r .stands })
 
-    off : leb (fieldAt s at w) m ≡ true → Over (row ws ms) s stop (at + w) (n + length (groupsIn (fieldAt s at w))) (Refused 4) → Over (row (w ∷ ws) (m ∷ ms)) s stop at n (Refused 4)
+    off : leb (fieldAt s at w) m ≡ true → {place : ℕ} → Over (row ws ms) s stop (at + w) (n + length (groupsIn (fieldAt s at w))) (Refused 4 place)
+        → Over (row (w ∷ ws) (m ∷ ms)) s stop at n (Refused 4 place)
     unfolding row
     off i o = let r = over-on (past s stop (first-in i)) o in record { goes = r .goes; stands = r .stands }
 
-    first-off : leb (fieldAt s at w) m ≡ false → Over (row (w ∷ ws) (m ∷ ms)) s stop at n (Refused 4)
+    first-off : leb (fieldAt s at w) m ≡ false → Over (row (w ∷ ws) (m ∷ ms)) s stop at n (Refused 4 at)
     unfolding row
     first-off i = let r = over-off {q = row ws ms} (past-off s stop (field-out w m (fits-first w m ws ms e .some) h (omega arith) i)) in record { goes = r .goes; stands = r .stands }
 
@@ -80,25 +81,20 @@ module _ (s : List ℕ) (stop : ℕ) where
       let a = and-left (leb (fieldAt s at w) m) (within ms (fieldsAt s (at + w) ws)) i in
       on w m ws ms e h room a (row-in ws ms (fits-rest w m ws ms e) (first-in w m ws ms e h room a .stands) (omega arith) (and-right (leb (fieldAt s at w) m) (within ms (fieldsAt s (at + w) ws)) i))
 
-  pub row-out : (ws ms : List ℕ) → fits ws ms ≡ true → {at n : ℕ} → Standing s stop at n → total ws ≤ stop - at → within ms (fieldsAt s at ws) ≡ false
-      → Over (row ws ms) s stop at n (Refused 4)
+  -- refused, at one of its fields
+  row-out : (ws ms : List ℕ) → fits ws ms ≡ true → {at n : ℕ} → Standing s stop at n → total ws ≤ stop - at → within ms (fieldsAt s at ws) ≡ false
+      → (place : ℕ) × Over (row ws ms) s stop at n (Refused 4 place)
   row-out [] ms e h room i = absurd (let z : _≡_ {A = ℕ} 0 1 = cc in omega arith)
   row-out (w ∷ ws) [] e h room i = absurd (let z : _≡_ {A = ℕ} 0 1 = cc in omega arith)
   row-out (w ∷ ws) (m ∷ ms) e {at} h room i =
       by-cases (leb (fieldAt s at w) m)
-      (λ a. off w m ws ms e h room a (row-out ws ms (fits-rest w m ws ms e) (first-in w m ws ms e h room a .stands) (omega arith) (rw a at i)))
-      (λ a. first-off w m ws ms e h room a)
+      (λ a. let o = row-out ws ms (fits-rest w m ws ms e) (first-in w m ws ms e h room a .stands) (omega arith) (rw a at i) in (o .0, off w m ws ms e h room a (o .1)))
+      (λ a. (at, first-off w m ws ms e h room a))
 
   -- ---- the same from the bytes of its values
 
   module _ (w m : ℕ) (ws ms : List ℕ) (e : fits (w ∷ ws) (m ∷ ms) ≡ true) {at n r : ℕ} (h : Standing s stop at n) (room : total (w ∷ ws) ≤ stop - at)
       (er : r ≡ rowBytes (m ∷ ms) (fieldsAt s at (w ∷ ws))) where
-    pub bytes-none : r ≡ 0 → Over (row (w ∷ ws) (m ∷ ms)) s stop at n (Refused 4)
-    bytes-none z =
-        by-cases (within (m ∷ ms) (fieldsAt s at (w ∷ ws)))
-        (λ i. absurd (let q : r ≡ groupsAll (fieldsAt s at (w ∷ ws)) = er ∙ rw i in omega (arith, z, q, count-some (fieldAt s at w))))
-        (λ i. row-out (w ∷ ws) (m ∷ ms) e h room i)
-
     pub bytes-some : (r ≡ 0 → ⊥) → Over (row (w ∷ ws) (m ∷ ms)) s stop at n (On (at + total (w ∷ ws)) (n + r))
     bytes-some z =
         by-cases (within (m ∷ ms) (fieldsAt s at (w ∷ ws)))
@@ -113,4 +109,4 @@ module _ (s : List ℕ) (stop : ℕ) where
       by-cases (within ms (fieldsAt s at ws))
       (λ i. let o = row-in ws ms e h (omega arith) i in
       o .goes (field (upTo w m) next) ∙ known w m some (o .stands) (omega arith) next ∙ sym (o .goes (then (upTo w m) (next (fieldAt s (at + total ws) w)))))
-      (λ i. let o = row-out ws ms e h (omega arith) i in o .goes (field (upTo w m) next) ∙ sym (o .goes (then (upTo w m) (next (fieldAt s (at + total ws) w)))))
+      (λ i. let o = row-out ws ms e h (omega arith) i .1 in o .goes (field (upTo w m) next) ∙ sym (o .goes (then (upTo w m) (next (fieldAt s (at + total ws) w)))))

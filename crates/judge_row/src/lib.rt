@@ -16,8 +16,8 @@ pub fn row(s: &[u8], stop: usize, at: usize, n: usize, widths: &[u32], most: &[u
     let mut i = 0;
     while i < widths.len() {
         match judge_field::plain(s, stop, to, m, kinds::up_to(widths[i], most[i])) {
-            Step::Refused(r) => {
-                return Step::Refused(r);
+            Step::Refused(r, place) => {
+                return Step::Refused(r, place);
             }
             Step::On(a, b) => {
                 to = a;

@@ -25,10 +25,13 @@ use Rattle.journey.specs.Journey.{journeyBody, journeyFields, journeySheet, con
 use Rattle.journey.proofs.Ends as journey
 use Rattle.link.specs.declared.Tree.{Tree}
 use Rattle.link.specs.declared.Tree.the-variants.{Segment, Journey}
-use Rattle.link.specs.Trees.{treeSheetFields}
+use Rattle.link.specs.Trees.{treeSheetFields, treeSheet}
+use Rattle.link.proofs.Places.{sheet-place}
 use Rattle.judge.specs.declared.SheetVerdict.{SheetVerdict}
 use Rattle.judge.specs.declared.SheetVerdict.the-variants as SheetVerdict
-use Rattle.judge.specs.Verdict.{sheetVerdict}
+use Rattle.judge.specs.Verdict.{sizeFrom, sheetVerdict}
+use Rattle.judge.proofs.Sizes.{sheet-sorts}
+use Rattle.judge.proofs.Accepted.{verdict-refused}
 use Rattle.sheet_fields.specs.declared.Step.the-variants.{On, Refused}
 use Rattle.sheet_fields.specs.Judging.{judging, Over}
 use Rattle.judge_sheet.specs.Whole.{numbersPart}
@@ -50,37 +53,42 @@ module _ (t : Tree) (s : List ℕ) (ok : Bytes s) where
   tree = treeSheetFields t
 
   -- an accepted sheet's packet has fewer bits than 2 to the 32
-  few : (l : List Item) → read sheet tree s ≡ accepted l → length (write packet tree l) < 2 ^ 32
-  few l e = tree-few t (sheet-only tree s l ok e .0)
+  few : (l : List Item) → read sheet tree 0 s ≡ accepted l → length (write packet tree l) < 2 ^ 32
+  few l e = tree-few t (sheet-only tree 0 s l ok e .0)
 
-  counts : (r : Read) → read sheet tree s ≡ r
+  counts : (r : Read) → read sheet tree 0 s ≡ r
       → answerOf SheetVerdict.Refused (λ l. SheetVerdict.PacketBits (0 + length (write packet tree l))) r ≡ answerOf SheetVerdict.Refused (λ l. SheetVerdict.PacketBits (made judging tree l 0)) r
   counts (accepted l) e =
       let h = few l e in
       ap SheetVerdict.PacketBits (sym (made-within packet (2 ^ 32) SheetVerdict.PacketBits SheetVerdict.Refused tree l 0 (lit< tt) ∙ mod-eq-of-lt (omega arith)))
-  counts (refused r n) e = refl
+  counts (refused r place) e = refl
 
-  sheet-verdict : sheetVerdict t s ≡ pass sheet judging (numbersPart t end) 0 s
+  sheet-verdict : sheetVerdict t s ≡ pass sheet judging (numbersPart t end) 0 0 s
   unfolding sheetVerdict
   sheet-verdict =
-      counts (read sheet tree s) refl
-      ∙ sym (pass-read sheet judging tree 0 s)
-      ∙ ap (λ (f : Format). pass sheet judging f 0 s) (whole-part t)
+      counts (read sheet tree 0 s) refl
+      ∙ sym (pass-read sheet judging tree 0 0 s)
+      ∙ ap (λ (f : Format). pass sheet judging f 0 0 s) (whole-part t)
 
-  pub refused-whole : {r : ℕ} → Over (numbersPart t) s 0 0 (Refused r) → SheetVerdict.Refused r ≡ sheetVerdict t s
+  pub refused-whole : {r place : ℕ} → Over (numbersPart t) s 0 0 (Refused r place) → SheetVerdict.Refused r place ≡ sheetVerdict t s
   refused-whole o = sym (sheet-verdict ∙ o .goes end)
 
   pub accepted-whole : {at n : ℕ} → Over (numbersPart t) s 0 0 (On at n) → at ≡ length s → SheetVerdict.PacketBits n ≡ sheetVerdict t s
   accepted-whole {at} {n} o e =
-      sym (sheet-verdict ∙ o .goes end ∙ ap (λ (u : List ℕ). pass sheet judging end n u) (drop-of-length-le s {i = at} (omega arith)))
+      sym (sheet-verdict ∙ o .goes end ∙ ap (λ (u : List ℕ). pass sheet judging end n at u) (drop-of-length-le s {i = at} (omega arith)))
 
-  pub left-whole : {at n : ℕ} → Over (numbersPart t) s 0 0 (On at n) → (at ≡ length s → ⊥) → SheetVerdict.Refused 9 ≡ sheetVerdict t s
+  pub left-whole : {at n : ℕ} → Over (numbersPart t) s 0 0 (On at n) → (at ≡ length s → ⊥) → SheetVerdict.Refused 9 at ≡ sheetVerdict t s
   left-whole {at} {n} o e =
       sym (sheet-verdict ∙ o .goes end ∙ over (drop at s) (omega (arith, length-drop at s, o .stands .inside)))
     where
-      over : (u : List ℕ) → 0 < length u → pass sheet judging end n u ≡ SheetVerdict.Refused 9
+      over : (u : List ℕ) → 0 < length u → pass sheet judging end n at u ≡ SheetVerdict.Refused 9 at
       over [] l = absurd (omega arith)
       over (b ∷ u) l = refl
+
+  -- a refusal's place is below 2 to the 32
+  pub place-few : {r place : ℕ} → SheetVerdict.Refused r place ≡ sheetVerdict t s → place < 2 ^ 32
+  unfolding sheetVerdict
+  place-few {r} {place} e = sheet-place t s r place ok (verdict-refused sheet-sorts (sizeFrom packet tree 0) (treeSheet t s) r place e)
 
 -- ---- the fields before the speed profile by their number
 

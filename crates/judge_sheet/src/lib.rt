@@ -65,8 +65,8 @@ fn run(s: &[u8], at: usize, n: u32, first: u32, end: u32) -> Step
         let width = widths[i as usize];
         let most = largest[i as usize];
         match ranged(s, to, m, width, 0, most, OUT_OF_RANGE) {
-            Next::Refused(r) => {
-                return Step::Refused(r);
+            Next::Refused(r, place) => {
+                return Step::Refused(r, place);
             }
             Next::Is(_, a, b) => {
                 to = a;
@@ -84,9 +84,9 @@ fn segment(s: &[u8], at: usize, n: u32) -> Step
     ensures { λ r. ⌜ Over parts.segmentPart (now (s .entry)) at n r ⌝ }
 {
     match operational(s, at, n) {
-        Step::Refused(r) => Step::Refused(r),
+        Step::Refused(r, place) => Step::Refused(r, place),
         Step::On(at2, n2) => match run(s, at2, n2, 1, 9) {
-            Step::Refused(r) => Step::Refused(r),
+            Step::Refused(r, place) => Step::Refused(r, place),
             Step::On(at3, n3) => match ranged(
                 s,
                 at3,
@@ -96,9 +96,9 @@ fn segment(s: &[u8], at: usize, n: u32) -> Step
                 body::LSp::LARGEST,
                 OUT_OF_RANGE,
             ) {
-                Next::Refused(r) => Step::Refused(r),
+                Next::Refused(r, place) => Step::Refused(r, place),
                 Next::Is(lsp, at4, n4) => match run(s, at4, n4, 10, 13) {
-                    Step::Refused(r) => Step::Refused(r),
+                    Step::Refused(r, place) => Step::Refused(r, place),
                     Step::On(at5, n5) => sheet_lists::lists(s, at5, n5, lsp),
                 },
             },
@@ -131,7 +131,7 @@ fn numbers_of(tree: Tree, number: u32, s: &[u8]) -> Step
         number,
         PACKET_NUMBER,
     ) {
-        Next::Refused(r) => Step::Refused(r),
+        Next::Refused(r, place) => Step::Refused(r, place),
         Next::Is(_, at, n) => fields(tree, s, at, n),
     }
 }
@@ -149,12 +149,12 @@ pub fn judge_sheet(tree: Tree, s: &[u8]) -> SheetVerdict
     ensures { λ r. ⌜ r ≡ sheetVerdict tree (now (s .entry)) ⌝ }
 {
     match tree_numbers(tree, s) {
-        Step::Refused(r) => SheetVerdict::Refused(r),
+        Step::Refused(r, place) => SheetVerdict::Refused(r, place as u32),
         Step::On(at, n) => {
             if at == s.len() {
                 return SheetVerdict::PacketBits(n as usize);
             }
-            SheetVerdict::Refused(judge::NO_NUMBER)
+            SheetVerdict::Refused(judge::NO_NUMBER, at as u32)
         }
     }
 }

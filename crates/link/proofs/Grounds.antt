@@ -41,44 +41,44 @@ module _ (s : List ℕ) where
   unfolding fromEitherPacket
   segment-judged n = ap judgedBy (segment-tree n)
 
-module _ (s : List ℕ) (r left : ℕ) where
-  pub either-packet-grounds : (fromEitherPacket s ≡ refused r left) ↔ EitherPacketGround s r left
+module _ (s : List ℕ) (r place : ℕ) where
+  pub either-packet-grounds : (fromEitherPacket s ≡ refused r place) ↔ EitherPacketGround s r place
   either-packet-grounds = (there, back)
     where
-      there : fromEitherPacket s ≡ refused r left → EitherPacketGround s r left
+      there : fromEitherPacket s ≡ refused r place → EitherPacketGround s r place
       there e =
           by-cases (eqb (packetNumber s) 4)
           (λ d. let n = eqb-true (packetNumber s) 4 d in
-          ofJourney n (packet-grounds (treeNumber Journey) (treeFields Journey) s r left .0 (sym (journey-judged s n) ∙ e)))
+          ofJourney n (packet-grounds (treeNumber Journey) (treeFields Journey) s r place .0 (sym (journey-judged s n) ∙ e)))
           (λ d. let n = eqb-false (packetNumber s) 4 d in
-          ofSegment n (packet-grounds (treeNumber Segment) (treeFields Segment) s r left .0 (sym (segment-judged s n) ∙ e)))
+          ofSegment n (packet-grounds (treeNumber Segment) (treeFields Segment) s r place .0 (sym (segment-judged s n) ∙ e)))
 
-      back : EitherPacketGround s r left → fromEitherPacket s ≡ refused r left
-      back (ofJourney n g) = journey-judged s n ∙ packet-grounds (treeNumber Journey) (treeFields Journey) s r left .1 g
-      back (ofSegment n g) = segment-judged s n ∙ packet-grounds (treeNumber Segment) (treeFields Segment) s r left .1 g
+      back : EitherPacketGround s r place → fromEitherPacket s ≡ refused r place
+      back (ofJourney n g) = journey-judged s n ∙ packet-grounds (treeNumber Journey) (treeFields Journey) s r place .1 g
+      back (ofSegment n g) = segment-judged s n ∙ packet-grounds (treeNumber Segment) (treeFields Segment) s r place .1 g
 
   -- what the count of bits refuses
-  count-refused : {C : Type 0} (t : Read) → withinCount t ≡ refused r left → (t ≡ refused r left → C)
-      → ((l : List Item) → t ≡ accepted l → 96 + 65535 < length (linkBits l) → r ≡ 12 → left ≡ 0 → C) → C
+  count-refused : {C : Type 0} (t : Read) → withinCount t ≡ refused r place → (t ≡ refused r place → C)
+      → ((l : List Item) → t ≡ accepted l → 96 + 65535 < length (linkBits l) → r ≡ 12 → place ≡ 0 → C) → C
   count-refused (refused q m) e own long = own e
   count-refused (accepted l) e own long =
       by-cases (ltb 65535 (length (linkBits l) - 96))
-      (λ d. let p : refused 12 0 ≡ refused r left = rw d at e in long l refl (omega (arith, ltb-true 65535 (length (linkBits l) - 96) d)) (cc) (cc))
+      (λ d. let p : refused 12 0 ≡ refused r place = rw d at e in long l refl (omega (arith, ltb-true 65535 (length (linkBits l) - 96) d)) (cc) (cc))
       (λ d. absurd (never (sym (rw d at e))))
 
-  pub either-sheet-grounds : Bytes s → (fromEitherSheet s ≡ refused r left) ↔ EitherSheetGround s r left
+  pub either-sheet-grounds : Bytes s → (fromEitherSheet s ≡ refused r place) ↔ EitherSheetGround s r place
   unfolding fromEitherSheet
   either-sheet-grounds ok = (there, back)
     where
-      there : withinCount (read sheet linkFields s) ≡ refused r left → EitherSheetGround s r left
+      there : withinCount (read sheet linkFields 0 s) ≡ refused r place → EitherSheetGround s r place
       there e =
-          count-refused (read sheet linkFields s) e (λ g. inNumbers (sheet-ground linkFields s r left ok .0 g))
-          λ l a long q p. tooLong l (sheet-written linkFields s l ok .0 a) long q p
+          count-refused (read sheet linkFields 0 s) e (λ g. inNumbers (sheet-ground linkFields 0 s r place ok .0 g))
+          λ l a long q p. tooLong l (sheet-written linkFields 0 s l ok .0 a) long q p
 
-      back : EitherSheetGround s r left → withinCount (read sheet linkFields s) ≡ refused r left
-      back (inNumbers g) = ap withinCount (sheet-ground linkFields s r left ok .1 g)
+      back : EitherSheetGround s r place → withinCount (read sheet linkFields 0 s) ≡ refused r place
+      back (inNumbers g) = ap withinCount (sheet-ground linkFields 0 s r place ok .1 g)
       back (tooLong l w long q p) =
-          ap withinCount (sheet-written linkFields s l ok .1 w) ∙ rw (lt-ltb 65535 (length (linkBits l) - 96) (omega arith), q, p)
+          ap withinCount (sheet-written linkFields 0 s l ok .1 w) ∙ rw (lt-ltb 65535 (length (linkBits l) - 96) (omega arith), q, p)
 
 -- ---- every field of a journey is refused with 4
 
@@ -98,7 +98,7 @@ segments-refusals limit (suc n) f e =
     each (asValue refl) λ _. each (asValue refl) λ _. each (asValue refl) λ _. each (asValue refl) λ _. each (asValue refl) λ _.
     each (asValue refl) λ m. points-refusals m _ (each (asValue refl) λ _. segments-refusals limit n f e)
 
-tree-refusals : (t : Tree) → Every FieldRefusal (treeFields t)
+pub tree-refusals : (t : Tree) → Every FieldRefusal (treeFields t)
 unfolding fields journeyBody
 tree-refusals Segment = fields-refusals 23
 tree-refusals Journey =
@@ -107,11 +107,11 @@ tree-refusals Journey =
 
 -- ---- the refusals are those listed
 
-pub either-packet-listed : (s : List ℕ) (r left : ℕ) → EitherPacketGround s r left → Among r packetRefusals
-either-packet-listed s r left (ofJourney n g) = packet-listed (treeNumber Journey) (tree-refusals Journey) s r left g
-either-packet-listed s r left (ofSegment n g) = packet-listed (treeNumber Segment) (tree-refusals Segment) s r left g
+pub either-packet-listed : (s : List ℕ) (r place : ℕ) → EitherPacketGround s r place → Among r packetRefusals
+either-packet-listed s r place (ofJourney n g) = packet-listed (treeNumber Journey) (tree-refusals Journey) s r place g
+either-packet-listed s r place (ofSegment n g) = packet-listed (treeNumber Segment) (tree-refusals Segment) s r place g
 
-link-refusals : Every (λ k. Among (k .refusal) sheetRefusals) linkFields
+pub link-refusals : Every (λ k. Among (k .refusal) sheetRefusals) linkFields
 unfolding linkFields
 link-refusals = each first λ n. numbers-refusals (tree-refusals (treeOf n))
 
@@ -119,6 +119,6 @@ among-more : {r : ℕ} {l : List ℕ} (m : List ℕ) → Among r l → Among r (
 among-more m first = first
 among-more m (later a) = later (among-more m a)
 
-pub either-sheet-listed : (s : List ℕ) (r left : ℕ) → EitherSheetGround s r left → Among r eitherSheetRefusals
-either-sheet-listed s r left (inNumbers g) = among-more (12 ∷ []) (numbers-listed link-refusals s r left g)
-either-sheet-listed s r left (tooLong l w long q p) = rw q (later (later (later (later first))))
+pub either-sheet-listed : (s : List ℕ) (r place : ℕ) → EitherSheetGround s r place → Among r eitherSheetRefusals
+either-sheet-listed s r place (inNumbers g) = among-more (12 ∷ []) (numbers-listed link-refusals 0 s r place g)
+either-sheet-listed s r place (tooLong l w long q p) = rw q (later (later (later (later first))))

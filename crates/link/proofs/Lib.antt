@@ -4,3 +4,4 @@ pub mod Grounds
 pub mod Sheets
 pub mod Ends
 pub mod Segments
+pub mod Places

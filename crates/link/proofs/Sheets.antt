@@ -3,7 +3,7 @@
 use mathlib.Core.Path.{_≡_, refl}
 use mathlib.Core.Bool.{false, _&&_}
 use mathlib.Core.List.{List}
-use Prim.Native.Nat.{ℕ}
+use Prim.Native.Nat.{ℕ, _+_}
 use native.Mathlib.Omega.{arith}
 use borrow.Author.Tests.{eqb-true, eqb-false, leb-true}
 use lib.Dec.{eqb, leb}
@@ -11,7 +11,7 @@ use lib.ListN.{length}
 use Rattle.bits.proofs.Tests.{by-cases, and-left, and-right}
 use Rattle.numbers.specs.declared.Number.{Number}
 use Rattle.numbers.specs.declared.Number.the-variants.{Value, Bad}
-use Rattle.numbers.specs.Numbers.{numberIn}
+use Rattle.numbers.specs.Numbers.{numberIn, groupsIn}
 use Rattle.format.specs.Format.{read, follow}
 use Rattle.format.specs.Media.{sheet, numbered}
 use Rattle.link.specs.Link.{treeFields, treeOf, linkNumber, linkFields}
@@ -25,8 +25,8 @@ other a n d =
     (λ e. e)
 
 -- the same for what the first number is
-by-first : (s : List ℕ) (n : Number) → follow (length s) (numbered linkNumber n s) (λ i t. read sheet (treeFields (treeOf (i .packet))) t)
-    ≡ follow (length s) (numbered (treeNumberKind (byNumber n)) n s) (λ i t. read sheet (treeFields (byNumber n)) t)
+by-first : (s : List ℕ) (n : Number) → follow 0 (numbered linkNumber n s) (λ i t. read sheet (treeFields (treeOf (i .packet))) (0 + length (groupsIn (i .sheet))) t)
+    ≡ follow 0 (numbered (treeNumberKind (byNumber n)) n s) (λ i t. read sheet (treeFields (byNumber n)) (0 + length (groupsIn (i .sheet))) t)
 by-first s Bad = refl
 by-first s (Value a) =
     by-cases (eqb a 4)
@@ -35,6 +35,6 @@ by-first s (Value a) =
     (λ c. rw (eqb-true a 6 c))
     (λ c. rw (d, c, other a 6 (eqb-false a 6 c))))
 
-pub sheet-by-tree : (s : List ℕ) → read sheet linkFields s ≡ treeSheet (treeOfSheet s) s
+pub sheet-by-tree : (s : List ℕ) → read sheet linkFields 0 s ≡ treeSheet (treeOfSheet s) s
 unfolding linkFields
 sheet-by-tree s = by-first s (numberIn s)

@@ -78,7 +78,7 @@ either-packet-taken l v = taken-of l (v .good) (v .few)
 
 -- what the count of bits leaves accepted
 pub count-accepted : {C : Type 0} (r : Read) (l : List Item) → withinCount r ≡ accepted l → (r ≡ accepted l → length (linkBits l) ≤ 96 + 65535 → C) → C
-count-accepted (refused q left) l e f = absurd (never e)
+count-accepted (refused q place) l e f = absurd (never e)
 count-accepted (accepted m) l e f =
     by-cases (ltb 65535 (length (linkBits m) - 96))
     (λ d. absurd (never (rw d at e)))
@@ -87,10 +87,10 @@ count-accepted (accepted m) l e f =
 pub either-sheet-values : (s : List ℕ) (l : List Item) → Bytes s → fromEitherSheet s ≡ accepted l → EitherSheetValues l × (s ≡ toEitherSheet l)
 unfolding fromEitherSheet toEitherSheet
 either-sheet-values s l ok e =
-    count-accepted (read sheet linkFields s) l e λ a few.
-    let p = sheet-only linkFields s l ok a in
+    count-accepted (read sheet linkFields 0 s) l e λ a few.
+    let p = sheet-only linkFields 0 s l ok a in
     (record { good = p .0; few = few }, p .1)
 
 pub either-sheet-taken : (l : List Item) → EitherSheetValues l → fromEitherSheet (toEitherSheet l) ≡ accepted l
 unfolding fromEitherSheet toEitherSheet
-either-sheet-taken l v = ap withinCount (sheet-again (v .good)) ∙ rw (le-ltb 65535 (length (linkBits l) - 96) (omega (arith, v .few)))
+either-sheet-taken l v = ap withinCount (sheet-again (v .good) 0) ∙ rw (le-ltb 65535 (length (linkBits l) - 96) (omega (arith, v .few)))

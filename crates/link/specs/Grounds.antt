@@ -15,20 +15,20 @@ use Rattle.link.specs.declared.Tree.the-variants.{Segment, Journey}
 use Rattle.link.specs.Link.{treeNumber, treeFields, linkFields, linkBits}
 
 -- a journey's own ground where the packet number is 4, and else a segment's: "2 now means neither 4 nor 6"
-pub data EitherPacketGround (s : List ℕ) (r left : ℕ) : Type 0 where
-  ofJourney : packetNumber s ≡ 4 → PacketGround (treeNumber Journey) (treeFields Journey) s r left → EitherPacketGround s r left
-  ofSegment : (packetNumber s ≡ 4 → ⊥) → PacketGround (treeNumber Segment) (treeFields Segment) s r left → EitherPacketGround s r left
+pub data EitherPacketGround (s : List ℕ) (r place : ℕ) : Type 0 where
+  ofJourney : packetNumber s ≡ 4 → PacketGround (treeNumber Journey) (treeFields Journey) s r place → EitherPacketGround s r place
+  ofSegment : (packetNumber s ≡ 4 → ⊥) → PacketGround (treeNumber Segment) (treeFields Segment) s r place → EitherPacketGround s r place
 
 -- a body that L_PACKET_ATO can count
 abbrev pub Countable : List Item → Type 0
 Countable l = length (linkBits l) ≤ 96 + 65535
 
 -- "12 when a sheet's body would exceed 65,535 bits, after 9 and before 8"
-pub data EitherSheetGround (s : List ℕ) (r left : ℕ) : Type 0 where
+pub data EitherSheetGround (s : List ℕ) (r place : ℕ) : Type 0 where
   -- 2, 4, 5 or 9: a number, or bytes that are left over
-  inNumbers : Ground sheet InSheet GroupsFault linkFields s r left → EitherSheetGround s r left
-  tooLong : (values : List Item) → Written sheet InSheet linkFields s values → 96 + 65535 < length (linkBits values) → r ≡ 12 → left ≡ 0
-      → EitherSheetGround s r left
+  inNumbers : Ground sheet InSheet GroupsFault linkFields 0 s r place → EitherSheetGround s r place
+  tooLong : (values : List Item) → Written sheet InSheet linkFields s values → 96 + 65535 < length (linkBits values) → r ≡ 12 → place ≡ 0
+      → EitherSheetGround s r place
 
 -- "keeps the published widths and ranges and the stated rules": one good value for each field of the tree, and a body that L_PACKET_ATO can count
 pub record EitherPacketValues (l : List Item) : Type 0 where

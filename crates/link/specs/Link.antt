@@ -58,14 +58,14 @@ unfoldable pub fromEitherPacket : List ℕ → Read
 unfolding body journeyBody
 fromEitherPacket s = unframed (treeNumber (treeOf (packetNumber s))) (treeFields (treeOf (packetNumber s))) s
 
--- "12 when a sheet's body would exceed 65,535 bits, after 9 and before 8"
+-- "12 when a sheet's body would exceed 65,535 bits, after 9 and before 8", with the place 0
 abbrev pub withinCount : Read → Read
-withinCount (refused r left) = refused r left
+withinCount (refused r place) = refused r place
 withinCount (accepted l) = cond (ltb 65535 (length (linkBits l) - 96)) (refused 12 0) (accepted l)
 
 unfoldable pub fromEitherSheet : List ℕ → Read
 unfolding linkFields
-fromEitherSheet s = withinCount (read sheet linkFields s)
+fromEitherSheet s = withinCount (read sheet linkFields 0 s)
 
 unfoldable pub toEitherPacket : List Item → List ℕ
 unfolding body journeyBody

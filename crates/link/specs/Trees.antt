@@ -24,7 +24,7 @@ abbrev pub treePacket : Tree → List ℕ → Read
 treePacket t s = unframed (treeNumber t) (treeFields t) s
 
 abbrev pub treeSheet : Tree → List ℕ → Read
-treeSheet t s = read sheet (treeSheetFields t) s
+treeSheet t s = read sheet (treeSheetFields t) 0 s
 
 -- the tree of a sheet, by its first number
 abbrev pub byNumber : Number → Tree

@@ -1,6 +1,6 @@
 -- The customer's first demand: "Whatever bytes come in, every public operation ends with an answer or the one refusal the rules name."
 -- Assumes nothing.
-use mathlib.Core.Path.{_≡_}
+use mathlib.Core.Path.{_≡_, ap}
 use mathlib.Core.List.{List}
 use mathlib.Core.Logic.{_↔_}
 use Prim.Native.Nat.{ℕ, _≤_}
@@ -19,7 +19,7 @@ use Rattle.question.specs.Question.{speedFromPacket, speedFromSheet}
 use Rattle.altitude.specs.Altitude.{altitudeOf}
 use Rattle.convert.specs.Convert.{refusedWith, packetToSheet, sheetToPacket}
 use Rattle.promises.specs.Promised.{SegmentPacketValues, SegmentSheetValues, PacketOfValues, ConvertiblePacket, ConvertibleSheet, AnswerablePacket, AnswerableSheet, Done}
-use Rattle.promises.specs.Refused.{Refuses, PacketRefused, PacketToSheetGround, SheetToPacketGround, SpeedFromPacketGround, SpeedFromSheetGround, packetToSheetRefusals, sheetToPacketRefusals, speedFromPacketRefusals, speedFromSheetRefusals, altitudeRefusals}
+use Rattle.promises.specs.Refused.{Refuses, AltitudeGround, PacketToSheetGround, SheetToPacketGround, SpeedFromPacketGround, SpeedFromSheetGround, packetToSheetRefusals, sheetToPacketRefusals, speedFromPacketRefusals, speedFromSheetRefusals, altitudeRefusals}
 use Rattle.promises.specs.Ranges.{ConversionEnds, SpeedEnds, AltitudeEnds, OneOutcome}
 use Rattle.promises.proofs.Values.{packets, sheets, either-packets, either-sheets, kept, side-converted, side-answered, speed-none, altitude-none}
 use Rattle.promises.proofs.Refused.{packets-on, sheets-on, either-packets-on, either-sheets-on, one-ending, one-outcome, conversion-refused, conversion-ends, question-refused, question-ends, altitude-refused as altitude-on-ground, altitude-answered, altitude-ends, side-judged}
@@ -29,52 +29,52 @@ module _ (s : List ℕ) (ok : Bytes s) where
   -- ==== "Each refusal is given then and not otherwise": refused with r, and not answered, exactly on the ground of r
 
   module _ (room : List ℕ) where
-    pub packet-to-sheet-refused : (r : ℕ) → Refuses (packetToSheet s room .answer .refusal) r ↔ PacketToSheetGround s room r
+    pub packet-to-sheet-refused : (r place : ℕ) → Refuses (packetToSheet s room .answer .refusal, packetToSheet s room .answer .place) r place ↔ PacketToSheetGround s room r place
     unfolding packetToSheet
-    packet-to-sheet-refused r = conversion-refused either-packets either-packets-on s ok toEitherSheet room r
+    packet-to-sheet-refused r place = conversion-refused either-packets either-packets-on s ok toEitherSheet room r place
 
-    pub sheet-to-packet-refused : (r : ℕ) → Refuses (sheetToPacket s room .answer .refusal) r ↔ SheetToPacketGround s room r
+    pub sheet-to-packet-refused : (r place : ℕ) → Refuses (sheetToPacket s room .answer .refusal, sheetToPacket s room .answer .place) r place ↔ SheetToPacketGround s room r place
     unfolding sheetToPacket
-    sheet-to-packet-refused r = conversion-refused either-sheets either-sheets-on s ok toEitherPacket room r
+    sheet-to-packet-refused r place = conversion-refused either-sheets either-sheets-on s ok toEitherPacket room r place
 
   module _ (t : Train) (x : ℕ) where
-    pub speed-from-packet-refused : (r : ℕ) → Refuses (speedFromPacket s t x .refusal) r ↔ SpeedFromPacketGround s t x r
+    pub speed-from-packet-refused : (r place : ℕ) → Refuses (speedFromPacket s t x .refusal, speedFromPacket s t x .place) r place ↔ SpeedFromPacketGround s t x r place
     unfolding speedFromPacket
-    speed-from-packet-refused r = question-refused packets packets-on s ok t x r
+    speed-from-packet-refused r place = question-refused packets packets-on s ok t x r place
 
-    pub speed-from-sheet-refused : (r : ℕ) → Refuses (speedFromSheet s t x .refusal) r ↔ SpeedFromSheetGround s t x r
+    pub speed-from-sheet-refused : (r place : ℕ) → Refuses (speedFromSheet s t x .refusal, speedFromSheet s t x .place) r place ↔ SpeedFromSheetGround s t x r place
     unfolding speedFromSheet
-    speed-from-sheet-refused r = question-refused sheets sheets-on s ok t x r
+    speed-from-sheet-refused r place = question-refused sheets sheets-on s ok t x r place
 
-  pub altitude-of-packet-refused : (r : ℕ) → Refuses (altitudeOf s .refusal) r ↔ PacketRefused s r
+  pub altitude-of-packet-refused : (r place : ℕ) → Refuses (altitudeOf s .refusal, altitudeOf s .place) r place ↔ AltitudeGround s r place
   unfolding altitudeOf
-  altitude-of-packet-refused r = altitude-on-ground packets packets-on s ok r
+  altitude-of-packet-refused r place = altitude-on-ground packets packets-on s ok r place
 
   -- ==== "an answer or the one refusal": every input has an answer or one ground, and never both
 
   module _ (room : List ℕ) where
-    pub packet-to-sheet-ending : OneEnding (ConvertiblePacket s room) (PacketToSheetGround s room)
+    pub packet-to-sheet-ending : OneEnding (ConvertiblePacket s room) {I = ℕ × ℕ} (λ p. PacketToSheetGround s room (p .0) (p .1))
     unfolding packetToSheet
-    packet-to-sheet-ending = one-ending (packetToSheet s room .answer .refusal) (side-converted either-packets toEitherSheet s room ok) (packet-to-sheet-refused room)
+    packet-to-sheet-ending = one-ending (packetToSheet s room .answer .refusal, packetToSheet s room .answer .place) (side-converted either-packets toEitherSheet s room ok) (packet-to-sheet-refused room)
 
-    pub sheet-to-packet-ending : OneEnding (ConvertibleSheet s room) (SheetToPacketGround s room)
+    pub sheet-to-packet-ending : OneEnding (ConvertibleSheet s room) {I = ℕ × ℕ} (λ p. SheetToPacketGround s room (p .0) (p .1))
     unfolding sheetToPacket
-    sheet-to-packet-ending = one-ending (sheetToPacket s room .answer .refusal) (side-converted either-sheets toEitherPacket s room ok) (sheet-to-packet-refused room)
+    sheet-to-packet-ending = one-ending (sheetToPacket s room .answer .refusal, sheetToPacket s room .answer .place) (side-converted either-sheets toEitherPacket s room ok) (sheet-to-packet-refused room)
 
   module _ (t : Train) (x : ℕ) where
-    pub speed-from-packet-ending : OneEnding (AnswerablePacket s t x) (SpeedFromPacketGround s t x)
+    pub speed-from-packet-ending : OneEnding (AnswerablePacket s t x) {I = ℕ × ℕ} (λ p. SpeedFromPacketGround s t x (p .0) (p .1))
     unfolding speedFromPacket
-    speed-from-packet-ending = one-ending (speedFromPacket s t x .refusal) (side-answered packets (toSheet wireChanges) s s t x ok) (speed-from-packet-refused t x)
+    speed-from-packet-ending = one-ending (speedFromPacket s t x .refusal, speedFromPacket s t x .place) (side-answered packets (toSheet wireChanges) s s t x ok) (speed-from-packet-refused t x)
 
-    pub speed-from-sheet-ending : OneEnding (AnswerableSheet s t x) (SpeedFromSheetGround s t x)
+    pub speed-from-sheet-ending : OneEnding (AnswerableSheet s t x) {I = ℕ × ℕ} (λ p. SpeedFromSheetGround s t x (p .0) (p .1))
     unfolding speedFromSheet
-    speed-from-sheet-ending = one-ending (speedFromSheet s t x .refusal) (side-answered sheets (toPacket wireChanges) s s t x ok) (speed-from-sheet-refused t x)
+    speed-from-sheet-ending = one-ending (speedFromSheet s t x .refusal, speedFromSheet s t x .place) (side-answered sheets (toPacket wireChanges) s s t x ok) (speed-from-sheet-refused t x)
 
-  pub altitude-of-packet-ending : OneEnding (PacketOfValues s) (PacketRefused s)
+  pub altitude-of-packet-ending : OneEnding (PacketOfValues s) {I = ℕ × ℕ} (λ p. AltitudeGround s (p .0) (p .1))
   unfolding altitudeOf
-  altitude-of-packet-ending = one-ending (altitudeOf s .refusal) (altitude-answered packets packets-on s ok) altitude-of-packet-refused
+  altitude-of-packet-ending = one-ending (altitudeOf s .refusal, altitudeOf s .place) (altitude-answered packets packets-on s ok) altitude-of-packet-refused
 
-  -- the same of the judgement before 8, 10 and 11, with the place: how many bits or bytes were left
+  -- the same of the judgement before 8, 10 and 11
   pub packet-judged : OneJudgement (λ l. SegmentPacketValues l × (s ≡ toPacket wireChanges l)) (PacketGround segmentNumber (fields wireChanges) s)
   packet-judged = side-judged packets packets-on s ok
 
@@ -122,19 +122,19 @@ module _ (s : List ℕ) (ok : Bytes s) where
 -- so that "a room of the largest is never refused as too short", as the C header says, for whatever is on the link
 pub largest-sheet-room : (s room : List ℕ) → Bytes s → 15226 ≤ length room → packetToSheet s room .answer .refusal ≡ 8 → ⊥
 largest-sheet-room s room ok h e =
-    never-short toEitherSheet 15226 room h (λ l c. packet-sheet-size l c .1) (λ g. packet-not-8 s g) (packet-to-sheet-refused s ok room 8 .0 (e, omega arith))
+    never-short toEitherSheet 15226 room h (λ l c. packet-sheet-size l c .1) (packet-not-8 s) (packet-to-sheet-refused s ok room 8 (packetToSheet s room .answer .place) .0 (ap (λ (r : ℕ). (r, packetToSheet s room .answer .place)) e, omega arith))
 
 pub largest-packet-room : (s room : List ℕ) → Bytes s → 8207 ≤ length room → sheetToPacket s room .answer .refusal ≡ 8 → ⊥
 largest-packet-room s room ok h e =
-    never-short toEitherPacket 8207 room h (λ l c. sheet-packet-size l c .1) (λ g. sheet-not-8 s g) (sheet-to-packet-refused s ok room 8 .0 (e, omega arith))
+    never-short toEitherPacket 8207 room h (λ l c. sheet-packet-size l c .1) (sheet-not-8 s) (sheet-to-packet-refused s ok room 8 (sheetToPacket s room .answer .place) .0 (ap (λ (r : ℕ). (r, sheetToPacket s room .answer .place)) e, omega arith))
 
 -- ==== "A refusal returns its number and writes nothing into the lent room."
 
-pub packet-refused : (s room : List ℕ) → (Done (packetToSheet s room) → ⊥) → packetToSheet s room ≡ refusedWith (packetToSheet s room .answer .refusal) room
+pub packet-refused : (s room : List ℕ) → (Done (packetToSheet s room) → ⊥) → packetToSheet s room ≡ refusedWith (packetToSheet s room .answer .refusal) (packetToSheet s room .answer .place) room
 unfolding packetToSheet
 packet-refused s room n = kept toEitherSheet (fromEitherPacket s) room n
 
-pub sheet-refused : (s room : List ℕ) → (Done (sheetToPacket s room) → ⊥) → sheetToPacket s room ≡ refusedWith (sheetToPacket s room .answer .refusal) room
+pub sheet-refused : (s room : List ℕ) → (Done (sheetToPacket s room) → ⊥) → sheetToPacket s room ≡ refusedWith (sheetToPacket s room .answer .refusal) (sheetToPacket s room .answer .place) room
 unfolding sheetToPacket
 sheet-refused s room n = kept toEitherPacket (fromEitherSheet s) room n
 

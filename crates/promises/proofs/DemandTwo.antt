@@ -111,7 +111,7 @@ module _ (s : List ℕ) (t : Train) (x : ℕ) where
   packet-answered ok = side-answered packets (toSheet wireChanges) s [] t x ok
 
   -- and then the answer is the permitted speed of those values
-  pub packet-speed : (c : AnswerablePacket s t x) → speedFromPacket s t x ≡ record { refusal = 0; speed = speedIn t x (sheetNumbers (c .values)) }
+  pub packet-speed : (c : AnswerablePacket s t x) → speedFromPacket s t x ≡ record { refusal = 0; place = 0; speed = speedIn t x (sheetNumbers (c .values)) }
   unfolding speedFromPacket
   packet-speed c = side-speed packets (toSheet wireChanges) s [] t x c
 
@@ -120,7 +120,7 @@ module _ (s : List ℕ) (t : Train) (x : ℕ) where
   unfolding speedFromSheet
   sheet-answered ok = side-answered sheets (toPacket wireChanges) s [] t x ok
 
-  pub sheet-speed : (c : AnswerableSheet s t x) → speedFromSheet s t x ≡ record { refusal = 0; speed = speedIn t x (sheetNumbers (c .values)) }
+  pub sheet-speed : (c : AnswerableSheet s t x) → speedFromSheet s t x ≡ record { refusal = 0; place = 0; speed = speedIn t x (sheetNumbers (c .values)) }
   unfolding speedFromSheet
   sheet-speed c = side-speed sheets (toPacket wireChanges) s [] t x c
 

@@ -10,3 +10,4 @@ pub mod DemandTwo
 pub mod DemandThree
 pub mod Journeys
 pub mod Segments
+pub mod Placeless

@@ -16,7 +16,7 @@ use Rattle.segment.specs.Judgement.{segmentNumber}
 use Rattle.segment.proofs.Ends.{sheetFields-lawful}
 use Rattle.segment.proofs.Grounds.{fields-refusals, packet-listed, sheet-listed}
 use Rattle.link.specs.Link.{toEitherPacket, toEitherSheet}
-use Rattle.link.specs.Grounds.{EitherPacketValues, EitherSheetValues}
+use Rattle.link.specs.Grounds.{EitherPacketGround, EitherSheetGround, EitherPacketValues, EitherSheetValues}
 use Rattle.link.proofs.Grounds.{either-packet-listed, either-sheet-listed}
 use Rattle.link.proofs.Ends.{either-sheet-size, either-packet-size}
 use Rattle.speed.specs.declared.Train.{Train}
@@ -25,7 +25,7 @@ use Rattle.speed.proofs.Lowering.{speed-in-fives}
 use Rattle.speed.proofs.Bounds.{speed-most}
 use Rattle.altitude.specs.Altitude.{altitudeField}
 use Rattle.promises.specs.Promised.{SegmentPacketValues, SegmentSheetValues}
-use Rattle.promises.specs.Refused.{PacketRefused, EitherPacketRefused, EitherSheetRefused, ConversionGround, QuestionGround, PacketToSheetGround, SheetToPacketGround, SpeedFromPacketGround, SpeedFromSheetGround, packetToSheetRefusals, sheetToPacketRefusals, speedFromPacketRefusals, speedFromSheetRefusals, altitudeRefusals}
+use Rattle.promises.specs.Refused.{AltitudeGround, ConversionGround, QuestionGround, PacketToSheetGround, SheetToPacketGround, SpeedFromPacketGround, SpeedFromSheetGround, packetToSheetRefusals, sheetToPacketRefusals, speedFromPacketRefusals, speedFromSheetRefusals, altitudeRefusals}
 use Rattle.promises.proofs.Values.{either-good-sheet}
 use Rattle.promises.proofs.Agreeing.{lowered-same}
 use Rattle.promises.proofs.Standing.{altitude-stands}
@@ -61,39 +61,39 @@ pub altitude-most : (l : List Item) → SegmentPacketValues l → altitudeField 
 altitude-most l c = let a = altitude-stands l c in let h : a .0 .packet < 1048576 = a .2 .fits in omega (arith, a .3)
 
 -- a room that holds the largest result is not too short
-pub never-short : {Own : ℕ → Type 0} {Good : List Item → Type 0} {input : List Item → List ℕ} {s : List ℕ} (write : List Item → List ℕ) (most : ℕ) (room : List ℕ)
-    → most ≤ length room → ((l : List Item) → Good l → length (write l) ≤ most) → (Own 8 → ⊥) → ConversionGround Own Good input write s room 8 → ⊥
-never-short write most room h size none (ConversionGround.own g) = none g
-never-short write most room h size none (ConversionGround.shortRoom w short e) = omega (arith, size (w .values) (w .good))
+pub never-short : {Own : ℕ → ℕ → Type 0} {Good : List Item → Type 0} {input : List Item → List ℕ} {s : List ℕ} (write : List Item → List ℕ) (most : ℕ) (room : List ℕ)
+    → most ≤ length room → ((l : List Item) → Good l → length (write l) ≤ most) → ((place : ℕ) → Own 8 place → ⊥) → {place : ℕ} → ConversionGround Own Good input write s room 8 place → ⊥
+never-short write most room h size none {place} (ConversionGround.own g) = none place g
+never-short write most room h size none (ConversionGround.shortRoom w short e p) = omega (arith, size (w .values) (w .good))
 
 -- ---- which refusals
 
 module _ (s : List ℕ) where
-  pub altitude-listed : (r : ℕ) → PacketRefused s r → Among r altitudeRefusals
-  altitude-listed r g = packet-listed segmentNumber (fields-refusals wireChanges) s r (g .0) (g .1)
+  pub altitude-listed : (r place : ℕ) → AltitudeGround s r place → Among r altitudeRefusals
+  altitude-listed r place g = packet-listed segmentNumber (fields-refusals wireChanges) s r place g
 
-  pub packet-not-8 : EitherPacketRefused s 8 → ⊥
-  packet-not-8 g = let e : false ≡ true = among-member (either-packet-listed s 8 (g .0) (g .1)) in let z : _≡_ {A = ℕ} 0 1 = cc in omega arith
+  pub packet-not-8 : (place : ℕ) → EitherPacketGround s 8 place → ⊥
+  packet-not-8 place g = let e : false ≡ true = among-member (either-packet-listed s 8 place g) in let z : _≡_ {A = ℕ} 0 1 = cc in omega arith
 
-  pub sheet-not-8 : EitherSheetRefused s 8 → ⊥
-  sheet-not-8 g = let e : false ≡ true = among-member (either-sheet-listed s 8 (g .0) (g .1)) in let z : _≡_ {A = ℕ} 0 1 = cc in omega arith
+  pub sheet-not-8 : (place : ℕ) → EitherSheetGround s 8 place → ⊥
+  sheet-not-8 place g = let e : false ≡ true = among-member (either-sheet-listed s 8 place g) in let z : _≡_ {A = ℕ} 0 1 = cc in omega arith
 
-  module _ (room : List ℕ) (r : ℕ) where
-    pub packet-to-sheet-listed : PacketToSheetGround s room r → Among r packetToSheetRefusals
-    packet-to-sheet-listed (ConversionGround.own g) = among-into packetToSheetRefusals refl (either-packet-listed s r (g .0) (g .1))
-    packet-to-sheet-listed (ConversionGround.shortRoom w h e) = rw e (among-by 8 packetToSheetRefusals refl)
+  module _ (room : List ℕ) (r place : ℕ) where
+    pub packet-to-sheet-listed : PacketToSheetGround s room r place → Among r packetToSheetRefusals
+    packet-to-sheet-listed (ConversionGround.own g) = among-into packetToSheetRefusals refl (either-packet-listed s r place g)
+    packet-to-sheet-listed (ConversionGround.shortRoom w h e p) = rw e (among-by 8 packetToSheetRefusals refl)
 
-    pub sheet-to-packet-listed : SheetToPacketGround s room r → Among r sheetToPacketRefusals
-    sheet-to-packet-listed (ConversionGround.own g) = among-into sheetToPacketRefusals refl (either-sheet-listed s r (g .0) (g .1))
-    sheet-to-packet-listed (ConversionGround.shortRoom w h e) = rw e (among-by 8 sheetToPacketRefusals refl)
+    pub sheet-to-packet-listed : SheetToPacketGround s room r place → Among r sheetToPacketRefusals
+    sheet-to-packet-listed (ConversionGround.own g) = among-into sheetToPacketRefusals refl (either-sheet-listed s r place g)
+    sheet-to-packet-listed (ConversionGround.shortRoom w h e p) = rw e (among-by 8 sheetToPacketRefusals refl)
 
-  module _ (t : Train) (x r : ℕ) where
-    pub speed-from-packet-listed : SpeedFromPacketGround s t x r → Among r speedFromPacketRefusals
-    speed-from-packet-listed (QuestionGround.own g) = among-into speedFromPacketRefusals refl (packet-listed segmentNumber (fields-refusals wireChanges) s r (g .0) (g .1))
-    speed-from-packet-listed (QuestionGround.badTrain w v e) = rw e (among-by 10 speedFromPacketRefusals refl)
-    speed-from-packet-listed (QuestionGround.pastEnd w v h e) = rw e (among-by 11 speedFromPacketRefusals refl)
+  module _ (t : Train) (x r place : ℕ) where
+    pub speed-from-packet-listed : SpeedFromPacketGround s t x r place → Among r speedFromPacketRefusals
+    speed-from-packet-listed (QuestionGround.own g) = among-into speedFromPacketRefusals refl (packet-listed segmentNumber (fields-refusals wireChanges) s r place g)
+    speed-from-packet-listed (QuestionGround.badTrain w v e p) = rw e (among-by 10 speedFromPacketRefusals refl)
+    speed-from-packet-listed (QuestionGround.pastEnd w v h e p) = rw e (among-by 11 speedFromPacketRefusals refl)
 
-    pub speed-from-sheet-listed : SpeedFromSheetGround s t x r → Among r speedFromSheetRefusals
-    speed-from-sheet-listed (QuestionGround.own g) = among-into speedFromSheetRefusals refl (sheet-listed wireChanges s r (g .0) (g .1))
-    speed-from-sheet-listed (QuestionGround.badTrain w v e) = rw e (among-by 10 speedFromSheetRefusals refl)
-    speed-from-sheet-listed (QuestionGround.pastEnd w v h e) = rw e (among-by 11 speedFromSheetRefusals refl)
+    pub speed-from-sheet-listed : SpeedFromSheetGround s t x r place → Among r speedFromSheetRefusals
+    speed-from-sheet-listed (QuestionGround.own g) = among-into speedFromSheetRefusals refl (sheet-listed wireChanges s r place g)
+    speed-from-sheet-listed (QuestionGround.badTrain w v e p) = rw e (among-by 10 speedFromSheetRefusals refl)
+    speed-from-sheet-listed (QuestionGround.pastEnd w v h e p) = rw e (among-by 11 speedFromSheetRefusals refl)

@@ -35,18 +35,18 @@ use Rattle.promises.proofs.Values.{Side, kept, side-result, side-conver
 
 -- one side's grounds: what judges it refuses exactly then
 pub record Grounded (judge : List ℕ → Read) (On : List ℕ → ℕ → ℕ → Type 0) : Type 0 where
-  pub refused-on : (s : List ℕ) (r left : ℕ) → Bytes s → (judge s ≡ refused r left) ↔ On s r left
+  pub refused-on : (s : List ℕ) (r place : ℕ) → Bytes s → (judge s ≡ refused r place) ↔ On s r place
 
 pub packets-on : Grounded (fromPacket wireChanges) (PacketGround segmentNumber (fields wireChanges))
 unfolding fromPacket
-packets-on = record { refused-on = λ s r left ok. packet-grounds segmentNumber (fields wireChanges) s r left }
+packets-on = record { refused-on = λ s r place ok. packet-grounds segmentNumber (fields wireChanges) s r place }
 
 pub sheets-on : Grounded (fromSheet wireChanges) (SheetGround wireChanges)
 sheets-on = record { refused-on = sheet-grounds wireChanges }
 
 -- a segment's or a journey's
 pub either-packets-on : Grounded fromEitherPacket EitherPacketGround
-either-packets-on = record { refused-on = λ s r left ok. either-packet-grounds s r left }
+either-packets-on = record { refused-on = λ s r place ok. either-packet-grounds s r place }
 
 pub either-sheets-on : Grounded fromEitherSheet EitherSheetGround
 either-sheets-on = record { refused-on = either-sheet-grounds }
@@ -79,16 +79,17 @@ among-into m e (later {b = b} {l = l} h) = among-into m (and-right (member b m) 
 pub one-outcome : {Out : Type 0} {Ends : Out → Type 0} (outcome : Out) → Ends outcome → OneOutcome outcome Ends
 one-outcome outcome end = record { one = λ o p e f. e ∙ sym f; ends = λ o e. rw e end }
 
-pub one-ending : {Answered : Type 0} {Ground : ℕ → Type 0} (number : ℕ) → (number ≡ 0) ↔ Answered → ((r : ℕ) → Refuses number r ↔ Ground r) → OneEnding Answered Ground
-one-ending {Answered} {Ground} number answer ground = record {
-  ending = go number refl;
-  apart = λ r a g. let e = answer .1 a in let q = ground r .1 g in let z = q .0 in let h = q .1 in omega arith;
-  one = λ r q g h. sym (ground r .1 g .0) ∙ ground q .1 h .0;
+pub one-ending : {Answered : Type 0} {Ground : ℕ → ℕ → Type 0} (said : ℕ × ℕ) → (said .0 ≡ 0) ↔ Answered → ((r place : ℕ) → Refuses said r place ↔ Ground r place)
+    → OneEnding Answered {I = ℕ × ℕ} (λ p. Ground (p .0) (p .1))
+one-ending {Answered} {Ground} said answer ground = record {
+  ending = go (said .0) refl;
+  apart = λ p a g. let e = answer .1 a in let q = ground (p .0) (p .1) .1 g in let z = ap (λ (x : ℕ × ℕ). x .0) (q .0) in let h = q .1 in omega arith;
+  one = λ p q g h. sym (ground (p .0) (p .1) .1 g .0) ∙ ground (q .0) (q .1) .1 h .0;
 }
   where
-    go : (n : ℕ) → number ≡ n → Ending Answered Ground
+    go : (n : ℕ) → said .0 ≡ n → Ending Answered {I = ℕ × ℕ} (λ p. Ground (p .0) (p .1))
     go zero e = Ending.answered (answer .0 e)
-    go (suc n) e = grounded (suc n) (ground (suc n) .0 (e, omega arith))
+    go (suc n) e = grounded said (ground (said .0) (said .1) .0 (refl, omega arith))
 
 module _ {judge : List ℕ → Read} {Good : List Item → Type 0} {input : List Item → List ℕ} (side : Side judge Good input)
     {On : List ℕ → ℕ → ℕ → Type 0} (on : Grounded judge On) (s : List ℕ) (ok : Bytes s) where
@@ -98,130 +99,141 @@ module _ {judge : List ℕ → Read} {Good : List Item → Type 0} {input : List
   taken : (w : OfValues Good input s) → judge s ≡ accepted (w .values)
   taken w = ap judge (w .whole) ∙ side .again (w .values) (w .good)
 
-  abbrev Own : ℕ → Type 0
-  Own r = (left : ℕ) × On s r left
+  own-refused : (r place : ℕ) → On s r place → (judge s ≡ refused r place) × (1 ≤ r)
+  own-refused r place g = let e = on .refused-on s r place ok .1 g in (e, side .refuses s ok r place e)
 
-  own-refused : (r : ℕ) → Own r → (left : ℕ) × (judge s ≡ refused r left) × (1 ≤ r)
-  own-refused r g = let e = on .refused-on s r (g .0) ok .1 (g .1) in (g .0, e, side .refuses s ok r (g .0) e)
-
-  -- an answer that is the refusal of what was refused is on the input's own ground, or on one of its values'
-  by-judge : {C : Type 0} (answer : Read → ℕ) (r : ℕ) → ((q left : ℕ) → answer (refused q left) ≡ q) → answer (judge s) ≡ r
-      → (Own r → C) → ((l : List Item) → judge s ≡ accepted l → answer (accepted l) ≡ r → C) → C
-  by-judge {C} answer r same e mine values = go (judge s) refl e
+  -- an answer that says what was refused is on the input's own ground, or on one of its values'
+  by-judge : {C : Type 0} (answer : Read → ℕ × ℕ) (r place : ℕ) → ((q p : ℕ) → answer (refused q p) ≡ (q, p)) → answer (judge s) ≡ (r, place)
+      → (On s r place → C) → ((l : List Item) → judge s ≡ accepted l → answer (accepted l) ≡ (r, place) → C) → C
+  by-judge {C} answer r place same e mine values = go (judge s) refl e
     where
-      go : (t : Read) → judge s ≡ t → answer t ≡ r → C
+      go : (t : Read) → judge s ≡ t → answer t ≡ (r, place) → C
       go (accepted l) a d = values l a d
-      go (refused q left) a d = mine (left, on .refused-on s r left ok .0 (a ∙ ap (λ (n : ℕ). refused n left) (sym (same q left) ∙ d)))
+      go (refused q p) a d = mine (on .refused-on s r place ok .0 (a ∙ ap (λ (x : ℕ × ℕ). refused (x .0) (x .1)) (sym (same q p) ∙ d)))
 
   -- ---- a conversion
 
   module _ (write : List Item → List ℕ) (room : List ℕ) where
-    abbrev conversion : Read → ℕ
-    conversion t = converted write t room .answer .refusal
+    abbrev conversion : Read → ℕ × ℕ
+    conversion t = let o = converted write t room .answer in (o .refusal, o .place)
 
-    pub conversion-refused : (r : ℕ) → Refuses (conversion (judge s)) r ↔ ConversionGround Own Good input write s room r
-    conversion-refused r = (λ e. by-judge conversion r (λ q left. refl) (e .0) ConversionGround.own (λ l a d. fits l a d (e .1)), given)
+    abbrev fittedSaid : List Item → ℕ × ℕ
+    fittedSaid l = let o = fitted (write l) room .answer in (o .refusal, o .place)
+
+    pub conversion-refused : (r place : ℕ) → Refuses (conversion (judge s)) r place ↔ ConversionGround (On s) Good input write s room r place
+    conversion-refused r place = (λ e. by-judge conversion r place (λ q p. refl) (e .0) ConversionGround.own (λ l a d. fits l a d (e .1)), given)
       where
-        fits : (l : List Item) → judge s ≡ accepted l → fitted (write l) room .answer .refusal ≡ r → 1 ≤ r → ConversionGround Own Good input write s room r
+        fits : (l : List Item) → judge s ≡ accepted l → fittedSaid l ≡ (r, place) → 1 ≤ r → ConversionGround (On s) Good input write s room r place
         fits l a e h =
             by-cases (ltb (length room) (length (write l)))
-            (λ d. let z : 8 ≡ r = rw d at e in ConversionGround.shortRoom (of-values l a) (ltb-true (length room) (length (write l)) d) (sym z))
-            (λ d. let z : 0 ≡ r = rw d at e in absurd (omega arith))
+            (λ d. let z : _≡_ {A = ℕ × ℕ} (8, 0) (r, place) = rw d at e in
+            ConversionGround.shortRoom (of-values l a) (ltb-true (length room) (length (write l)) d) (sym (ap (λ (x : ℕ × ℕ). x .0) z)) (sym (ap (λ (x : ℕ × ℕ). x .1) z)))
+            (λ d. let z : _≡_ {A = ℕ × ℕ} (0, 0) (r, place) = rw d at e in let y : 0 ≡ r = ap (λ (x : ℕ × ℕ). x .0) z in absurd (omega arith))
 
-        short : (l : List Item) → length room < length (write l) → fitted (write l) room .answer .refusal ≡ 8
+        short : (l : List Item) → length room < length (write l) → fittedSaid l ≡ (8, 0)
         short l h = rw (lt-ltb (length room) (length (write l)) h)
 
-        given : ConversionGround Own Good input write s room r → Refuses (conversion (judge s)) r
-        given (ConversionGround.own g) = let e = own-refused r g in (ap conversion (e .1), e .2)
-        given (ConversionGround.shortRoom w h e) = (ap conversion (taken w) ∙ short (w .values) h ∙ sym e, omega arith)
+        given : ConversionGround (On s) Good input write s room r place → Refuses (conversion (judge s)) r place
+        given (ConversionGround.own g) = let e = own-refused r place g in (ap conversion (e .0), e .1)
+        given (ConversionGround.shortRoom w h e p) = (ap conversion (taken w) ∙ short (w .values) h ∙ rw (e, p), omega arith)
 
     -- so it ends as a caller may rely on, if what is written has its size and the refusals are listed
-    pub conversion-ends : (refusals : List ℕ) (least most : ℕ) → ((r : ℕ) → ConversionGround Own Good input write s room r → Among r refusals)
+    pub conversion-ends : (refusals : List ℕ) (least most : ℕ) → ((r place : ℕ) → ConversionGround (On s) Good input write s room r place → Among r refusals)
         → ((l : List Item) → Good l → (least ≤ length (write l)) × (length (write l) ≤ most)) → ConversionEnds room refusals least most (converted write (judge s) room)
     conversion-ends refusals least most listed size = go (one-ending (conversion (judge s)) (side-converted side write s room ok) conversion-refused .ending)
       where
-        go : Ending (Convertible Good input write s room) (ConversionGround Own Good input write s room) → ConversionEnds room refusals least most (converted write (judge s) room)
+        go : Ending (Convertible Good input write s room) {I = ℕ × ℕ} (λ p. ConversionGround (On s) Good input write s room (p .0) (p .1))
+            → ConversionEnds room refusals least most (converted write (judge s) room)
         go (Ending.answered c) =
             let p = size (c .values) (c .good) in
-            rw (side-result side write s room c) (ConversionEnds.success refl (p .0) (p .1) (c .holds))
-        go (grounded r g) =
-            let e = conversion-refused r .1 g in
+            rw (side-result side write s room c) (ConversionEnds.success refl refl (p .0) (p .1) (c .holds))
+        go (grounded p g) =
+            let e = conversion-refused (p .0) (p .1) .1 g in
+            let n : converted write (judge s) room .answer .refusal ≡ p .0 = ap (λ (x : ℕ × ℕ). x .0) (e .0) in
             let h = e .1 in
-            let k = kept write (judge s) room (λ d. let z = e .0 in omega arith) in
-            ConversionEnds.refusal (rw (e .0) (listed r g)) (ap (λ (o : Outcome). o .answer .length) k) (ap (λ (o : Outcome). o .room) k)
+            let k = kept write (judge s) room (λ d. omega arith) in
+            ConversionEnds.refusal (rw n (listed (p .0) (p .1) g)) (ap (λ (o : Outcome). o .answer .length) k) (ap (λ (o : Outcome). o .room) k)
 
   -- ---- a question on speed
 
   module _ (t : Train) (x : ℕ) where
-    abbrev answer : Read → ℕ
-    answer j = answerOf noSpeed (speedOfValues t x) j .refusal
+    abbrev answer : Read → ℕ × ℕ
+    answer j = let o = answerOf noSpeed (speedOfValues t x) j in (o .refusal, o .place)
 
-    pub question-refused : (r : ℕ) → Refuses (answer (judge s)) r ↔ QuestionGround Own Good input s t x r
-    question-refused r = (λ e. by-judge answer r (λ q left. refl) (e .0) QuestionGround.own (λ l a d. inside l a d (e .1)), given)
+    abbrev valuesSaid : List Item → ℕ × ℕ
+    valuesSaid l = let o = speedOfValues t x l in (o .refusal, o .place)
+
+    pub question-refused : (r place : ℕ) → Refuses (answer (judge s)) r place ↔ QuestionGround (On s) Good input s t x r place
+    question-refused r place = (λ e. by-judge answer r place (λ q p. refl) (e .0) QuestionGround.own (λ l a d. inside l a d (e .1)), given)
       where
-        inside : (l : List Item) → judge s ≡ accepted l → speedOfValues t x l .refusal ≡ r → 1 ≤ r → QuestionGround Own Good input s t x r
+        inside : (l : List Item) → judge s ≡ accepted l → valuesSaid l ≡ (r, place) → 1 ≤ r → QuestionGround (On s) Good input s t x r place
         inside l a e h =
             by-cases (validTrain t)
             (λ v. by-cases (ltb x (segmentLength (sheetNumbers l)))
-            (λ b. let z : 0 ≡ r = rw (v, b) at e in absurd (omega arith))
-            (λ b. let z : 11 ≡ r = rw (v, b) at e in QuestionGround.pastEnd (of-values l a) v (ltb-false x (segmentLength (sheetNumbers l)) b) (sym z)))
-            (λ v. let z : 10 ≡ r = rw v at e in QuestionGround.badTrain (of-values l a) v (sym z))
+            (λ b. let z : _≡_ {A = ℕ × ℕ} (0, 0) (r, place) = rw (v, b) at e in let y : 0 ≡ r = ap (λ (u : ℕ × ℕ). u .0) z in absurd (omega arith))
+            (λ b. let z : _≡_ {A = ℕ × ℕ} (11, 0) (r, place) = rw (v, b) at e in
+            QuestionGround.pastEnd (of-values l a) v (ltb-false x (segmentLength (sheetNumbers l)) b) (sym (ap (λ (u : ℕ × ℕ). u .0) z)) (sym (ap (λ (u : ℕ × ℕ). u .1) z))))
+            (λ v. let z : _≡_ {A = ℕ × ℕ} (10, 0) (r, place) = rw v at e in
+            QuestionGround.badTrain (of-values l a) v (sym (ap (λ (u : ℕ × ℕ). u .0) z)) (sym (ap (λ (u : ℕ × ℕ). u .1) z)))
 
-        bad : (l : List Item) → validTrain t ≡ false → speedOfValues t x l .refusal ≡ 10
+        bad : (l : List Item) → validTrain t ≡ false → valuesSaid l ≡ (10, 0)
         bad l v = rw v
 
-        beyond : (l : List Item) → validTrain t ≡ true → segmentLength (sheetNumbers l) ≤ x → speedOfValues t x l .refusal ≡ 11
+        beyond : (l : List Item) → validTrain t ≡ true → segmentLength (sheetNumbers l) ≤ x → valuesSaid l ≡ (11, 0)
         beyond l v h = rw (v, le-ltb x (segmentLength (sheetNumbers l)) h)
 
-        given : QuestionGround Own Good input s t x r → Refuses (answer (judge s)) r
-        given (QuestionGround.own g) = let e = own-refused r g in (ap answer (e .1), e .2)
-        given (QuestionGround.badTrain w v e) = (ap answer (taken w) ∙ bad (w .values) v ∙ sym e, omega arith)
-        given (QuestionGround.pastEnd w v h e) = (ap answer (taken w) ∙ beyond (w .values) v h ∙ sym e, omega arith)
+        given : QuestionGround (On s) Good input s t x r place → Refuses (answer (judge s)) r place
+        given (QuestionGround.own g) = let e = own-refused r place g in (ap answer (e .0), e .1)
+        given (QuestionGround.badTrain w v e p) = (ap answer (taken w) ∙ bad (w .values) v ∙ rw (e, p), omega arith)
+        given (QuestionGround.pastEnd w v h e p) = (ap answer (taken w) ∙ beyond (w .values) v h ∙ rw (e, p), omega arith)
 
-    pub question-ends : (refusals : List ℕ) (most : ℕ) → ((r : ℕ) → QuestionGround Own Good input s t x r → Among r refusals)
+    pub question-ends : (refusals : List ℕ) (most : ℕ) → ((r place : ℕ) → QuestionGround (On s) Good input s t x r place → Among r refusals)
         → ((l : List Item) → Good l → speedIn t x (sheetNumbers l) ≤ most) → SpeedEnds refusals most (answerOf noSpeed (speedOfValues t x) (judge s))
     question-ends refusals most listed bound = go (one-ending (answer (judge s)) (side-answered side (λ l. []) s [] t x ok) question-refused .ending)
       where
-        go : Ending (Answerable Good input s t x) (QuestionGround Own Good input s t x) → SpeedEnds refusals most (answerOf noSpeed (speedOfValues t x) (judge s))
-        go (Ending.answered c) = rw (side-speed side (λ l. []) s [] t x c) (SpeedEnds.success refl (bound (c .values) (c .good)))
-        go (grounded r g) =
-            let e = question-refused r .1 g in
+        go : Ending (Answerable Good input s t x) {I = ℕ × ℕ} (λ p. QuestionGround (On s) Good input s t x (p .0) (p .1))
+            → SpeedEnds refusals most (answerOf noSpeed (speedOfValues t x) (judge s))
+        go (Ending.answered c) = rw (side-speed side (λ l. []) s [] t x c) (SpeedEnds.success refl refl (bound (c .values) (c .good)))
+        go (grounded p g) =
+            let e = question-refused (p .0) (p .1) .1 g in
+            let n : answerOf noSpeed (speedOfValues t x) (judge s) .refusal ≡ p .0 = ap (λ (u : ℕ × ℕ). u .0) (e .0) in
             let h = e .1 in
-            SpeedEnds.refusal (rw (e .0) (listed r g)) (speed-none t x (judge s) (λ d. let z = e .0 in omega arith))
+            SpeedEnds.refusal (rw n (listed (p .0) (p .1) g)) (speed-none t x (judge s) (λ d. omega arith))
 
   -- ---- the altitude
 
-  abbrev altitude : Read → ℕ
-  altitude t = altitudeOfRead t .refusal
+  abbrev altitude : Read → ℕ × ℕ
+  altitude t = let o = altitudeOfRead t in (o .refusal, o .place)
 
-  pub altitude-refused : (r : ℕ) → Refuses (altitude (judge s)) r ↔ Own r
-  altitude-refused r = (
-    λ e. let h = e .1 in by-judge altitude r (λ q left. refl) (e .0) (λ g. g) (λ l a d. absurd (omega arith)),
-    λ g. let e = own-refused r g in (ap altitude (e .1), e .2),
+  pub altitude-refused : (r place : ℕ) → Refuses (altitude (judge s)) r place ↔ On s r place
+  altitude-refused r place = (
+    λ e. let h = e .1 in by-judge altitude r place (λ q p. refl) (e .0) (λ g. g) (λ l a d. let z : 0 ≡ r = ap (λ (u : ℕ × ℕ). u .0) d in absurd (omega arith)),
+    λ g. let e = own-refused r place g in (ap altitude (e .0), e .1),
   )
 
-  pub altitude-values : (w : OfValues Good input s) → altitudeOfRead (judge s) ≡ record { refusal = 0; altitude = centimetres (altitudeField (w .values)) }
+  pub altitude-values : (w : OfValues Good input s) → altitudeOfRead (judge s) ≡ record { refusal = 0; place = 0; altitude = centimetres (altitudeField (w .values)) }
   altitude-values w = ap altitudeOfRead (taken w)
 
-  pub altitude-answered : (altitude (judge s) ≡ 0) ↔ OfValues Good input s
+  pub altitude-answered : (altitude (judge s) .0 ≡ 0) ↔ OfValues Good input s
   altitude-answered = (λ e. go (judge s) refl e, λ w. ap (λ (a : Altitude). a .refusal) (altitude-values w))
     where
-      go : (t : Read) → judge s ≡ t → altitude t ≡ 0 → OfValues Good input s
+      go : (t : Read) → judge s ≡ t → altitude t .0 ≡ 0 → OfValues Good input s
       go (accepted l) a e = of-values l a
-      go (refused q left) a e = absurd (omega (arith, side .refuses s ok q left a))
+      go (refused q p) a e = absurd (omega (arith, side .refuses s ok q p a))
 
-  pub altitude-ends : (refusals : List ℕ) → ((r : ℕ) → Own r → Among r refusals) → ((l : List Item) → Good l → altitudeField l ≤ 1048575)
+  pub altitude-ends : (refusals : List ℕ) → ((r place : ℕ) → On s r place → Among r refusals) → ((l : List Item) → Good l → altitudeField l ≤ 1048575)
       → AltitudeEnds refusals (altitudeOfRead (judge s))
   altitude-ends refusals listed bound = go (one-ending (altitude (judge s)) altitude-answered altitude-refused .ending)
     where
-      go : Ending (OfValues Good input s) Own → AltitudeEnds refusals (altitudeOfRead (judge s))
-      go (Ending.answered w) = rw (altitude-values w) (AltitudeEnds.success (altitudeField (w .values)) (bound (w .values) (w .good)) refl refl)
-      go (grounded r g) =
-          let e = altitude-refused r .1 g in
+      go : Ending (OfValues Good input s) {I = ℕ × ℕ} (λ p. On s (p .0) (p .1)) → AltitudeEnds refusals (altitudeOfRead (judge s))
+      go (Ending.answered w) = rw (altitude-values w) (AltitudeEnds.success (altitudeField (w .values)) (bound (w .values) (w .good)) refl refl refl)
+      go (grounded p g) =
+          let e = altitude-refused (p .0) (p .1) .1 g in
+          let n : altitudeOfRead (judge s) .refusal ≡ p .0 = ap (λ (u : ℕ × ℕ). u .0) (e .0) in
           let h = e .1 in
-          AltitudeEnds.refusal (rw (e .0) (listed r g)) (altitude-none (judge s) (λ d. let z = e .0 in omega arith))
+          AltitudeEnds.refusal (rw n (listed (p .0) (p .1) g)) (altitude-none (judge s) (λ d. omega arith))
 
-  -- ---- the judge itself, with the place
+  -- ---- the judge itself
 
   pub side-judged : OneJudgement (λ l. Good l × (s ≡ input l)) (On s)
-  side-judged = judged (judge s) (λ l. (side .only s l ok, λ p. ap judge (p .1) ∙ side .again l (p .0))) (λ r left. on .refused-on s r left ok)
+  side-judged = judged (judge s) (λ l. (side .only s l ok, λ p. ap judge (p .1) ∙ side .again l (p .0))) (λ r place. on .refused-on s r place ok)

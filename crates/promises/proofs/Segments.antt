@@ -64,8 +64,8 @@ module _ (s room : List ℕ) (ok : Bytes s) where
     where
       go : (r : Read) → fromPacket wireChanges s ≡ r → converted toEitherSheet r room .answer .refusal ≡ 8 → ⊥
       go (accepted l) a d = fits (toEitherSheet l) room (omega (arith, segment-sheet-size l (packet-values s l ok a .0) .1)) d
-      go (refused q left) a d =
-          let g = packet-listed segmentNumber (fields-refusals wireChanges) s q left (packet-grounds segmentNumber (fields wireChanges) s q left .0 a) in
+      go (refused q place) a d =
+          let g = packet-listed segmentNumber (fields-refusals wireChanges) s q place (packet-grounds segmentNumber (fields wireChanges) s q place .0 a) in
           never-8 (rw d at (among-member g)) d
 
   -- nor is a sheet with another first number where the room has 2,001
@@ -85,4 +85,4 @@ module _ (s room : List ℕ) (ok : Bytes s) where
           let v = on-link c .values in
           let taken : withinCount (accepted l) ≡ accepted l = rw (le-ltb 65535 (length (linkBits l) - 96) (omega (arith, v .few))) in
           fits (toEitherPacket l) room (omega (arith, segment-packet-size l c .1)) (sym (ap (λ (r : Read). converted toEitherPacket r room .answer .refusal) taken) ∙ d)
-      go (refused q left) a d = never-8 (rw d at (among-member (sheet-listed wireChanges s q left (sheet-grounds wireChanges s q left ok .0 a)))) d
+      go (refused q place) a d = never-8 (rw d at (among-member (sheet-listed wireChanges s q place (sheet-grounds wireChanges s q place ok .0 a)))) d

@@ -72,11 +72,11 @@ packet-taken (i ∷ l) (also g c) =
 
 pub sheet-values : (s : List ℕ) (l : List Item) → Bytes s → fromSheet wireChanges s ≡ accepted l → SegmentSheetValues l × (s ≡ toSheet wireChanges l)
 unfolding fromSheet toSheet
-sheet-values s l ok e = sheet-only (sheetFields wireChanges) s l ok e
+sheet-values s l ok e = sheet-only (sheetFields wireChanges) 0 s l ok e
 
 pub sheet-taken : (l : List Item) → SegmentSheetValues l → fromSheet wireChanges (toSheet wireChanges l) ≡ accepted l
 unfolding fromSheet toSheet
-sheet-taken l c = sheet-again c
+sheet-taken l c = sheet-again c 0
 
 -- lowering leaves the packet
 pub lowered-packet : (l : List Item) → toPacket wireChanges (givenBack (sheetFields wireChanges) l) ≡ toPacket wireChanges l
@@ -94,23 +94,23 @@ module _ (write : List Item → List ℕ) (r : Read) (room : List ℕ) where
   written l e h = ap (λ (t : Read). converted write t room) e ∙ rw (le-ltb (length room) (length (write l)) h)
 
   -- "A refusal returns its number and writes nothing"
-  pub kept : (Done (converted write r room) → ⊥) → converted write r room ≡ refusedWith (converted write r room .answer .refusal) room
+  pub kept : (Done (converted write r room) → ⊥) → converted write r room ≡ refusedWith (converted write r room .answer .refusal) (converted write r room .answer .place) room
   kept n = go r n
     where
-      short : (l : List Item) → (Done (fitted (write l) room) → ⊥) → fitted (write l) room ≡ refusedWith (fitted (write l) room .answer .refusal) room
+      short : (l : List Item) → (Done (fitted (write l) room) → ⊥) → fitted (write l) room ≡ refusedWith (fitted (write l) room .answer .refusal) (fitted (write l) room .answer .place) room
       short l m = by-cases (ltb (length room) (length (write l))) (λ d. rw d) (λ d. absurd (m (rw d)))
 
-      go : (t : Read) → (Done (converted write t room) → ⊥) → converted write t room ≡ refusedWith (converted write t room .answer .refusal) room
-      go (refused q left) m = refl
+      go : (t : Read) → (Done (converted write t room) → ⊥) → converted write t room ≡ refusedWith (converted write t room .answer .refusal) (converted write t room .answer .place) room
+      go (refused q place) m = refl
       go (accepted l) m = short l m
 
   -- what is done was accepted, and fits
-  pub done-only : {C : Type 0} → ((q left : ℕ) → r ≡ refused q left → 1 ≤ q) → Done (converted write r room)
+  pub done-only : {C : Type 0} → ((q place : ℕ) → r ≡ refused q place → 1 ≤ q) → Done (converted write r room)
       → ((l : List Item) → r ≡ accepted l → length (write l) ≤ length room → C) → C
   done-only {C} least d k = go r refl
     where
       go : (t : Read) → r ≡ t → C
-      go (refused q left) e = absurd (let z : q ≡ 0 = rw e at d in omega (arith, least q left e))
+      go (refused q place) e = absurd (let z : q ≡ 0 = rw e at d in omega (arith, least q place e))
       go (accepted l) e =
           let f : Done (fitted (write l) room) = rw e at d in
           by-cases (ltb (length room) (length (write l)))
@@ -122,27 +122,27 @@ module _ (write : List Item → List ℕ) (r : Read) (room : List ℕ) where
 pub record Side (judge : List ℕ → Read) (Good : List Item → Type 0) (input : List Item → List ℕ) : Type 0 where
   pub only : (s : List ℕ) (l : List Item) → Bytes s → judge s ≡ accepted l → Good l × (s ≡ input l)
   pub again : (l : List Item) → Good l → judge (input l) ≡ accepted l
-  pub refuses : (s : List ℕ) → Bytes s → (q left : ℕ) → judge s ≡ refused q left → 1 ≤ q
+  pub refuses : (s : List ℕ) → Bytes s → (q place : ℕ) → judge s ≡ refused q place → 1 ≤ q
 
 pub packets : Side (fromPacket wireChanges) SegmentPacketValues (toPacket wireChanges)
-packets = record { only = packet-values; again = packet-taken; refuses = λ s ok q left e. packet-refusal wireChanges s q left e }
+packets = record { only = packet-values; again = packet-taken; refuses = λ s ok q place e. packet-refusal wireChanges s q place e }
 
 pub sheets : Side (fromSheet wireChanges) SegmentSheetValues (toSheet wireChanges)
-sheets = record { only = sheet-values; again = sheet-taken; refuses = λ s ok q left e. sheet-refusal wireChanges s q left ok e }
+sheets = record { only = sheet-values; again = sheet-taken; refuses = λ s ok q place e. sheet-refusal wireChanges s q place ok e }
 
 -- a segment's or a journey's
 pub either-packets : Side fromEitherPacket EitherPacketValues toEitherPacket
 either-packets = record {
   only = either-packet-values;
   again = either-packet-taken;
-  refuses = λ s ok q left e. among-positive (either-packet-listed s q left (either-packet-grounds s q left .0 e)) refl;
+  refuses = λ s ok q place e. among-positive (either-packet-listed s q place (either-packet-grounds s q place .0 e)) refl;
 }
 
 pub either-sheets : Side fromEitherSheet EitherSheetValues toEitherSheet
 either-sheets = record {
   only = either-sheet-values;
   again = either-sheet-taken;
-  refuses = λ s ok q left e. among-positive (either-sheet-listed s q left (either-sheet-grounds s q left ok .0 e)) refl;
+  refuses = λ s ok q place e. among-positive (either-sheet-listed s q place (either-sheet-grounds s q place ok .0 e)) refl;
 }
 
 -- lowering leaves the packet on the link, and makes a packet's values of a sheet's
@@ -178,7 +178,7 @@ module _ {judge : List ℕ → Read} {Good : List Item → Type 0} {input : List
 
   -- a question on speed is answered exactly where the input is written of good values, the train is valid and x below L_SP
   module _ (t : Train) (x : ℕ) where
-    pub side-speed : (c : Answerable Good input s t x) → answerOf noSpeed (speedOfValues t x) (judge s) ≡ record { refusal = 0; speed = speedIn t x (sheetNumbers (c .values)) }
+    pub side-speed : (c : Answerable Good input s t x) → answerOf noSpeed (speedOfValues t x) (judge s) ≡ record { refusal = 0; place = 0; speed = speedIn t x (sheetNumbers (c .values)) }
     side-speed c =
         let l = c .values in
         ap (answerOf noSpeed (speedOfValues t x)) (ap judge (c .whole) ∙ side .again l (c .good)) ∙ rw (c .valid, lt-ltb x (segmentLength (sheetNumbers l)) (c .inside))
@@ -197,18 +197,18 @@ module _ {judge : List ℕ → Read} {Good : List Item → Type 0} {input : List
 
         go : (r : Read) → judge s ≡ r → answerOf noSpeed (speedOfValues t x) r .refusal ≡ 0 → Answerable Good input s t x
         go (accepted l) e d = inside l e d
-        go (refused q left) e d = absurd (omega (arith, side .refuses s ok q left e))
+        go (refused q place) e d = absurd (omega (arith, side .refuses s ok q place e))
 
 -- "a refusal .. returns its number with length, speed or altitude 0"
 pub speed-none : (t : Train) (x : ℕ) (r : Read) → (answerOf noSpeed (speedOfValues t x) r .refusal ≡ 0 → ⊥) → answerOf noSpeed (speedOfValues t x) r .speed ≡ 0
-speed-none t x (refused q left) n = refl
+speed-none t x (refused q place) n = refl
 speed-none t x (accepted l) n =
     by-cases (validTrain t)
     (λ v. by-cases (ltb x (segmentLength (sheetNumbers l))) (λ b. absurd (n (rw (v, b)))) (λ b. rw (v, b)))
     (λ v. rw v)
 
 pub altitude-none : (r : Read) → (altitudeOfRead r .refusal ≡ 0 → ⊥) → altitudeOfRead r .altitude ≡ pos 0
-altitude-none (refused q left) n = refl
+altitude-none (refused q place) n = refl
 altitude-none (accepted l) n = absurd (n refl)
 
 -- ---- the greatest multiple of 5

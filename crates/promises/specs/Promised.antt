@@ -75,7 +75,7 @@ AnswerableSheet s t x = Answerable SegmentSheetValues (toSheet wireChanges) s t 
 
 -- "the greatest multiple of 5 not above the speed from the sheet": the same answer with its speed lowered so
 abbrev pub answerInFives : Speed → Speed
-answerInFives o = record { refusal = o .refusal; speed = inFives (o .speed) }
+answerInFives o = record { refusal = o .refusal; place = o .place; speed = inFives (o .speed) }
 
 -- w is "the greatest multiple of 5 not above" v
 pub record GreatestFive (v w : ℕ) : Type 0 where

@@ -13,20 +13,20 @@ use Rattle.altitude.specs.Altitude.{centimetres}
 
 -- "one possible outcome for every input: answer, length and all bytes of the room, refusals too"
 pub data ConversionEnds (room refusals : List ℕ) (least most : ℕ) (o : Outcome) : Type 0 where
-  -- "Success returns the length"
-  success : o .answer .refusal ≡ 0 → least ≤ o .answer .length → o .answer .length ≤ most → o .answer .length ≤ length room
+  -- "Success returns the length"; "For .. success .. it is 0"
+  success : o .answer .refusal ≡ 0 → o .answer .place ≡ 0 → least ≤ o .answer .length → o .answer .length ≤ most → o .answer .length ≤ length room
       → ConversionEnds room refusals least most o
   -- "It returns its number with length .. 0, and the lent room keeps every byte it had"
   refusal : Among (o .answer .refusal) refusals → o .answer .length ≡ 0 → o .room ≡ room → ConversionEnds room refusals least most o
 
 -- "km/h, 0 to 604", or "It returns its number with .. speed .. 0"
 pub data SpeedEnds (refusals : List ℕ) (most : ℕ) (o : Speed) : Type 0 where
-  success : o .refusal ≡ 0 → o .speed ≤ most → SpeedEnds refusals most o
+  success : o .refusal ≡ 0 → o .place ≡ 0 → o .speed ≤ most → SpeedEnds refusals most o
   refusal : Among (o .refusal) refusals → o .speed ≡ 0 → SpeedEnds refusals most o
 
 -- "Altitude is -100,000 to 948,575 cm", and 0 to 1,048,575 as it is sent
 pub data AltitudeEnds (refusals : List ℕ) (o : Altitude) : Type 0 where
-  success : (v : ℕ) → v ≤ 1048575 → o .refusal ≡ 0 → o .altitude ≡ centimetres v → AltitudeEnds refusals o
+  success : (v : ℕ) → v ≤ 1048575 → o .refusal ≡ 0 → o .place ≡ 0 → o .altitude ≡ centimetres v → AltitudeEnds refusals o
   refusal : Among (o .refusal) refusals → o .altitude ≡ pos 0 → AltitudeEnds refusals o
 
 -- "Each public operation's contract has one possible outcome for every input": any two that satisfy it coincide, and end so

@@ -1,4 +1,4 @@
--- The ground of each refusal of each public operation: the input's own, then 8 of a conversion, 10 and 11 of a question. No operation is run.
+-- The ground of each refusal of each public operation, with its place: the input's own, then 8 of a conversion, 10 and 11 of a question. No operation is run.
 -- Assumes nothing.
 use mathlib.Core.Path.{_≡_}
 use mathlib.Core.Bool.{true, false}
@@ -17,73 +17,67 @@ use Rattle.speed.specs.Speed.{validTrain, segmentLength}
 use Rattle.question.specs.declared.Speed.{Speed}
 use Rattle.promises.specs.Promised.{SegmentPacketValues, SegmentSheetValues, OfValues}
 
--- "It returns its number": an answer's number is the refusal r, and not 0, which is success
-abbrev pub Refuses : ℕ → ℕ → Type 0
-Refuses number r = (number ≡ r) × (1 ≤ r)
+-- "Every refusal carries its place": what an answer says is the refusal r at this place, and r is not 0, which is success
+abbrev pub Refuses : ℕ × ℕ → ℕ → ℕ → Type 0
+Refuses said r place = (said ≡ (r, place)) × (1 ≤ r)
 
--- "A packet is judged 1, 2, 3, then field by field in order": its own grounds, at whatever place
-abbrev pub PacketRefused : List ℕ → ℕ → Type 0
-PacketRefused s r = (left : ℕ) × PacketGround segmentNumber (fields wireChanges) s r left
-
--- "A sheet is judged number by number": its own grounds, at whatever place
-abbrev pub SheetRefused : List ℕ → ℕ → Type 0
-SheetRefused s r = (left : ℕ) × SheetGround wireChanges s r left
-
--- the same where a journey is taken too
-abbrev pub EitherPacketRefused : List ℕ → ℕ → Type 0
-EitherPacketRefused s r = (left : ℕ) × EitherPacketGround s r left
-
-abbrev pub EitherSheetRefused : List ℕ → ℕ → Type 0
-EitherSheetRefused s r = (left : ℕ) × EitherSheetGround s r left
-
--- "Conversions then judge 8"
-pub data ConversionGround (Own : ℕ → Type 0) (Good : List Item → Type 0) (input result : List Item → List ℕ) (s room : List ℕ) (r : ℕ) : Type 0 where
-  own : Own r → ConversionGround Own Good input result s room r
+-- "Conversions then judge 8"; "For .. 8 .. it is 0"
+pub data ConversionGround (Own : ℕ → ℕ → Type 0) (Good : List Item → Type 0) (input result : List Item → List ℕ) (s room : List ℕ) (r place : ℕ) : Type 0 where
+  own : Own r place → ConversionGround Own Good input result s room r place
   -- "8: result longer than the lent room"
-  shortRoom : (w : OfValues Good input s) → length room < length (result (w .values)) → r ≡ 8 → ConversionGround Own Good input result s room r
+  shortRoom : (w : OfValues Good input s) → length room < length (result (w .values)) → r ≡ 8 → place ≡ 0 → ConversionGround Own Good input result s room r place
 
--- "speed questions judge 10, then 11"
-pub data QuestionGround (Own : ℕ → Type 0) (Good : List Item → Type 0) (input : List Item → List ℕ) (s : List ℕ) (t : Train) (x r : ℕ) : Type 0 where
-  own : Own r → QuestionGround Own Good input s t x r
+-- "speed questions judge 10, then 11"; "For .. 10 to 12 .. it is 0"
+pub data QuestionGround (Own : ℕ → ℕ → Type 0) (Good : List Item → Type 0) (input : List Item → List ℕ) (s : List ℕ) (t : Train) (x r place : ℕ) : Type 0 where
+  own : Own r place → QuestionGround Own Good input s t x r place
   -- "10: train length or cant deficiency not allowed"
-  badTrain : OfValues Good input s → validTrain t ≡ false → r ≡ 10 → QuestionGround Own Good input s t x r
+  badTrain : OfValues Good input s → validTrain t ≡ false → r ≡ 10 → place ≡ 0 → QuestionGround Own Good input s t x r place
   -- "11: x at or past L_SP"
-  pastEnd : (w : OfValues Good input s) → validTrain t ≡ true → segmentLength (sheetNumbers (w .values)) ≤ x → r ≡ 11 → QuestionGround Own Good input s t x r
+  pastEnd : (w : OfValues Good input s) → validTrain t ≡ true → segmentLength (sheetNumbers (w .values)) ≤ x → r ≡ 11 → place ≡ 0
+      → QuestionGround Own Good input s t x r place
 
 -- ---- by name, with the refusals that the C header lists
 
 -- "packet to sheet"
-abbrev pub PacketToSheetGround : List ℕ → List ℕ → ℕ → Type 0
-PacketToSheetGround s room r = ConversionGround (EitherPacketRefused s) EitherPacketValues toEitherPacket toEitherSheet s room r
+abbrev pub PacketToSheetGround : List ℕ → List ℕ → ℕ → ℕ → Type 0
+PacketToSheetGround s room r place = ConversionGround (EitherPacketGround s) EitherPacketValues toEitherPacket toEitherSheet s room r place
 
--- "1 to 8"
+-- "1 to 8" and "13 is new"
 abbrev pub packetToSheetRefusals : List ℕ
-packetToSheetRefusals = 1 ∷ 2 ∷ 3 ∷ 4 ∷ 5 ∷ 6 ∷ 7 ∷ 8 ∷ []
+packetToSheetRefusals = 1 ∷ 2 ∷ 3 ∷ 4 ∷ 5 ∷ 6 ∷ 7 ∷ 13 ∷ 8 ∷ []
 
 -- "sheet to packet"
-abbrev pub SheetToPacketGround : List ℕ → List ℕ → ℕ → Type 0
-SheetToPacketGround s room r = ConversionGround (EitherSheetRefused s) EitherSheetValues toEitherSheet toEitherPacket s room r
+abbrev pub SheetToPacketGround : List ℕ → List ℕ → ℕ → ℕ → Type 0
+SheetToPacketGround s room r place = ConversionGround (EitherSheetGround s) EitherSheetValues toEitherSheet toEitherPacket s room r place
 
 -- "2, 4, 5, 8, 9 or 12"
 abbrev pub sheetToPacketRefusals : List ℕ
 sheetToPacketRefusals = 2 ∷ 4 ∷ 5 ∷ 8 ∷ 9 ∷ 12 ∷ []
 
 -- "speed from a packet"
-abbrev pub SpeedFromPacketGround : List ℕ → Train → ℕ → ℕ → Type 0
-SpeedFromPacketGround s t x r = QuestionGround (PacketRefused s) SegmentPacketValues (toPacket wireChanges) s t x r
+abbrev pub SpeedFromPacketGround : List ℕ → Train → ℕ → ℕ → ℕ → Type 0
+SpeedFromPacketGround s t x r place = QuestionGround (PacketGround segmentNumber (fields wireChanges) s) SegmentPacketValues (toPacket wireChanges) s t x r place
 
--- "1 to 7, 10 or 11"
+-- "1 to 7, 10 or 11", and 13
 abbrev pub speedFromPacketRefusals : List ℕ
-speedFromPacketRefusals = 1 ∷ 2 ∷ 3 ∷ 4 ∷ 5 ∷ 6 ∷ 7 ∷ 10 ∷ 11 ∷ []
+speedFromPacketRefusals = 1 ∷ 2 ∷ 3 ∷ 4 ∷ 5 ∷ 6 ∷ 7 ∷ 13 ∷ 10 ∷ 11 ∷ []
 
 -- "speed from a sheet"
-abbrev pub SpeedFromSheetGround : List ℕ → Train → ℕ → ℕ → Type 0
-SpeedFromSheetGround s t x r = QuestionGround (SheetRefused s) SegmentSheetValues (toSheet wireChanges) s t x r
+abbrev pub SpeedFromSheetGround : List ℕ → Train → ℕ → ℕ → ℕ → Type 0
+SpeedFromSheetGround s t x r place = QuestionGround (SheetGround wireChanges s) SegmentSheetValues (toSheet wireChanges) s t x r place
 
 -- "2, 4, 5, 9, 10 or 11"
 abbrev pub speedFromSheetRefusals : List ℕ
 speedFromSheetRefusals = 2 ∷ 4 ∷ 5 ∷ 9 ∷ 10 ∷ 11 ∷ []
 
--- "1 to 7"
+-- "the altitude of a packet"
+abbrev pub AltitudeGround : List ℕ → ℕ → ℕ → Type 0
+AltitudeGround s r place = PacketGround segmentNumber (fields wireChanges) s r place
+
+-- "1 to 7", and 13
 abbrev pub altitudeRefusals : List ℕ
 altitudeRefusals = packetRefusals
+
+-- "For 1, 2, 3, 8, 10 to 12, success .. it is 0"
+abbrev pub placeless : List ℕ
+placeless = 0 ∷ 1 ∷ 2 ∷ 3 ∷ 8 ∷ 10 ∷ 11 ∷ 12 ∷ []

@@ -7,7 +7,7 @@ use lib.ListN.{replicate}
 use Rattle.kinds.specs.declared.Item.{Item}
 use Rattle.segment.specs.Segment.{wireChanges}
 use Rattle.segment.specs.Judgement.{toPacket, toSheet}
-use Rattle.segment.specs.Desk.{packetWith, firstPacket, firstSheet}
+use Rattle.segment.specs.Desk.{packetWith, firstPacket, firstSheet, counting}
 use Rattle.speed.specs.declared.Train.{Train}
 
 -- "They equal the packet fields": a value that is the same number in both
@@ -18,11 +18,12 @@ item v = record { sheet = v; packet = v }
 abbrev fallen : List Item
 fallen = item 6 ∷ replicate 9 (item 0) ++ item 1 ∷ replicate 6 (item 0) ++ item 1 ∷ item 0 ∷ []
 
--- 1: no byte. 2: the number 7. 3: a body of 1 bit in no byte. 4: the digit A. 5: a change at 0. 6: a body of no bit. 7: the document's, "Last byte 01"
+-- 1: no byte. 2: the number 7. 3: a body of 1 bit in no byte. 4: the digit A. 5: a change at 0. 6: a body of no bit. 7: the document's, "Last byte 01".
+-- 13: the document's, with a body of 186 bits
 abbrev pub refusedPackets : List (List ℕ)
 refusedPackets =
     [] ∷ (7 ∷ replicate 14 0) ∷ (6 ∷ 0 ∷ 1 ∷ replicate 12 0) ∷ (6 ∷ 0 ∷ 0 ∷ 0xA0 ∷ replicate 11 0) ∷ toPacket wireChanges fallen
-    ∷ (6 ∷ replicate 14 0) ∷ packetWith 0x01 0x00 0x3F 0xF0 0x01 ∷ []
+    ∷ (6 ∷ replicate 14 0) ∷ packetWith 0x01 0x00 0x3F 0xF0 0x01 ∷ counting 0xBA firstPacket ∷ []
 
 -- 2, "packet number is not 6": the number 7. 4, "a field outside its .. set": the digit A. 5, "is 0": a change at 0
 abbrev pub refusedSheets : List (List ℕ)

@@ -40,25 +40,25 @@ module _ (t : Train) (x lsp : ℕ) where
   -- ---- the answer by its refusal
 
   -- either a refusal with no speed, or no refusal and the speed
-  answer-by : {C : Type 0} (v : ℕ) → (judgedSpeed t x lsp 0 .refusal ≡ 0 → judgedSpeed t x lsp v ≡ record { refusal = 0; speed = v } → C)
-      → ((r : ℕ) → judgedSpeed t x lsp 0 .refusal ≡ r → (r ≡ 0 → ⊥) → judgedSpeed t x lsp v ≡ noSpeed r → C) → C
+  answer-by : {C : Type 0} (v : ℕ) → (judgedSpeed t x lsp 0 .refusal ≡ 0 → judgedSpeed t x lsp v ≡ record { refusal = 0; place = 0; speed = v } → C)
+      → ((r : ℕ) → judgedSpeed t x lsp 0 .refusal ≡ r → (r ≡ 0 → ⊥) → judgedSpeed t x lsp v ≡ noSpeed r 0 → C) → C
   answer-by v f g =
       by-cases (validTrain t)
       (λ a. by-cases (ltb x lsp) (λ b. f (rw (a, b)) (rw (a, b))) (λ b. g 11 (rw (a, b)) (λ q. omega arith) (rw (a, b))))
       (λ a. g 10 (rw a) (λ q. omega arith) (rw a))
 
   module _ {r : ℕ} (e : r ≡ judgedSpeed t x lsp 0 .refusal) (v : ℕ) where
-    pub no-speed : (r ≡ 0 → ⊥) → noSpeed r ≡ judgedSpeed t x lsp v
-    no-speed n = answer-by v (λ a b. absurd (n (e ∙ a))) (λ q a z b. ap noSpeed (e ∙ a) ∙ sym b)
+    pub no-speed : (r ≡ 0 → ⊥) → noSpeed r 0 ≡ judgedSpeed t x lsp v
+    no-speed n = answer-by v (λ a b. absurd (n (e ∙ a))) (λ q a z b. ap (λ (n : ℕ). noSpeed n 0) (e ∙ a) ∙ sym b)
 
-    pub some-speed : r ≡ 0 → record { refusal = 0; speed = v } ≡ judgedSpeed t x lsp v
+    pub some-speed : r ≡ 0 → record { refusal = 0; place = 0; speed = v } ≡ judgedSpeed t x lsp v
     some-speed z = answer-by v (λ a b. sym b) (λ q a n b. absurd (n (sym a ∙ sym e ∙ z)))
 
 -- ---- the answer by the verdict
 
-module _ {B : Type 0} {accepts refuses : ℕ → B} (sorts : Sorts accepts refuses) (size : List Item → ℕ) (t : Train) (x : ℕ) (r : Read) where
-  refused-so : (q : ℕ) → refuses q ≡ verdictOf accepts refuses size r → noSpeed q ≡ answerOf noSpeed (speedOfValues t x) r
-  refused-so q e = verdict-refused sorts size r q e λ left p. sym (ap (answerOf noSpeed (speedOfValues t x)) p)
+module _ {B : Type 0} {accepts : ℕ → B} {refuses : ℕ → ℕ → B} (sorts : Sorts accepts refuses) (size : List Item → ℕ) (t : Train) (x : ℕ) (r : Read) where
+  refused-so : (q place : ℕ) → refuses q place ≡ verdictOf accepts refuses size r → noSpeed q place ≡ answerOf noSpeed (speedOfValues t x) r
+  refused-so q place e = sym (ap (answerOf noSpeed (speedOfValues t x)) (verdict-refused sorts size r q place e))
 
   module _ (n : ℕ) (e : accepts n ≡ verdictOf accepts refuses size r) where
     accepted-so : r ≡ accepted (valuesOf r)
@@ -68,9 +68,9 @@ module _ {B : Type 0} {accepts refuses : ℕ → B} (sorts : Sorts accepts refus
     answered-so a b = ap₂ (judgedSpeed t x) a b ∙ sym (ap (answerOf noSpeed (speedOfValues t x)) accepted-so)
 
 module _ (s : List ℕ) (t : Train) (x : ℕ) where
-  pub packet-refused : (q : ℕ) → PacketVerdict.Refused q ≡ packetVerdict Segment s → noSpeed q ≡ speedFromPacket s t x
+  pub packet-refused : (q place : ℕ) → PacketVerdict.Refused q place ≡ packetVerdict Segment s → noSpeed q place ≡ speedFromPacket s t x
   unfolding packetVerdict speedFromPacket fromPacket fields sheetFields
-  packet-refused q e = refused-so packet-sorts (sizeFrom sheet (treeSheetFields Segment) 0) t x (fromPacket wireChanges s) q e
+  packet-refused q place e = refused-so packet-sorts (sizeFrom sheet (treeSheetFields Segment) 0) t x (fromPacket wireChanges s) q place e
 
   pub packet-accepted : (n : ℕ) → PacketVerdict.SheetBytes n ≡ packetVerdict Segment s → fromPacket wireChanges s ≡ accepted (valuesOf (fromPacket wireChanges s))
   unfolding packetVerdict fromPacket fields sheetFields
@@ -81,9 +81,9 @@ module _ (s : List ℕ) (t : Train) (x : ℕ) where
   unfolding packetVerdict speedFromPacket fromPacket fields sheetFields
   packet-answered n e a b = answered-so packet-sorts (sizeFrom sheet (treeSheetFields Segment) 0) t x (fromPacket wireChanges s) n e a b
 
-  pub sheet-refused : (q : ℕ) → SheetVerdict.Refused q ≡ sheetVerdict Segment s → noSpeed q ≡ speedFromSheet s t x
+  pub sheet-refused : (q place : ℕ) → SheetVerdict.Refused q place ≡ sheetVerdict Segment s → noSpeed q place ≡ speedFromSheet s t x
   unfolding sheetVerdict speedFromSheet fromSheet fields sheetFields
-  sheet-refused q e = refused-so sheet-sorts (sizeFrom packet (treeSheetFields Segment) 0) t x (fromSheet wireChanges s) q e
+  sheet-refused q place e = refused-so sheet-sorts (sizeFrom packet (treeSheetFields Segment) 0) t x (fromSheet wireChanges s) q place e
 
   pub sheet-accepted : (n : ℕ) → SheetVerdict.PacketBits n ≡ sheetVerdict Segment s → fromSheet wireChanges s ≡ accepted (valuesOf (fromSheet wireChanges s))
   unfolding sheetVerdict fromSheet fields sheetFields

@@ -12,13 +12,13 @@ use Rattle.speed.specs.declared.Train.{Train}
 use Rattle.speed.specs.Speed.{validTrain, segmentLength, speedIn}
 use Rattle.question.specs.declared.Speed.{Speed}
 
--- "It returns its number with length, speed or altitude 0"
-abbrev pub noSpeed : ℕ → Speed
-noSpeed r = record { refusal = r; speed = 0 }
+-- "It returns its number with length, speed or altitude 0"; "Every refusal carries its place"
+abbrev pub noSpeed : ℕ → ℕ → Speed
+noSpeed r place = record { refusal = r; place = place; speed = 0 }
 
--- "speed questions judge 10, then 11"
+-- "speed questions judge 10, then 11"; "For .. 10 to 12, success .. it is 0"
 abbrev pub judgedSpeed : Train → ℕ → ℕ → ℕ → Speed
-judgedSpeed t x lsp v = cond (validTrain t) (cond (ltb x lsp) (record { refusal = 0; speed = v }) (noSpeed 11)) (noSpeed 10)
+judgedSpeed t x lsp v = cond (validTrain t) (cond (ltb x lsp) (record { refusal = 0; place = 0; speed = v }) (noSpeed 11 0)) (noSpeed 10 0)
 
 -- the answer of the segment's values: "Speed from a packet uses the packet's speeds times 5, from a sheet the sheet's own"
 abbrev pub speedOfValues : Train → ℕ → List Item → Speed

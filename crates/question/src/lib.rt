@@ -6,10 +6,11 @@ use judge::SheetVerdict;
 use link::Tree;
 use speed::Train;
 
-// A refusal's number, or 0 and the permitted speed in km/h.
+// A refusal's number and its place, or 0 and the permitted speed in km/h.
 #[repr(C)]
 pub struct Speed {
     pub refusal: u32,
+    pub place: u32,
     pub speed: u32,
 }
 
@@ -18,10 +19,14 @@ pub const BAD_TRAIN: u32 = 10;
 
 pub const PAST_END: u32 = 11;
 
-fn refused(refusal: u32) -> Speed
-    ensures { λ r. ⌜ r ≡ noSpeed refusal ⌝ }
+fn refused(refusal: u32, place: u32) -> Speed
+    ensures { λ r. ⌜ r ≡ noSpeed refusal place ⌝ }
 {
-    Speed { refusal, speed: 0 }
+    Speed {
+        refusal,
+        place,
+        speed: 0,
+    }
 }
 
 // The refusal of a train and a place in a segment of this length, or 0.
@@ -42,14 +47,18 @@ pub fn speed_from_packet(packet: &[u8], train: Train, x: u32) -> Speed
     ensures { λ r. ⌜ r ≡ speedFromPacket (now (packet .entry)) train x ⌝ }
 {
     match judge_packet::judge_packet(Tree::Segment, packet) {
-        PacketVerdict::Refused(r) => refused(r),
+        PacketVerdict::Refused(r, place) => refused(r, place),
         PacketVerdict::SheetBytes(_) => {
             let refusal = refusal_of(train, x, ask_packet::length_of(packet));
             if refusal != 0 {
-                return refused(refusal);
+                return refused(refusal, 0);
             }
             let speed = ask_packet::permitted(packet, train, x);
-            Speed { refusal: 0, speed }
+            Speed {
+                refusal: 0,
+                place: 0,
+                speed,
+            }
         }
     }
 }
@@ -59,15 +68,19 @@ pub fn speed_from_sheet(sheet: &[u8], train: Train, x: u32) -> Speed
     ensures { λ r. ⌜ r ≡ speedFromSheet (now (sheet .entry)) train x ⌝ }
 {
     match judge_sheet::judge_sheet(Tree::Segment, sheet) {
-        SheetVerdict::Refused(r) => refused(r),
+        SheetVerdict::Refused(r, place) => refused(r, place),
         SheetVerdict::PacketBits(_) => {
             let start = ask_sheet::head(sheet);
             let refusal = refusal_of(train, x, start.lsp);
             if refusal != 0 {
-                return refused(refusal);
+                return refused(refusal, 0);
             }
             let speed = ask_sheet::permitted(sheet, start, train, x);
-            Speed { refusal: 0, speed }
+            Speed {
+                refusal: 0,
+                place: 0,
+                speed,
+            }
         }
     }
 }

@@ -8,7 +8,7 @@ use convert::Converted;
 use question::Speed;
 use speed::Train;
 
-// The sheet of a packet, in a lent room: a refusal's number, or 0 and the sheet's length.
+// The sheet of a packet, in a lent room: a refusal's number and place, or 0 and the sheet's length.
 #[no_mangle]
 pub extern "C" fn seglink_packet_to_sheet(packet: &[u8], room: &mut [u8]) -> Converted
     ensures { λ r. ⌜ record { answer = r; room = now (room .exit) } ≡ packetToSheet (now (packet .entry)) (now (room .entry)) ⌝ }
@@ -16,7 +16,7 @@ pub extern "C" fn seglink_packet_to_sheet(packet: &[u8], room: &mut [u8]) -> Con
     to_sheet::packet_to_sheet(packet, room)
 }
 
-// The packet of a sheet, in a lent room: a refusal's number, or 0 and the packet's length.
+// The packet of a sheet, in a lent room: a refusal's number and place, or 0 and the packet's length.
 #[no_mangle]
 pub extern "C" fn seglink_sheet_to_packet(sheet: &[u8], room: &mut [u8]) -> Converted
     ensures { λ r. ⌜ record { answer = r; room = now (room .exit) } ≡ sheetToPacket (now (sheet .entry)) (now (room .entry)) ⌝ }
@@ -24,7 +24,7 @@ pub extern "C" fn seglink_sheet_to_packet(sheet: &[u8], room: &mut [u8]) -> Conv
     to_packet::sheet_to_packet(sheet, room)
 }
 
-// The permitted speed at x for a train, from a packet: a refusal's number, or 0 and the speed in km/h.
+// The permitted speed at x for a train, from a packet: a refusal's number and place, or 0 and the speed in km/h.
 #[no_mangle]
 pub extern "C" fn seglink_speed_from_packet(packet: &[u8], train: Train, x: u32) -> Speed
     ensures { λ r. ⌜ r ≡ speedFromPacket (now (packet .entry)) train x ⌝ }
@@ -32,7 +32,7 @@ pub extern "C" fn seglink_speed_from_packet(packet: &[u8], train: Train, x: u32)
     question::speed_from_packet(packet, train, x)
 }
 
-// The permitted speed at x for a train, from a sheet: a refusal's number, or 0 and the speed in km/h.
+// The permitted speed at x for a train, from a sheet: a refusal's number and place, or 0 and the speed in km/h.
 #[no_mangle]
 pub extern "C" fn seglink_speed_from_sheet(sheet: &[u8], train: Train, x: u32) -> Speed
     ensures { λ r. ⌜ r ≡ speedFromSheet (now (sheet .entry)) train x ⌝ }
@@ -40,7 +40,7 @@ pub extern "C" fn seglink_speed_from_sheet(sheet: &[u8], train: Train, x: u32) -
     question::speed_from_sheet(sheet, train, x)
 }
 
-// The altitude of a packet in signed centimetres: a refusal's number, or 0 and the altitude.
+// The altitude of a packet in signed centimetres: a refusal's number and place, or 0 and the altitude.
 #[no_mangle]
 pub extern "C" fn seglink_altitude_of_packet(packet: &[u8]) -> Altitude
     ensures { λ r. ⌜ r ≡ altitudeOf (now (packet .entry)) ⌝ }

@@ -3,6 +3,7 @@
 use mathlib.Core.Path.{_≡_, refl, sym, ap, ap₂, _∙_}
 use mathlib.Core.Bool.{Bool, true, false}
 use mathlib.Core.List.{List, [], _∷_, _++_, append-assoc}
+use mathlib.Core.Option.{Option, none, some}
 use Prim.Native.Nat.{ℕ, zero, suc, _+_, _*_, _-_, _/_, _^_, _<_, _≤_}
 use native.Mathlib.Nat.{mod-eq-of-lt}
 use native.Mathlib.Omega.{arith}
@@ -21,7 +22,7 @@ use Rattle.format.specs.Media.{packet}
 use Rattle.format.specs.Conforming.{Conforming, InPacket}
 use Rattle.format.proofs.Generic.{never}
 use Rattle.format.proofs.Media.{packet-again, packet-only}
-use Rattle.segment.specs.Frame.{packetNumber, bodyBits, fieldBits, padding, fromOne, numberItem, padded, unframed, frame, packetOfBits}
+use Rattle.segment.specs.Frame.{packetNumber, bodyBits, fieldBits, padding, firstOne, numberItem, padded, unframed, frame, packetOfBits}
 
 pub frame-length : (n : ℕ) (b : List Bool) → length (frame n b) ≡ 24 + length b
 frame-length n b =
@@ -32,29 +33,29 @@ framed-length n b = length-pack ((length (frame n b) + 7) / 8) (frame n b) ∙ r
 
 -- ---- zero bits
 
-no-one : (n : ℕ) → fromOne (zeros n) ≡ []
+no-one : (n at : ℕ) → firstOne at (zeros n) ≡ none
 unfolding zeros
-no-one zero = refl
-no-one (suc n) = no-one n
+no-one zero at = refl
+no-one (suc n) at = no-one n (at + 1)
 
-all-zero : (s : List Bool) → fromOne s ≡ [] → fill (length s) [] ≡ s
-all-zero [] e = refl
-all-zero (true ∷ s) e = absurd (let z : _≡_ {A = ℕ} 0 1 = cc in omega arith)
-all-zero (false ∷ s) e = ap (λ (l : List Bool). false ∷ l) (all-zero s e)
+all-zero : (at : ℕ) (s : List Bool) → firstOne at s ≡ none → fill (length s) [] ≡ s
+all-zero at [] e = refl
+all-zero at (true ∷ s) e = absurd (let z : _≡_ {A = ℕ} 0 1 = cc in omega arith)
+all-zero at (false ∷ s) e = ap (λ (l : List Bool). false ∷ l) (all-zero (at + 1) s e)
 
 -- bits whose padding is zero are their front, filled up
-fill-front : (s : List Bool) (m : ℕ) → fromOne (drop m s) ≡ [] → fill (length s) (take m s) ≡ s
-fill-front s zero e = all-zero s e
-fill-front [] (suc m) e = refl
-fill-front (b ∷ s) (suc m) e = ap (λ (l : List Bool). b ∷ l) (fill-front s m e)
+fill-front : (at : ℕ) (s : List Bool) (m : ℕ) → firstOne at (drop m s) ≡ none → fill (length s) (take m s) ≡ s
+fill-front at s zero e = all-zero at s e
+fill-front at [] (suc m) e = refl
+fill-front at (b ∷ s) (suc m) e = ap (λ (l : List Bool). b ∷ l) (fill-front at s m e)
 
 -- bytes whose bits past the first m are zero are the bytes of the first m
-bytes-only : (s : List ℕ) (m : ℕ) → Bytes s → m ≤ 8 * length s → (m + 7) / 8 ≡ length s → fromOne (drop m (bitsOfBytes s)) ≡ []
+bytes-only : (s : List ℕ) (m : ℕ) → Bytes s → m ≤ 8 * length s → (m + 7) / 8 ≡ length s → firstOne m (drop m (bitsOfBytes s)) ≡ none
     → bytesOfBits (take m (bitsOfBytes s)) ≡ s
 bytes-only s m ok h n e =
     let x = bitsOfBytes s in
     let l : length (take m x) ≡ m = length-take-le m x (rw length-bytes h) in
-    rw (l, n, ← pack-fill (length s) (take m x), ← length-bytes s, fill-front x m e) (pack-bytes s ok)
+    rw (l, n, ← pack-fill (length s) (take m x), ← length-bytes s, fill-front m x m e) (pack-bytes s ok)
 
 -- ---- read after write
 
@@ -94,12 +95,12 @@ module _ (n : ℕ) (b : List Bool) (low : 96 ≤ length b) (high : length b < 96
   framed-fields : fieldBits (packetOfBits n b) ≡ b
   framed-fields = let e : 96 + (length b - 96) ≡ length b = omega arith in rw (framed-body, e, after-24) (take-at b pad (length b) refl)
 
-  framed-padding : fromOne (padding (packetOfBits n b)) ≡ []
+  framed-padding : (at : ℕ) → firstOne at (padding (packetOfBits n b)) ≡ none
   unfolding pad
-  framed-padding =
+  framed-padding at =
       let e : 120 + (length b - 96) ≡ 24 + length b = omega arith in
       rw (framed-body, e, ← drop-drop (length b) 24 (bitsOfBytes (packetOfBits n b)), after-24, drop-at b (zeros (8 * size - length (frame n b))) (length b) refl)
-      (no-one (8 * size - length (frame n b)))
+      (no-one (8 * size - length (frame n b)) at)
 
 -- a framed packet is accepted, with the values that it was written of
 pub framed-again : (n : ℕ) (f : Format) (l : List Item) → n < 256 → Conforming InPacket f l
@@ -109,11 +110,11 @@ framed-again n f l small c low high =
     let b = write packet f l in
     let long : length (packetOfBits n b) ≡ (24 + length b + 7) / 8 = framed-length n b in
     rw (
-      framed-padding n b low high small,
+      framed-padding n b low high small (120 + bodyBits (packetOfBits n b)),
       framed-fields n b low high small,
       framed-number n b low high small,
       framed-body n b low high small,
-      packet-again c,
+      packet-again c 24,
       le-ltb (length (packetOfBits n b)) 15 (omega arith),
       eq-eqb n n refl,
       eq-eqb (length (packetOfBits n b)) (15 + (length b - 96 + 7) / 8) (omega arith),
@@ -121,11 +122,11 @@ framed-again n f l small c low high =
 
 -- ---- write after read
 
-pub padded-accepted : {C : Type 0} (n : ℕ) (rest : List Bool) (r : Read) (l : List Item) → padded n rest r ≡ accepted l
-    → ((m : List Item) → r ≡ accepted m → rest ≡ [] → l ≡ numberItem n ∷ m → C) → C
-padded-accepted n rest (refused r left) l e f = absurd (never e)
-padded-accepted n [] (accepted m) l e f = f m refl refl (cc)
-padded-accepted n (b ∷ rest) (accepted m) l e f = absurd (never e)
+pub padded-accepted : {C : Type 0} (n : ℕ) (one : Option ℕ) (r : Read) (l : List Item) → padded n one r ≡ accepted l
+    → ((m : List Item) → r ≡ accepted m → one ≡ none → l ≡ numberItem n ∷ m → C) → C
+padded-accepted n one (refused r place) l e f = absurd (never e)
+padded-accepted n none (accepted m) l e f = f m refl refl (cc)
+padded-accepted n (some place) (accepted m) l e f = absurd (never e)
 
 pub record Framed (n : ℕ) (f : Format) (s : List ℕ) (l : List Item) : Type 0 where
   pub values : List Item
@@ -157,8 +158,8 @@ framed-only n f s l ok e =
     by-cases (ltb (length s) 15) (λ a. absurd (never (rw a at e))) λ a.
     by-cases (eqb (packetNumber s) n) (λ b.
     by-cases (eqb (length s) (15 + (m + 7) / 8)) (λ c.
-    padded-accepted n (fromOne (padding s)) (read packet f (fieldBits s)) l (rw (a, b, c) at e) λ v p none q.
-    let r = packet-only f (fieldBits s) v p in
+    padded-accepted n (firstOne (120 + m) (padding s)) (read packet f 24 (fieldBits s)) l (rw (a, b, c) at e) λ v p zero q.
+    let r = packet-only f 24 (fieldBits s) v p in
     let long : 15 ≤ length s = ltb-false (length s) 15 a in
     let size : length s ≡ 15 + (m + 7) / 8 = eqb-true (length s) (15 + (m + 7) / 8) c in
     let number : packetNumber s ≡ n = eqb-true (packetNumber s) n b in
@@ -171,7 +172,7 @@ framed-only n f s l ok e =
       values = v;
       all = q;
       good = r .0;
-      bytes = rw (← r .1) (sym (bytes-only s (120 + m) ok room (omega arith) none) ∙ ap bytesOfBits (sym whole));
+      bytes = rw (← r .1) (sym (bytes-only s (120 + m) ok room (omega arith) zero) ∙ ap bytesOfBits (sym whole));
       few = rw (← r .1) (omega (arith, field-small s 8 16 16 (omega arith)));
     })
     (λ c. absurd (never (rw (a, b, c) at e))))

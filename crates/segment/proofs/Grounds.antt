@@ -3,6 +3,7 @@
 use mathlib.Core.Path.{_≡_, refl, sym, ap, _∙_}
 use mathlib.Core.Bool.{Bool, true, false}
 use mathlib.Core.List.{List, [], _∷_, _++_}
+use mathlib.Core.Option.{Option, none, some}
 use mathlib.Core.Logic.{_↔_}
 use Prim.Native.Nat.{ℕ, zero, suc, _+_, _/_, _≤_}
 use native.Mathlib.Omega.{arith}
@@ -21,83 +22,82 @@ use Rattle.format.specs.Grounds.{BitsFault, GroupsFault, Ground, atField, leftO
 use Rattle.format.proofs.Generic.{never}
 use Rattle.format.proofs.Grounds.{every-front, every-map, packet-written, packet-ground, sheet-ground}
 use Rattle.segment.specs.Segment.{entries, profile, voltage, current, changes, part, lists, body, fields, sheetFields}
-use Rattle.segment.specs.Frame.{packetNumber, bodyBits, fieldBits, padding, fromOne, padded, unframed}
+use Rattle.segment.specs.Frame.{packetNumber, bodyBits, fieldBits, padding, firstOne, padded, unframed}
 use Rattle.segment.specs.Judgement.{fromSheet}
 use Rattle.segment.specs.Grounds.{WellFramed, FirstOne, PacketGround, short, otherNumber, otherSize, inFields, inPadding, SheetGround, FieldRefusal, asValue, asLocation, packetRefusals, sheetRefusals}
 
 -- ---- the first padding bit that is 1
 
-one-first : (bits : List Bool) (b : Bool) (more : List Bool) → fromOne bits ≡ b ∷ more → FirstOne bits (length (b ∷ more))
-one-first [] b more e = absurd (let z : _≡_ {A = ℕ} 0 1 = cc in omega arith)
-one-first (true ∷ bits) b more e =
-    let q : more ≡ bits = cc in
-    record { zeros = 0; more = bits; whole = refl; place = rw q }
-one-first (false ∷ bits) b more e =
-    let o = one-first bits b more e in
-    record { zeros = suc (o .zeros); more = o .more; whole = ap (λ (l : List Bool). false ∷ l) (o .whole); place = o .place }
+one-first : (at : ℕ) (bits : List Bool) (place : ℕ) → firstOne at bits ≡ some place → FirstOne at bits place
+one-first at [] place e = absurd (let z : _≡_ {A = ℕ} 0 1 = cc in omega arith)
+one-first at (true ∷ bits) place e =
+    let q : at ≡ place = cc in
+    record { zeros = 0; more = bits; whole = refl; stands = omega arith }
+one-first at (false ∷ bits) place e =
+    let o = one-first (at + 1) bits place e in
+    record { zeros = suc (o .zeros); more = o .more; whole = ap (λ (l : List Bool). false ∷ l) (o .whole); stands = omega (arith, o .stands) }
 
-first-one : (zeros : ℕ) (more : List Bool) → fromOne (fill zeros [] ++ true ∷ more) ≡ true ∷ more
-first-one zero more = refl
-first-one (suc n) more = first-one n more
+first-one : (at zeros : ℕ) (more : List Bool) → firstOne at (fill zeros [] ++ true ∷ more) ≡ some (at + zeros)
+first-one at zero more = let e : at + 0 ≡ at = omega arith in rw e
+first-one at (suc n) more = let e : at + suc n ≡ at + 1 + n = omega arith in rw e (first-one (at + 1) n more)
 
 -- ---- a packet
 
-padded-refused : {C : Type 0} (n : ℕ) (rest : List Bool) (t : Read) (r left : ℕ) → padded n rest t ≡ refused r left
-    → (t ≡ refused r left → C)
-    → ((l : List Item) (b : Bool) (more : List Bool) → t ≡ accepted l → rest ≡ b ∷ more → r ≡ 7 → left ≡ length (b ∷ more) → C) → C
-padded-refused n rest (refused q m) r left e inside after = inside e
-padded-refused n [] (accepted l) r left e inside after = absurd (never (sym e))
-padded-refused n (b ∷ rest) (accepted l) r left e inside after = after l b rest refl refl (cc) (cc)
+padded-refused : {C : Type 0} (n : ℕ) (one : Option ℕ) (t : Read) (r place : ℕ) → padded n one t ≡ refused r place
+    → (t ≡ refused r place → C)
+    → ((l : List Item) → t ≡ accepted l → one ≡ some place → r ≡ 7 → C) → C
+padded-refused n one (refused q m) r place e inside after = inside e
+padded-refused n none (accepted l) r place e inside after = absurd (never (sym e))
+padded-refused n (some p) (accepted l) r place e inside after = let q : p ≡ place = cc in after l refl (rw q) (cc)
 
-module _ (n : ℕ) (f : Format) (s : List ℕ) (r left : ℕ) where
+module _ (n : ℕ) (f : Format) (s : List ℕ) (r place : ℕ) where
   -- the fields and the padding, once the frame is judged
   inside : Read
-  inside = padded n (fromOne (padding s)) (read packet f (fieldBits s))
+  inside = padded n (firstOne (120 + bodyBits s) (padding s)) (read packet f 24 (fieldBits s))
 
   framed-judged : WellFramed n s → unframed n f s ≡ inside
   unfolding inside
   framed-judged w =
       rw (le-ltb (length s) 15 (w .long), eq-eqb (packetNumber s) n (w .number), eq-eqb (length s) (15 + (bodyBits s + 7) / 8) (w .size))
 
-  inside-ground : WellFramed n s → inside ≡ refused r left → PacketGround n f s r left
+  inside-ground : WellFramed n s → inside ≡ refused r place → PacketGround n f s r place
   unfolding inside
   inside-ground w e =
-      padded-refused n (fromOne (padding s)) (read packet f (fieldBits s)) r left e
-      (λ g. inFields w (packet-ground f (fieldBits s) r left .0 g))
-      λ l b more a o q p.
-      inPadding w l (packet-written f (fieldBits s) l .0 a) (rw p (one-first (padding s) b more o)) q
+      padded-refused n (firstOne (120 + bodyBits s) (padding s)) (read packet f 24 (fieldBits s)) r place e
+      (λ g. inFields w (packet-ground f 24 (fieldBits s) r place .0 g))
+      λ l a o q. inPadding w l (packet-written f 24 (fieldBits s) l .0 a) (one-first (120 + bodyBits s) (padding s) place o) q
 
-  ground : unframed n f s ≡ refused r left → PacketGround n f s r left
+  ground : unframed n f s ≡ refused r place → PacketGround n f s r place
   ground e =
-      by-cases (ltb (length s) 15) (λ a. let g : refused 1 0 ≡ refused r left = rw a at e in short (ltb-true (length s) 15 a) (cc) (cc)) λ a.
+      by-cases (ltb (length s) 15) (λ a. let g : refused 1 0 ≡ refused r place = rw a at e in short (ltb-true (length s) 15 a) (cc) (cc)) λ a.
       let long : 15 ≤ length s = ltb-false (length s) 15 a in
       by-cases (eqb (packetNumber s) n) (λ b.
       let number : packetNumber s ≡ n = eqb-true (packetNumber s) n b in
       by-cases (eqb (length s) (15 + (bodyBits s + 7) / 8)) (λ c.
       let w : WellFramed n s = record { long = long; number = number; size = eqb-true (length s) (15 + (bodyBits s + 7) / 8) c } in
       inside-ground w (sym (framed-judged w) ∙ e))
-      (λ c. let g : refused 3 0 ≡ refused r left = rw (a, b, c) at e in otherSize long number (eqb-false (length s) (15 + (bodyBits s + 7) / 8) c) (cc) (cc)))
-      (λ b. let g : refused 2 0 ≡ refused r left = rw (a, b) at e in otherNumber long (eqb-false (packetNumber s) n b) (cc) (cc))
+      (λ c. let g : refused 3 0 ≡ refused r place = rw (a, b, c) at e in otherSize long number (eqb-false (length s) (15 + (bodyBits s + 7) / 8) c) (cc) (cc)))
+      (λ b. let g : refused 2 0 ≡ refused r place = rw (a, b) at e in otherNumber long (eqb-false (packetNumber s) n b) (cc) (cc))
 
-  given : PacketGround n f s r left → unframed n f s ≡ refused r left
+  given : PacketGround n f s r place → unframed n f s ≡ refused r place
   unfolding inside
   given (short h e p) = rw (lt-ltb (length s) 15 h, e, p)
   given (otherNumber h d e p) = rw (le-ltb (length s) 15 h, ne-eqb (packetNumber s) n d, e, p)
   given (otherSize h d z e p) =
       rw (le-ltb (length s) 15 h, eq-eqb (packetNumber s) n d, ne-eqb (length s) (15 + (bodyBits s + 7) / 8) z, e, p)
-  given (inFields w g) = framed-judged w ∙ ap (padded n (fromOne (padding s))) (packet-ground f (fieldBits s) r left .1 g)
+  given (inFields w g) = framed-judged w ∙ ap (padded n (firstOne (120 + bodyBits s) (padding s))) (packet-ground f 24 (fieldBits s) r place .1 g)
   given (inPadding w l a o e) =
-      framed-judged w ∙ rw (packet-written f (fieldBits s) l .1 a, o .whole, first-one (o .zeros) (o .more), e, o .place)
+      framed-judged w ∙ rw (packet-written f 24 (fieldBits s) l .1 a, o .whole, first-one (120 + bodyBits s) (o .zeros) (o .more), e, o .stands)
 
   -- "Each refusal is given then and not otherwise"
-  pub packet-grounds : (unframed n f s ≡ refused r left) ↔ PacketGround n f s r left
+  pub packet-grounds : (unframed n f s ≡ refused r place) ↔ PacketGround n f s r place
   packet-grounds = (ground, given)
 
 -- ---- a sheet
 
-pub sheet-grounds : (limit : ℕ) (s : List ℕ) (r left : ℕ) → Bytes s → (fromSheet limit s ≡ refused r left) ↔ SheetGround limit s r left
+pub sheet-grounds : (limit : ℕ) (s : List ℕ) (r place : ℕ) → Bytes s → (fromSheet limit s ≡ refused r place) ↔ SheetGround limit s r place
 unfolding fromSheet
-sheet-grounds limit s r left ok = sheet-ground (sheetFields limit) s r left ok
+sheet-grounds limit s r place ok = sheet-ground (sheetFields limit) 0 s r place ok
 
 -- ---- a location of a change is refused with 5, every other field after the packet number with 4
 
@@ -150,13 +150,13 @@ bits-listed f (BitsFault.unfitting h e) = rw e (later (later (later (later (late
 bits-listed f (BitsFault.unallowed v more fits whole a e) =
     listed f (λ q. rw (e, q) (later (later (later first)))) (λ q. rw (e, q) (later (later (later (later first)))))
 
-pub packet-listed : (n : ℕ) {f : Format} → Every FieldRefusal f → (s : List ℕ) (r left : ℕ) → PacketGround n f s r left → Among r packetRefusals
-packet-listed n every s r left (short h e p) = rw e first
-packet-listed n every s r left (otherNumber h d e p) = rw e (later first)
-packet-listed n every s r left (otherSize h d z e p) = rw e (later (later first))
-packet-listed n every s r left (inFields w (atField a)) = bits-listed (every-front every (a .front)) (a .fault)
-packet-listed n every s r left (inFields w (leftOver a)) = rw (a .number) (later (later (later (later (later first)))))
-packet-listed n every s r left (inPadding w l a o e) = rw e (later (later (later (later (later (later first))))))
+pub packet-listed : (n : ℕ) {f : Format} → Every FieldRefusal f → (s : List ℕ) (r place : ℕ) → PacketGround n f s r place → Among r packetRefusals
+packet-listed n every s r place (short h e p) = rw e first
+packet-listed n every s r place (otherNumber h d e p) = rw e (later first)
+packet-listed n every s r place (otherSize h d z e p) = rw e (later (later first))
+packet-listed n every s r place (inFields w (atField a)) = bits-listed (every-front every (a .front)) (a .fault)
+packet-listed n every s r place (inFields w (leftOver a)) = rw (a .number) (later (later (later (later (later (later (later first)))))))
+packet-listed n every s r place (inPadding w l a o e) = rw e (later (later (later (later (later (later first))))))
 
 -- the refusals of a sheet's fields after the packet number, whose own is 2
 pub numbers-refusals : {f : Format} → Every FieldRefusal f → Every (λ k. Among (k .refusal) sheetRefusals) f
@@ -171,9 +171,10 @@ groups-listed f (GroupsFault.numberless n e) = rw e (later (later (later first))
 groups-listed f (GroupsFault.unallowed a b l e) = rw e f
 
 -- of any tree
-pub numbers-listed : {f : Format} → Every (λ k. Among (k .refusal) sheetRefusals) f → (s : List ℕ) (r left : ℕ) → Ground sheet InSheet GroupsFault f s r left → Among r sheetRefusals
-numbers-listed every s r left (atField a) = groups-listed (every-front every (a .front)) (a .fault)
-numbers-listed every s r left (leftOver a) = rw (a .number) (later (later (later first)))
+pub numbers-listed : {f : Format} → Every (λ k. Among (k .refusal) sheetRefusals) f → (at : ℕ) (s : List ℕ) (r place : ℕ) → Ground sheet InSheet GroupsFault f at s r place
+    → Among r sheetRefusals
+numbers-listed every at s r place (atField a) = groups-listed (every-front every (a .front)) (a .fault)
+numbers-listed every at s r place (leftOver a) = rw (a .number) (later (later (later first)))
 
-pub sheet-listed : (limit : ℕ) (s : List ℕ) (r left : ℕ) → SheetGround limit s r left → Among r sheetRefusals
-sheet-listed limit s r left g = numbers-listed (sheet-refusals limit) s r left g
+pub sheet-listed : (limit : ℕ) (s : List ℕ) (r place : ℕ) → SheetGround limit s r place → Among r sheetRefusals
+sheet-listed limit s r place g = numbers-listed (sheet-refusals limit) 0 s r place g

@@ -22,10 +22,10 @@ pub among-positive : {r : ℕ} {l : List ℕ} → Among r l → positive l ≡ t
 among-positive {r} (first {l = l}) e = leb-true 1 r (and-left (leb 1 r) (positive l) e)
 among-positive (later {b = b} {l = l} a) e = among-positive a (and-right (leb 1 b) (positive l) e)
 
-module _ (limit : ℕ) (s : List ℕ) (r left : ℕ) where
-  pub packet-refusal : fromPacket limit s ≡ refused r left → 1 ≤ r
+module _ (limit : ℕ) (s : List ℕ) (r place : ℕ) where
+  pub packet-refusal : fromPacket limit s ≡ refused r place → 1 ≤ r
   unfolding fromPacket
-  packet-refusal e = among-positive (packet-listed segmentNumber (fields-refusals limit) s r left (packet-grounds segmentNumber (fields limit) s r left .0 e)) refl
+  packet-refusal e = among-positive (packet-listed segmentNumber (fields-refusals limit) s r place (packet-grounds segmentNumber (fields limit) s r place .0 e)) refl
 
-  pub sheet-refusal : Bytes s → fromSheet limit s ≡ refused r left → 1 ≤ r
-  sheet-refusal ok e = among-positive (sheet-listed limit s r left (sheet-grounds limit s r left ok .0 e)) refl
+  pub sheet-refusal : Bytes s → fromSheet limit s ≡ refused r place → 1 ≤ r
+  sheet-refusal ok e = among-positive (sheet-listed limit s r place (sheet-grounds limit s r place ok .0 e)) refl

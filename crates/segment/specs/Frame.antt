@@ -2,6 +2,7 @@
 -- Assumes nothing.
 use mathlib.Core.Bool.{Bool, true, false, cond}
 use mathlib.Core.List.{List, [], _∷_, _++_}
+use mathlib.Core.Option.{Option, none, some}
 use Prim.Native.Nat.{ℕ, _+_, _-_, _/_}
 use lib.Dec.{eqb, ltb}
 use lib.ListN.{length, take, drop}
@@ -26,26 +27,27 @@ fieldBits s = take (96 + bodyBits s) (drop 24 (bitsOfBytes s))
 abbrev pub padding : List ℕ → List Bool
 padding s = drop (120 + bodyBits s) (bitsOfBytes s)
 
--- "a padding bit is 1": from the first such bit on
-abbrev pub fromOne : List Bool → List Bool
-fromOne [] = []
-fromOne (true ∷ s) = true ∷ s
-fromOne (false ∷ s) = fromOne s
+-- "For padding it is the first bit that is 1": its place, where the bits stand at the place at
+abbrev pub firstOne : ℕ → List Bool → Option ℕ
+firstOne at [] = none
+firstOne at (true ∷ s) = some at
+firstOne at (false ∷ s) = firstOne (at + 1) s
 
 -- "the packet number, 6, comes first": its own item
 abbrev pub numberItem : ℕ → Item
 numberItem n = record { sheet = n; packet = n }
 
 -- "7: a padding bit is 1", judged after the fields
-abbrev pub padded : ℕ → List Bool → Read → Read
-padded n rest (refused r left) = refused r left
-padded n [] (accepted l) = accepted (numberItem n ∷ l)
-padded n (b ∷ rest) (accepted l) = refused 7 (length (b ∷ rest))
+abbrev pub padded : ℕ → Option ℕ → Read → Read
+padded n one (refused r place) = refused r place
+padded n none (accepted l) = accepted (numberItem n ∷ l)
+padded n (some place) (accepted l) = refused 7 place
 
--- "A packet is judged 1, 2, 3, then field by field in order (6 before 4 or 5), then 6 for bits left, then 7"
+-- "A packet is judged 1, 2, 3, then field by field in order (6 before 4 or 5)", then 13 for bits left, "then 7"; the fields stand at bit 24,
+-- "counted from 0 at the packet's start", and the padding after 120 bits and the body's; "For 1, 2, 3 .. it is 0"
 abbrev pub unframed : ℕ → Format → List ℕ → Read
 unframed n f s =
-    let fieldByField : Read = padded n (fromOne (padding s)) (read packet f (fieldBits s)) in
+    let fieldByField : Read = padded n (firstOne (120 + bodyBits s) (padding s)) (read packet f 24 (fieldBits s)) in
     cond (ltb (length s) 15) (refused 1 0)
     (cond (eqb (packetNumber s) n)
     (cond (eqb (length s) (15 + (bodyBits s + 7) / 8)) fieldByField (refused 3 0))

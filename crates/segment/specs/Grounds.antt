@@ -26,39 +26,39 @@ pub record WellFramed (n : ℕ) (s : List ℕ) : Type 0 where
   pub number : packetNumber s ≡ n
   pub size : Sized s
 
--- "a padding bit is 1": zero bits and then a 1, from which on so many are left
-pub record FirstOne (bits : List Bool) (left : ℕ) : Type 0 where
+-- "a padding bit is 1": zero bits from the place at on and then a 1, "the first bit that is 1"
+pub record FirstOne (at : ℕ) (bits : List Bool) (place : ℕ) : Type 0 where
   pub zeros : ℕ
   pub more : List Bool
   pub whole : bits ≡ fill zeros [] ++ true ∷ more
-  pub place : left ≡ length (true ∷ more)
+  pub stands : place ≡ at + zeros
 
--- "A packet is judged 1, 2, 3, then field by field in order (6 before 4 or 5), then 6 for bits left, then 7"; 1, 2 and 3 have no place, and 0 for it
-pub data PacketGround (n : ℕ) (f : Format) (s : List ℕ) (r left : ℕ) : Type 0 where
+-- "A packet is judged 1, 2, 3, then field by field in order (6 before 4 or 5)", then 13 for bits left, "then 7"; "For 1, 2, 3 .. it is 0"
+pub data PacketGround (n : ℕ) (f : Format) (s : List ℕ) (r place : ℕ) : Type 0 where
   -- "1: a packet has fewer than 15 bytes"
-  short : length s < 15 → r ≡ 1 → left ≡ 0 → PacketGround n f s r left
+  short : length s < 15 → r ≡ 1 → place ≡ 0 → PacketGround n f s r place
   -- "2: packet number is not 6", 4 for a journey
-  otherNumber : 15 ≤ length s → (packetNumber s ≡ n → ⊥) → r ≡ 2 → left ≡ 0 → PacketGround n f s r left
+  otherNumber : 15 ≤ length s → (packetNumber s ≡ n → ⊥) → r ≡ 2 → place ≡ 0 → PacketGround n f s r place
   -- "3: bytes are not 15 + L_PACKET_ATO / 8, rounded up"
-  otherSize : 15 ≤ length s → packetNumber s ≡ n → (Sized s → ⊥) → r ≡ 3 → left ≡ 0 → PacketGround n f s r left
-  -- 4, 5 or 6: a field, or bits that are left over
-  inFields : WellFramed n s → Ground packet InPacket BitsFault f (fieldBits s) r left → PacketGround n f s r left
+  otherSize : 15 ≤ length s → packetNumber s ≡ n → (Sized s → ⊥) → r ≡ 3 → place ≡ 0 → PacketGround n f s r place
+  -- 4, 5, 6 or 13: a field, or bits that are left over, "counted from 0 at the packet's start"
+  inFields : WellFramed n s → Ground packet InPacket BitsFault f 24 (fieldBits s) r place → PacketGround n f s r place
   -- "7: a padding bit is 1"
-  inPadding : WellFramed n s → (values : List Item) → Written packet InPacket f (fieldBits s) values → FirstOne (padding s) left → r ≡ 7
-      → PacketGround n f s r left
+  inPadding : WellFramed n s → (values : List Item) → Written packet InPacket f (fieldBits s) values → FirstOne (120 + bodyBits s) (padding s) place → r ≡ 7
+      → PacketGround n f s r place
 
 -- "A sheet is judged number by number, 9 before 2, 4 or 5; then 9 for bytes left"
 abbrev pub SheetGround : ℕ → List ℕ → ℕ → ℕ → Type 0
-SheetGround limit s r left = Ground sheet InSheet GroupsFault (sheetFields limit) s r left
+SheetGround limit s r place = Ground sheet InSheet GroupsFault (sheetFields limit) 0 s r place
 
 -- "4: a field outside its range or set", "5: a change's location ..; 4 is not given for locations of changes"
 pub data FieldRefusal (k : Kind) : Type 0 where
   asValue : k .refusal ≡ 4 → FieldRefusal k
   asLocation : (last lsp : ℕ) → k ≡ dLocation last lsp → FieldRefusal k
 
--- "A packet is judged 1, 2, 3, then .. 6 before 4 or 5 .., then 7": its refusals
+-- "A packet is judged 1, 2, 3, then .. 6 before 4 or 5 .., then 7", "13 is new": its refusals
 abbrev pub packetRefusals : List ℕ
-packetRefusals = 1 ∷ 2 ∷ 3 ∷ 4 ∷ 5 ∷ 6 ∷ 7 ∷ []
+packetRefusals = 1 ∷ 2 ∷ 3 ∷ 4 ∷ 5 ∷ 6 ∷ 7 ∷ 13 ∷ []
 
 -- "9 before 2, 4 or 5": the refusals of a sheet
 abbrev pub sheetRefusals : List ℕ

@@ -20,7 +20,7 @@ fromPacket limit s = unframed segmentNumber (fields limit) s
 -- "A sheet is judged number by number, 9 before 2, 4 or 5; then 9 for bytes left"
 unfoldable pub fromSheet : ℕ → List ℕ → Read
 unfolding sheetFields
-fromSheet limit s = read sheet (sheetFields limit) s
+fromSheet limit s = read sheet (sheetFields limit) 0 s
 
 -- the values after the packet number, which "comes first"
 abbrev pub afterNumber : List Item → List Item

@@ -47,7 +47,7 @@ bytes-drop (b ∷ s) (suc at) h = bytes-drop s at (h .1)
 
 module _ (s : List ℕ) {at : ℕ} (h : Standing s at) {a : Found} (e : a ≡ found (numberIn (drop at s))) (k : Kind) (n : ℕ) where
   -- no number
-  pub took-bad : a .count ≡ 0 → Took k s at n (Next.Refused 9)
+  pub took-bad : a .count ≡ 0 → Took k s at n (Next.Refused 9 at)
   took-bad z = took-off (sheet-seen s) judging (λ at n. Standing s at) k tt (number-none k s at (found-none (drop at s) a e z))
 
   module _ (z : a .count ≡ 0 → ⊥) where
@@ -59,7 +59,7 @@ module _ (s : List ℕ) {at : ℕ} (h : Standing s at) {a : Found} (e : a ≡ fo
         omega (arith, c .groups, h .inside, length-drop at s, simp length-append at l)
 
     -- a number that is none of the kind's
-    pub took-out : k .lower (a .value) ≡ none → Took k s at n (Next.Refused (k .refusal))
+    pub took-out : k .lower (a .value) ≡ none → Took k s at n (Next.Refused (k .refusal) at)
     took-out o =
         took-off (sheet-seen s) judging (λ at n. Standing s at) k tt (rw o at (number-found k s at (found-value (drop at s) a e z .value)))
 
@@ -75,7 +75,7 @@ module _ (s : List ℕ) {at : ℕ} (h : Standing s at) {a : Found} (e : a ≡ fo
 
     -- the same from the one number that lowering makes
     module _ {v : ℕ} (l : v ≡ lowered k (a .value)) where
-      pub low-out : LawfulKind k → v ≡ 2 ^ k .width → Took k s at n (Next.Refused (k .refusal))
+      pub low-out : LawfulKind k → v ≡ 2 ^ k .width → Took k s at n (Next.Refused (k .refusal) at)
       low-out w o = took-out (lowered-none k (a .value) v w l (omega arith))
 
       pub low-in : {to m : ℕ} → (v ≡ 2 ^ k .width → ⊥) → to ≡ at + a .count → m ≡ (n + k .width) % 2 ^ 32 → Took k s at n (Next.Is v to m)
@@ -83,7 +83,7 @@ module _ (s : List ℕ) {at : ℕ} (h : Standing s at) {a : Found} (e : a ≡ fo
 
 -- a field on whose value nothing depends
 module _ (s : List ℕ) {k : Kind} {at n : ℕ} where
-  pub plain-off : {r : ℕ} → Took k s at n (Next.Refused r) → Over (then k) s at n (Refused r)
+  pub plain-off : {r place : ℕ} → Took k s at n (Next.Refused r place) → Over (then k) s at n (Refused r place)
   plain-off t = value-off (λ v f. f) t
 
   pub plain-on : {v to m : ℕ} → Took k s at n (Next.Is v to m) → Over (then k) s at n (On to m)
@@ -98,7 +98,7 @@ low-over s {at} h {a} e k n w f {v} l {width} d t =
     (λ b.
     let z : a .count ≡ 0 → ⊥ = eqb-false (a .count) 0 b in
     by-cases (eqb v (2 ^ width))
-    (λ c. let o : v ≡ 2 ^ width = eqb-true v (2 ^ width) c in rw (t .out z o) (subst (λ (m : ℕ). Over (then k) s at n (Refused m)) f (plain-off s (low-out s h e k n z l w (rw d o)))))
+    (λ c. let o : v ≡ 2 ^ width = eqb-true v (2 ^ width) c in rw (t .out z o) (subst (λ (m : ℕ). Over (then k) s at n (Refused m at)) f (plain-off s (low-out s h e k n z l w (rw d o)))))
     (λ c. let o : v ≡ 2 ^ width → ⊥ = eqb-false v (2 ^ width) c in rw (t .on z o) (plain-on s (low-in s h e k n z l (rw d o) refl (rw d)))))
 
 -- ---- ranges, and locations

@@ -34,11 +34,11 @@ judge s = passing sheet judging (λ at. drop at s) (λ at n. Standing s at)
 
 abbrev pub went : Step → Went ℕ
 went (On at n) = Went.on at n
-went (Refused r) = Went.off r
+went (Refused r at) = Went.off r at
 
 abbrev pub got : Next → Got ℕ
 got (Next.Is v at n) = Got.is v at n
-got (Next.Refused r) = Got.off r
+got (Next.Refused r at) = Got.off r at
 
 -- A step over a part of the tree: whatever follows the part, the verdict is the verdict from the step on.
 abbrev pub Over : (Format → Format) → List ℕ → ℕ → ℕ → Step → Type 0
@@ -50,6 +50,6 @@ Took k s at n r = ways.Took (judge s) k at n (got r)
 
 -- the step over a field of so many bits, from the count of its number's groups, 0 where there is no number, and the value that it lowers to, or none
 pub record Lowers (at n count value none width : ℕ) (r : Step) : Type 0 where
-  pub bad : count ≡ 0 → r ≡ Refused 9
-  pub out : (count ≡ 0 → ⊥) → value ≡ none → r ≡ Refused 4
+  pub bad : count ≡ 0 → r ≡ Refused 9 at
+  pub out : (count ≡ 0 → ⊥) → value ≡ none → r ≡ Refused 4 at
   pub on : (count ≡ 0 → ⊥) → (value ≡ none → ⊥) → r ≡ On (at + count) ((n + width) % 2 ^ 32)

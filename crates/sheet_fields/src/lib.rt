@@ -11,16 +11,16 @@ use kinds::OUT_OF_RANGE;
 use kinds::body;
 use kinds::header;
 
-// The place after a part with the bits counted so far, round 2 to the 32, or a refusal.
+// The place after a part with the bits counted so far, round 2 to the 32, or a refusal and its place.
 pub enum Step {
     On(usize, u32),
-    Refused(u32),
+    Refused(u32, usize),
 }
 
 // The same after a field, with its value.
 pub enum Next {
     Is(u32, usize, u32),
-    Refused(u32),
+    Refused(u32, usize),
 }
 
 // The step over a field of width bits, from the count of groups that was found and the value that its number lowers to, which is none where there is no such value.
@@ -29,10 +29,10 @@ fn lowered(at: usize, n: u32, count: u32, v: u32, none: u32, width: u32) -> Step
     ensures { λ r. ⌜ Lowers at n count v none width r ⌝ }
 {
     if count == 0 {
-        return Step::Refused(judge::NO_NUMBER);
+        return Step::Refused(judge::NO_NUMBER, at);
     }
     if v == none {
-        return Step::Refused(OUT_OF_RANGE);
+        return Step::Refused(OUT_OF_RANGE, at);
     }
     Step::On(at + count as usize, std::num::wrapping_add_u32(n, width))
 }
@@ -52,14 +52,14 @@ pub fn ranged(
 {
     let found = numbers::found_at(s, at);
     if found.count == 0 {
-        return Next::Refused(judge::NO_NUMBER);
+        return Next::Refused(judge::NO_NUMBER, at);
     }
     let v = found.value;
     if v < least {
-        return Next::Refused(refusal);
+        return Next::Refused(refusal, at);
     }
     if largest < v {
-        return Next::Refused(refusal);
+        return Next::Refused(refusal, at);
     }
     Next::Is(
         v,
@@ -75,14 +75,14 @@ pub fn location(s: &[u8], at: usize, n: u32, last: u32, lsp: u32) -> Next
 {
     let a = numbers::found_at(s, at);
     if a.count == 0 {
-        return Next::Refused(judge::NO_NUMBER);
+        return Next::Refused(judge::NO_NUMBER, at);
     }
     let v = a.value;
     if v <= last {
-        return Next::Refused(LOCATION);
+        return Next::Refused(LOCATION, at);
     }
     if lsp <= v {
-        return Next::Refused(LOCATION);
+        return Next::Refused(LOCATION, at);
     }
     Next::Is(
         v,
@@ -98,7 +98,7 @@ pub fn operational(s: &[u8], at: usize, n: u32) -> Step
 {
     let a = numbers::found_at(s, at);
     if a.count == 0 {
-        return Step::Refused(judge::NO_NUMBER);
+        return Step::Refused(judge::NO_NUMBER, at);
     }
     if counts::digits_good(a.value) {
         return Step::On(
@@ -106,7 +106,7 @@ pub fn operational(s: &[u8], at: usize, n: u32) -> Step
             std::num::wrapping_add_u32(n, header::NidOperational::WIDTH),
         );
     }
-    Step::Refused(OUT_OF_RANGE)
+    Step::Refused(OUT_OF_RANGE, at)
 }
 
 // V_STATIC or V_DIFF.
@@ -136,11 +136,11 @@ pub fn voltage(s: &[u8], at: usize, n: u32) -> Next
 {
     let a = numbers::found_at(s, at);
     if a.count == 0 {
-        return Next::Refused(judge::NO_NUMBER);
+        return Next::Refused(judge::NO_NUMBER, at);
     }
     let v = lowering::volts_place(a.value);
     if v == lowering::NO_VOLTAGE {
-        return Next::Refused(OUT_OF_RANGE);
+        return Next::Refused(OUT_OF_RANGE, at);
     }
     Next::Is(
         v,

@@ -33,9 +33,9 @@ fn entry(s: &[u8], figures: &[u32; 11], at: usize, n: u32) -> Step
         body::QDiff::LARGEST,
         OUT_OF_RANGE,
     ) {
-        Next::Refused(r) => Step::Refused(r),
+        Next::Refused(r, place) => Step::Refused(r, place),
         Next::Is(q, at2, n2) => match class(s, figures, at2, n2, q) {
-            Step::Refused(r) => Step::Refused(r),
+            Step::Refused(r, place) => Step::Refused(r, place),
             Step::On(at3, n3) => speed(s, at3, n3),
         },
     }
@@ -52,8 +52,8 @@ fn entries(s: &[u8], at: usize, n: u32, count: u32) -> Step
     let mut left = count;
     while 0 < left {
         match entry(s, &figures, to, m) {
-            Step::Refused(r) => {
-                return Step::Refused(r);
+            Step::Refused(r, place) => {
+                return Step::Refused(r, place);
             }
             Step::On(a, b) => {
                 to = a;
@@ -71,7 +71,7 @@ fn profile(s: &[u8], at: usize, n: u32) -> Step
     ensures { λ r. ⌜ Over segment.profile (now (s .entry)) at n r ⌝ }
 {
     match speed(s, at, n) {
-        Step::Refused(r) => Step::Refused(r),
+        Step::Refused(r, place) => Step::Refused(r, place),
         Step::On(at2, n2) => match ranged(
             s,
             at2,
@@ -81,7 +81,7 @@ fn profile(s: &[u8], at: usize, n: u32) -> Step
             body::QFront::LARGEST,
             OUT_OF_RANGE,
         ) {
-            Next::Refused(r) => Step::Refused(r),
+            Next::Refused(r, place) => Step::Refused(r, place),
             Next::Is(_, at3, n3) => match ranged(
                 s,
                 at3,
@@ -91,7 +91,7 @@ fn profile(s: &[u8], at: usize, n: u32) -> Step
                 body::NIter::LARGEST,
                 OUT_OF_RANGE,
             ) {
-                Next::Refused(r) => Step::Refused(r),
+                Next::Refused(r, place) => Step::Refused(r, place),
                 Next::Is(count, at4, n4) => entries(s, at4, n4, count),
             },
         },
@@ -104,7 +104,7 @@ fn wire(s: &[u8], at: usize, n: u32) -> Step
     ensures { λ r. ⌜ Over segment.voltage (now (s .entry)) at n r ⌝ }
 {
     match voltage(s, at, n) {
-        Next::Refused(r) => Step::Refused(r),
+        Next::Refused(r, place) => Step::Refused(r, place),
         Next::Is(u, at2, n2) => match ranged(
             s,
             at2,
@@ -114,7 +114,7 @@ fn wire(s: &[u8], at: usize, n: u32) -> Step
             most_traction(u),
             OUT_OF_RANGE,
         ) {
-            Next::Refused(r) => Step::Refused(r),
+            Next::Refused(r, place) => Step::Refused(r, place),
             Next::Is(_, at3, n3) => Step::On(at3, n3),
         },
     }
@@ -153,12 +153,12 @@ fn changes(part: Part, s: &[u8], at: usize, n: u32, lsp: u32, count: u32) -> Ste
     let mut left = count;
     while 0 < left {
         match location(s, to, m, last, lsp) {
-            Next::Refused(r) => {
-                return Step::Refused(r);
+            Next::Refused(r, place) => {
+                return Step::Refused(r, place);
             }
             Next::Is(x, at2, n2) => match element(part, s, at2, n2) {
-                Step::Refused(r) => {
-                    return Step::Refused(r);
+                Step::Refused(r, place) => {
+                    return Step::Refused(r, place);
                 }
                 Step::On(at3, n3) => {
                     to = at3;
@@ -178,9 +178,9 @@ fn list(part: Part, s: &[u8], at: usize, n: u32, lsp: u32, limit: u32) -> Step
     ensures { λ r. ⌜ Over (segment.part (startOf part) limit lsp) (now (s .entry)) at n r ⌝ }
 {
     match element(part, s, at, n) {
-        Step::Refused(r) => Step::Refused(r),
+        Step::Refused(r, place) => Step::Refused(r, place),
         Step::On(at2, n2) => match ranged(s, at2, n2, body::NIter::WIDTH, 0, limit, OUT_OF_RANGE) {
-            Next::Refused(r) => Step::Refused(r),
+            Next::Refused(r, place) => Step::Refused(r, place),
             Next::Is(count, at3, n3) => changes(part, s, at3, n3, lsp, count),
         },
     }
@@ -192,9 +192,9 @@ pub fn lists(s: &[u8], at: usize, n: u32, lsp: u32) -> Step
     ensures { λ r. ⌜ Over (threeLists lsp) (now (s .entry)) at n r ⌝ }
 {
     match list(Part::Speeds, s, at, n, lsp, body::NIter::LARGEST) {
-        Step::Refused(r) => Step::Refused(r),
+        Step::Refused(r, place) => Step::Refused(r, place),
         Step::On(at2, n2) => match list(Part::Volts, s, at2, n2, lsp, segment::WIRE_CHANGES) {
-            Step::Refused(r) => Step::Refused(r),
+            Step::Refused(r, place) => Step::Refused(r, place),
             Step::On(at3, n3) => list(Part::Amperes, s, at3, n3, lsp, segment::WIRE_CHANGES),
         },
     }

@@ -18,7 +18,7 @@ fn stopping_row(s: &[u8], at: usize, n: u32, stop: u32) -> Step
     let widths = journey::stopping_widths();
     let most = journey::stopping_most(stop);
     match row(s, at, n, &widths[0..5], &most[0..5]) {
-        Step::Refused(r) => Step::Refused(r),
+        Step::Refused(r, place) => Step::Refused(r, place),
         Step::On(at2, n2) => row(s, at2, n2, &widths[5..10], &most[5..10]),
     }
 }
@@ -39,7 +39,7 @@ fn point(s: &[u8], at: usize, n: u32) -> Step
     ensures { λ r. ⌜ Over journey.timingPoint (now (s .entry)) at n r ⌝ }
 {
     match arrival_row(s, at, n) {
-        Step::Refused(r) => Step::Refused(r),
+        Step::Refused(r, place) => Step::Refused(r, place),
         Step::On(at2, n2) => match ranged(
             s,
             at2,
@@ -49,7 +49,7 @@ fn point(s: &[u8], at: usize, n: u32) -> Step
             QStopSkipPasses::LARGEST,
             OUT_OF_RANGE,
         ) {
-            Next::Refused(r) => Step::Refused(r),
+            Next::Refused(r, place) => Step::Refused(r, place),
             Next::Is(stop, at3, n3) => stopping_row(s, at3, n3, stop),
         },
     }
@@ -65,8 +65,8 @@ pub fn points(s: &[u8], at: usize, n: u32, count: u32) -> Step
     let mut left = count;
     while 0 < left {
         match point(s, to, m) {
-            Step::Refused(r) => {
-                return Step::Refused(r);
+            Step::Refused(r, place) => {
+                return Step::Refused(r, place);
             }
             Step::On(a, b) => {
                 to = a;

@@ -36,5 +36,5 @@ module _ (ws ms : List ℕ) (i : ℕ) where
       pub row-on : {v a : ℕ} {z : X} → Took w (upTo (getD ws i 0) (getD ms i 0)) to y (Got.is v a z) → Left w p (from (i + 1)) at x a z
       row-on t = left-value (λ v. from (i + 1)) more t
 
-      pub row-off : {r : ℕ} → Took w (upTo (getD ws i 0) (getD ms i 0)) to y (Got.off r) → Over w p at x (Went.off r)
+      pub row-off : {r place : ℕ} → Took w (upTo (getD ws i 0) (getD ms i 0)) to y (Got.off r place) → Over w p at x (Went.off r place)
       row-off t = left-refused (λ v. from (i + 1)) more t

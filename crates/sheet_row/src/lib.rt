@@ -18,8 +18,8 @@ pub fn row(s: &[u8], at: usize, n: u32, widths: &[u32], most: &[u32]) -> Step
     let mut i = 0;
     while i < widths.len() {
         match ranged(s, to, m, widths[i], 0, most[i], OUT_OF_RANGE) {
-            Next::Refused(r) => {
-                return Step::Refused(r);
+            Next::Refused(r, place) => {
+                return Step::Refused(r, place);
             }
             Next::Is(_, a, b) => {
                 to = a;

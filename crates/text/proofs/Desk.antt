@@ -7,7 +7,7 @@ use Rattle.bits.specs.Bits.{fieldAt}
 use Rattle.kinds.specs.Kinds.{digits}
 use Rattle.segment.specs.Segment.{entries, changes, lists, body, fields, sheetFields}
 use Rattle.segment.specs.Judgement.{fromPacket}
-use Rattle.segment.specs.Desk.{firstPacket}
+use Rattle.segment.specs.Desk.{firstPacket, counting}
 use Rattle.words.specs.Words.{ascii, decimal}
 use Rattle.text.specs.Listing.{listingOf}
 use Rattle.text.specs.Desk.{firstListing, namedPacket, namedListing}
@@ -23,6 +23,7 @@ unfolding fieldAt digits entries changes lists body fields sheetFields fromPacke
 desk-names = refl
 
 -- "as "REFUSED n" is": the packet without its last byte, and the empty packet
-pub desk-refused : (listingOf (take 38 firstPacket) ≡ ascii "REFUSED 3\n") × (listingOf [] ≡ ascii "REFUSED 1\n")
+pub desk-refused : (listingOf (counting 0xBA firstPacket) ≡ ascii "REFUSED 13 AT 305\n") × (listingOf (take 38 firstPacket) ≡ ascii "REFUSED 3 AT 0\n")
+    × (listingOf [] ≡ ascii "REFUSED 1 AT 0\n")
 unfolding fieldAt digits entries changes lists body fields sheetFields fromPacket decimal listingOf
-desk-refused = (refl, refl)
+desk-refused = (refl, refl, refl)

@@ -31,12 +31,12 @@ module _ (s : List ℕ) (a : Altitude) (e : a ≡ altitudeOf s) where
   unfolding altitudeOf
   by-read r d = e ∙ ap altitudeOfRead d
 
-  pub refused-text : (a .refusal ≡ 0 → ⊥) → refusedLine (a .refusal) ≡ listingOf s
+  pub refused-text : (a .refusal ≡ 0 → ⊥) → refusedLine (a .refusal) (a .place) ≡ listingOf s
   unfolding listingOf
   refused-text n = go (fromPacket wireChanges s) refl
     where
-      go : (r : Read) → fromPacket wireChanges s ≡ r → refusedLine (a .refusal) ≡ listed (fromPacket wireChanges s)
-      go (refused q left) d = ap (λ (x : Altitude). refusedLine (x .refusal)) (by-read (refused q left) d) ∙ rw d
+      go : (r : Read) → fromPacket wireChanges s ≡ r → refusedLine (a .refusal) (a .place) ≡ listed (fromPacket wireChanges s)
+      go (refused q place) d = ap (λ (x : Altitude). refusedLine (x .refusal) (x .place)) (by-read (refused q place) d) ∙ rw d
       go (accepted l) d = absurd (n (ap (λ (x : Altitude). x .refusal) (by-read (accepted l) d)))
 
   module _ (z : a .refusal ≡ 0) where
@@ -44,7 +44,7 @@ module _ (s : List ℕ) (a : Altitude) (e : a ≡ altitudeOf s) where
     accepted-packet = go (fromPacket wireChanges s) refl
       where
         go : (r : Read) → fromPacket wireChanges s ≡ r → PacketAccepted s
-        go (refused q left) d = absurd (omega (arith, packet-refusal wireChanges s q left d, ap (λ (x : Altitude). x .refusal) (by-read (refused q left) d)))
+        go (refused q place) d = absurd (omega (arith, packet-refusal wireChanges s q place d, ap (λ (x : Altitude). x .refusal) (by-read (refused q place) d)))
         go (accepted l) d = rw d
 
     pub accepted-text : lines (a .altitude) (sheetNumbers (valuesOf (fromPacket wireChanges s))) ≡ listingOf s
@@ -62,8 +62,8 @@ changes-short (suc n) ns =
     let rest = changesFrom 0 n (afterElement (drop 1 ns)) in
     rw (length-append (elementLine e) (elementLines rest)) (omega (arith, element-short e, changes-short n (afterElement (drop 1 ns))))
 
-refused-short : (r : ℕ) → length (refusedLine r) ≤ 19
-refused-short r = simp length-append (omega (arith, decimal-short r))
+refused-short : (r place : ℕ) → length (refusedLine r place) ≤ 33
+refused-short r place = simp length-append (omega (arith, decimal-short r, decimal-short place))
 
 lines-short : (z : ℤ) (ns : List ℕ) → changesOf ns ≤ 31 → length (lines z ns) ≤ 1669
 lines-short z ns h =
@@ -78,7 +78,7 @@ unfolding listingOf
 listing-short s ok = go (fromPacket wireChanges s) refl
   where
     go : (r : Read) → fromPacket wireChanges s ≡ r → length (listed (fromPacket wireChanges s)) ≤ 1669
-    go (refused q left) d = rw d (omega (arith, refused-short q))
+    go (refused q place) d = rw d (omega (arith, refused-short q place))
     go (accepted l) d = rw d (lines-short (centimetres (altitudeField l)) (sheetNumbers l) (few-changes s l ok d))
 
 pub listing-laid : (s room t : List ℕ) {r : ℕ} {cells : List ℕ} → Bytes s → 1669 ≤ length room → Laid room 0 t r cells → t ≡ listingOf s

@@ -10,13 +10,13 @@ use Rattle.altitude.specs.Altitude.{centimetres, altitudeField}
 use Rattle.words.specs.Words.{ascii, labelled}
 use Rattle.lines.specs.Lines.{lines}
 
--- "writes "REFUSED n" or a listing"
-abbrev pub refusedLine : ℕ → List ℕ
-refusedLine r = labelled (ascii "REFUSED ") r ++ ascii "\n"
+-- "The listing prints "REFUSED 13 AT 305""
+abbrev pub refusedLine : ℕ → ℕ → List ℕ
+refusedLine r place = labelled (ascii "REFUSED ") r ++ labelled (ascii " AT ") place ++ ascii "\n"
 
 -- "writes "REFUSED n" or a listing"
 abbrev pub listed : Read → List ℕ
-listed (refused r left) = refusedLine r
+listed (refused r place) = refusedLine r place
 listed (accepted l) = lines (centimetres (altitudeField l)) (sheetNumbers l)
 
 -- "A small program lists a packet"

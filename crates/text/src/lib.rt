@@ -16,12 +16,13 @@ pub const ROOM: usize = 2048;
 // The most bytes of a sheet.
 const SHEET: usize = 5608;
 
-// Writes the line of a refusal at the front of the room.
-fn put_refusal(refusal: u32, room: &mut [u8]) -> usize
-    requires { ⌜ 19 ≤ length (now room) ⌝ }
-    ensures { λ r. ⌜ Laid (now (room .entry)) 0 (refusedLine refusal) r (now (room .exit)) ⌝ }
+// Writes the line of a refusal and its place at the front of the room.
+fn put_refusal(refusal: u32, place: u32, room: &mut [u8]) -> usize
+    requires { ⌜ 33 ≤ length (now room) ⌝ }
+    ensures { λ r. ⌜ Laid (now (room .entry)) 0 (refusedLine refusal place) r (now (room .exit)) ⌝ }
 {
-    let at = words::put_labelled(room, 0, b"REFUSED ", refusal);
+    let number = words::put_labelled(room, 0, b"REFUSED ", refusal);
+    let at = words::put_labelled(room, number, b" AT ", place);
     words::put_word(room, at, b"\n")
 }
 
@@ -43,7 +44,7 @@ pub fn listing(packet: &[u8], room: &mut [u8; ROOM]) -> usize
     let answer = altitude::altitude_of_packet(packet);
     let refusal = answer.refusal;
     if refusal != 0 {
-        return put_refusal(refusal, room);
+        return put_refusal(refusal, answer.place, room);
     }
     put_accepted(packet, answer.altitude, room)
 }

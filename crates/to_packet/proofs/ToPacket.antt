@@ -77,12 +77,12 @@ first-number n a v e =
 pub record Numbered (t : Tree) (s : List ℕ) (l : List Item) : Type 0 where
   pub values : List Item
   pub all : l ≡ numberItem (treeNumber t) ∷ values
-  pub reads : read sheet (treeFields t) (drop (length (groupsIn (treeNumber t))) s) ≡ accepted values
+  pub reads : read sheet (treeFields t) (length (groupsIn (treeNumber t))) (drop (length (groupsIn (treeNumber t))) s) ≡ accepted values
   pub inside : length (groupsIn (treeNumber t)) ≤ length s
   pub conforms : Conforming InSheet (treeFields t) values
 
 numbered : (t : Tree) (s : List ℕ) (l : List Item) → Bytes s → treeSheet t s ≡ accepted l → Numbered t s l
-numbered t s l ok e = go l (sheet-only (treeSheetFields t) s l ok e .0) (sheet-only (treeSheetFields t) s l ok e .1)
+numbered t s l ok e = let o = sheet-only (treeSheetFields t) 0 s l ok e in go l (o .0) (o .1)
   where
     go : (m : List Item) → Conforming InSheet (treeSheetFields t) m → s ≡ write sheet (treeSheetFields t) m → Numbered t s m
     go m (also {i = i} {l = v} g c) d =
@@ -93,7 +93,7 @@ numbered t s l ok e = go l (sheet-only (treeSheetFields t) s l ok e .0) (sheet-o
         record {
           values = v;
           all = ap (λ (x : Item). x ∷ v) q;
-          reads = ap (read sheet (treeFields t)) r ∙ sheet-again c;
+          reads = ap (read sheet (treeFields t) (length (groupsIn (treeNumber t)))) r ∙ sheet-again c (length (groupsIn (treeNumber t)));
           inside = omega (arith, ap length w, length-append (groupsIn (treeNumber t)) (write sheet (treeFields t) v));
           conforms = c;
         }
@@ -195,14 +195,14 @@ module _ (t : Tree) (s : List ℕ) (ok : Bytes s) (at : ℕ) (h : BodyAt t s at)
   }
 
   -- all that is put
-  body-bits : (bits : List Bool) (u : List ℕ) → Told.told (bodyBitsOf t s at) ≡ pass sheet (recording packet) end bits u → bits ≡ bodyBitsOf t s at
-  body-bits bits [] e = cc
-  body-bits bits (b ∷ u) e = absurd (let z : _≡_ {A = ℕ} 0 1 = cc in omega arith)
+  body-bits : (bits : List Bool) (to : ℕ) (u : List ℕ) → Told.told (bodyBitsOf t s at) ≡ pass sheet (recording packet) end bits to u → bits ≡ bodyBitsOf t s at
+  body-bits bits to [] e = cc
+  body-bits bits to (b ∷ u) e = absurd (let z : _≡_ {A = ℕ} 0 1 = cc in omega arith)
 
   pub body-done : {room after : List ℕ} {q : Spot} → length room ≡ (length (bodyBitsOf t s at) + 7) / 8 → Wrote (treeBodyPart t) s room (record { from = at; at = 0; wait = 0 }) after q
       → after ≡ bytesOfBits (bodyBitsOf t s at)
   body-done {room} {after} {q} l w =
-      let e : w .bits ≡ bodyBitsOf t s at = body-bits (w .bits) (drop (q .from) s) (sym (body-told []) ∙ w .over [] .goes end) in
+      let e : w .bits ≡ bodyBitsOf t s at = body-bits (w .bits) (q .from) (drop (q .from) s) (sym (body-told []) ∙ w .over [] .goes end) in
       let f = w .puts .fills [] (filled-none room) in
       let c : q .at ≡ length (bodyBitsOf t s at) = f .count ∙ ap length e in
       let n : length after ≡ (q .at + 7) / 8 = w .puts .long ∙ l ∙ rw c in
@@ -211,9 +211,9 @@ module _ (t : Tree) (s : List ℕ) (ok : Bytes s) (at : ℕ) (h : BodyAt t s at)
 -- ---- the answers
 
 module _ (t : Tree) (s room : List ℕ) where
-  pub packet-refused : (r : ℕ) → Refused r ≡ countedVerdict t s → refusedWith r room ≡ treeToPacket t s room
+  pub packet-refused : (r place : ℕ) → Refused r place ≡ countedVerdict t s → refusedWith r place room ≡ treeToPacket t s room
   unfolding countedVerdict treeToPacket
-  packet-refused r e = verdict-refused sheet-sorts (sizeFrom packet (treeSheetFields t) 0) (sheetJudged t s) r e λ left p. rw p
+  packet-refused r place e = rw (verdict-refused sheet-sorts (sizeFrom packet (treeSheetFields t) 0) (sheetJudged t s) r place e)
 
   module _ (ok : Bytes s) (n : ℕ) (e : PacketBits n ≡ countedVerdict t s) where
     pub packet-accepts : SheetAccepted t s
@@ -252,7 +252,7 @@ module _ (t : Tree) (s room : List ℕ) where
     packet-long : length (packetOfBits (treeNumber t) (bitsOfSheet t s)) ≡ 15 + (n - 104 + 7) / 8
     packet-long = framed-length (treeNumber t) (bitsOfSheet t s) ∙ omega (arith, packet-bits, packet-low)
 
-    pub packet-too-long : length room < 15 + (n - 104 + 7) / 8 → refusedWith 8 room ≡ treeToPacket t s room
+    pub packet-too-long : length room < 15 + (n - 104 + 7) / 8 → refusedWith 8 0 room ≡ treeToPacket t s room
     packet-too-long h = sym (by-bits ∙ rw (lt-ltb (length room) (length (packetOfBits (treeNumber t) (bitsOfSheet t s))) (omega (arith, packet-long))))
 
     module _ (header : List ℕ) (at : ℕ) (h : Headed t s header at) where
@@ -277,7 +277,7 @@ module _ (t : Tree) (s room : List ℕ) where
           ∙ ap (λ (x : List ℕ). x ++ bytesOfBits (bodyBitsOf t s at)) (sym (h .bytes))
 
       pub packet-done : 15 + (n - 104 + 7) / 8 ≤ length room → (rest : List ℕ) → rest ≡ bytesOfBits (bodyBitsOf t s at) ++ drop ((length (bodyBitsOf t s at) + 7) / 8) (drop 15 room)
-          → _≡_ {A = Outcome} (record { answer = record { refusal = 0; length = 15 + (n - 104 + 7) / 8 }; room = header ++ rest }) (treeToPacket t s room)
+          → _≡_ {A = Outcome} (record { answer = record { refusal = 0; place = 0; length = 15 + (n - 104 + 7) / 8 }; room = header ++ rest }) (treeToPacket t s room)
       packet-done g rest q =
           let all : List ℕ = packetOfBits (treeNumber t) (bitsOfSheet t s) in
           let k : 15 + (length (bodyBitsOf t s at) + 7) / 8 ≡ length all = omega (arith, body-long, packet-long) in
@@ -285,7 +285,7 @@ module _ (t : Tree) (s room : List ℕ) where
           ap (λ (x : List ℕ). header ++ x) (q ∙ ap (λ (x : List ℕ). bytesOfBits (bodyBitsOf t s at) ++ x) (drop-drop ((length (bodyBitsOf t s at) + 7) / 8) 15 room ∙ ap (λ (m : ℕ). drop m room) k))
           ∙ sym (append-assoc header (bytesOfBits (bodyBitsOf t s at)) (drop (length all) room)) ∙ ap (λ (x : List ℕ). x ++ drop (length all) room) (sym packet-parts) in
           let f : length all ≤ length room = omega (arith, packet-long) in
-          sym (by-bits ∙ rw (le-ltb (length room) (length all) f) (λ j. record { answer = record { refusal = 0; length = packet-long j }; room = sym c j }))
+          sym (by-bits ∙ rw (le-ltb (length room) (length all) f) (λ j. record { answer = record { refusal = 0; place = 0; length = packet-long j }; room = sym c j }))
 
 -- ---- 12
 
@@ -307,11 +307,11 @@ module _ (t : Tree) (s : List ℕ) (ok : Bytes s) where
         length-append (bitsOf 8 (treeNumber t)) (write packet (treeFields t) v),
       )) z
 
-  pub counted-refused : (r : ℕ) → Refused r ≡ sheetVerdict t s → Refused r ≡ countedVerdict t s
+  pub counted-refused : (r place : ℕ) → Refused r place ≡ sheetVerdict t s → Refused r place ≡ countedVerdict t s
   unfolding sheetVerdict countedVerdict
-  counted-refused r e = verdict-refused sheet-sorts (sizeFrom packet (treeSheetFields t) 0) (treeSheet t s) r e λ left p. rw p
+  counted-refused r place e = rw (verdict-refused sheet-sorts (sizeFrom packet (treeSheetFields t) 0) (treeSheet t s) r place e)
 
-  pub counted-12 : (n : ℕ) → PacketBits n ≡ sheetVerdict t s → 65535 + 104 < n → Refused 12 ≡ countedVerdict t s
+  pub counted-12 : (n : ℕ) → PacketBits n ≡ sheetVerdict t s → 65535 + 104 < n → Refused 12 0 ≡ countedVerdict t s
   unfolding countedVerdict
   counted-12 n e h =
       judged-bits n e λ a b z.

@@ -78,10 +78,10 @@ fn counted(tree: Tree, sheet: &[u8]) -> SheetVerdict
     ensures { λ r. ⌜ r ≡ countedVerdict tree (now (sheet .entry)) ⌝ }
 {
     match judge_sheet::judge_sheet(tree, sheet) {
-        SheetVerdict::Refused(r) => SheetVerdict::Refused(r),
+        SheetVerdict::Refused(r, place) => SheetVerdict::Refused(r, place),
         SheetVerdict::PacketBits(n) => {
             if link::MOST_BITS + BEFORE_BODY < n {
-                return SheetVerdict::Refused(link::TOO_MANY_BITS);
+                return SheetVerdict::Refused(link::TOO_MANY_BITS, 0);
             }
             SheetVerdict::PacketBits(n)
         }
@@ -93,13 +93,13 @@ fn tree_to_packet(tree: Tree, sheet: &[u8], room: &mut [u8]) -> Converted
     ensures { λ r. ⌜ record { answer = r; room = now (room .exit) } ≡ treeToPacket tree (now (sheet .entry)) (now (room .entry)) ⌝ }
 {
     match counted(tree, sheet) {
-        SheetVerdict::Refused(r) => refused(r),
+        SheetVerdict::Refused(r, place) => refused(r, place),
         SheetVerdict::PacketBits(n) => {
             let bits = n - BEFORE_BODY;
             let bytes = (bits + 7) / 8;
             let length = HEADER + bytes;
             if room.len() < length {
-                return refused(TOO_LONG);
+                return refused(TOO_LONG, 0);
             }
             let at = tree_header(tree, sheet, &mut room[..15], bits as u32);
             write_body(tree, sheet, at, &mut room[15..], bytes);

@@ -54,10 +54,10 @@ fn tree_to_sheet(tree: Tree, packet: &[u8], room: &mut [u8]) -> Converted
     ensures { λ r. ⌜ record { answer = r; room = now (room .exit) } ≡ treeToSheet tree (now (packet .entry)) (now (room .entry)) ⌝ }
 {
     match judge_packet::judge_packet(tree, packet) {
-        PacketVerdict::Refused(r) => refused(r),
+        PacketVerdict::Refused(r, place) => refused(r, place),
         PacketVerdict::SheetBytes(n) => {
             if room.len() < n {
-                return refused(TOO_LONG);
+                return refused(TOO_LONG, 0);
             }
             write_tree(tree, packet, room);
             done(n as u32)

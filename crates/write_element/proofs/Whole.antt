@@ -30,17 +30,17 @@ made-written (field k next) (i ∷ l) p =
 
 -- the numbers of a tree's fields in the bits from at to stop
 abbrev numbersOf : Format → List ℕ → ℕ → ℕ → List ℕ
-numbersOf tree s at stop = write sheet tree (valuesOf (read packet tree (bitsBetween s at stop)))
+numbersOf tree s at stop = write sheet tree (valuesOf (read packet tree at (bitsBetween s at stop)))
 
 module _ (tree : Format) (part : Format → Format) (e : tree ≡ part end) (s : List ℕ) (stop at : ℕ) (room : List ℕ) (start : ℕ)
-    (accepts : read packet tree (bitsBetween s at stop) ≡ accepted (valuesOf (read packet tree (bitsBetween s at stop)))) where
-  all-written : pass packet writing (part end) (filled room start) (bitsBetween s at stop)
+    (accepts : read packet tree at (bitsBetween s at stop) ≡ accepted (valuesOf (read packet tree at (bitsBetween s at stop)))) where
+  all-written : pass packet writing (part end) (filled room start) at (bitsBetween s at stop)
       ≡ Told.told (filled (sets room start (numbersOf tree s at stop)) (start + length (numbersOf tree s at stop)))
   all-written =
-      ap (λ (f : Format). pass packet writing f (filled room start) (bitsBetween s at stop)) (sym e)
-      ∙ pass-read packet writing tree (filled room start) (bitsBetween s at stop)
+      ap (λ (f : Format). pass packet writing f (filled room start) at (bitsBetween s at stop)) (sym e)
+      ∙ pass-read packet writing tree (filled room start) at (bitsBetween s at stop)
       ∙ ap (answerOf Told.not (λ l. Told.told (made writing tree l (filled room start)))) accepts
-      ∙ ap Told.told (made-written tree (valuesOf (read packet tree (bitsBetween s at stop))) (filled room start))
+      ∙ ap Told.told (made-written tree (valuesOf (read packet tree at (bitsBetween s at stop))) (filled room start))
 
   -- so all of it may be written
   pub tree-writable : Placed s at stop → 8 ≤ length s → start + length (numbersOf tree s at stop) ≤ length room → PartWritable part s stop at (filled room start)
@@ -53,7 +53,7 @@ module _ (tree : Format) (part : Format → Format) (e : tree ≡ part end) (s :
   pub tree-held : {to : ℕ} {p : Put} → Wrote part s stop at (filled room start) to p → p .bytes ≡ sets room start (numbersOf tree s at stop)
   tree-held {to} {p} o = go (bitsBetween s to stop) (sym all-written ∙ o .over .goes end)
     where
-      go : (t : List _) → Told.told (filled (sets room start (numbersOf tree s at stop)) (start + length (numbersOf tree s at stop))) ≡ pass packet writing end p t
+      go : (t : List _) → Told.told (filled (sets room start (numbersOf tree s at stop)) (start + length (numbersOf tree s at stop))) ≡ pass packet writing end p to t
           → p .bytes ≡ sets room start (numbersOf tree s at stop)
       go [] d = let q : p ≡ filled (sets room start (numbersOf tree s at stop)) (start + length (numbersOf tree s at stop)) = cc in ap (λ (x : Put). x .bytes) q
       go (b ∷ t) d = absurd (let z : _≡_ {A = ℕ} 0 1 = cc in omega arith)

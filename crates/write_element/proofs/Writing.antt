@@ -30,26 +30,26 @@ use Rattle.write_element.specs.Writing.{writing, putting, Reads, writer,
 
 abbrev Grows : Put → Told Put → Type 0
 Grows p (Told.told q) = (p .next ≤ q .next) × (length (q .bytes) ≡ length (p .bytes))
-Grows p (Told.not r) = Unit {0}
+Grows p (Told.not r at) = Unit {0}
 
 grows-put : (p : Put) (v : ℕ) (r : Told Put) → Grows (putting p v) r → Grows p r
 grows-put p v (Told.told q) h = (omega (arith, h .0), h .1 ∙ length-sets (p .bytes) (p .next) (groupsIn v))
-grows-put p v (Told.not r) h = tt
+grows-put p v (Told.not r at) h = tt
 
 module _ {A : Type 0} (m : Medium A) where
-  grows : (f : Format) (p : Put) (s : List A) → Grows p (pass m writing f p s)
-  grows end p [] = (omega arith, refl)
-  grows end p (a ∷ s) = tt
-  grows (field k next) p s = go (λ i u. grows (next (i .packet)) (putting p (i .sheet)) u) (m .take k s)
+  grows : (f : Format) (p : Put) (at : ℕ) (s : List A) → Grows p (pass m writing f p at s)
+  grows end p at [] = (omega arith, refl)
+  grows end p at (a ∷ s) = tt
+  grows (field k next) p at s = go (λ i u. grows (next (i .packet)) (putting p (i .sheet)) (at + length (m .put k i)) u) (m .take k s)
     where
-      go : ((i : Item) (u : List A) → Grows (putting p (i .sheet)) (pass m writing (next (i .packet)) (putting p (i .sheet)) u))
-          → (x : FieldStep A) → Grows p (ofStep (writing .refusal) x (λ i u. pass m writing (next (i .packet)) (putting p (i .sheet)) u))
-      go more (step i u) = grows-put p (i .sheet) (pass m writing (next (i .packet)) (putting p (i .sheet)) u) (more i u)
+      go : ((i : Item) (u : List A) → Grows (putting p (i .sheet)) (pass m writing (next (i .packet)) (putting p (i .sheet)) (at + length (m .put k i)) u))
+          → (x : FieldStep A) → Grows p (ofStep (λ r. writing .refusal r at) x (λ i u. pass m writing (next (i .packet)) (putting p (i .sheet)) (at + length (m .put k i)) u))
+      go more (step i u) = grows-put p (i .sheet) (pass m writing (next (i .packet)) (putting p (i .sheet)) (at + length (m .put k i)) u) (more i u)
       go more (stop r) = tt
 
 fits-now : (p : Put) (r : Told Put) → Grows p r → Fits r → p .next ≤ length (p .bytes)
 fits-now p (Told.told q) g h = omega (arith, g .0, g .1, h)
-fits-now p (Told.not r) g h = absurd h
+fits-now p (Told.not r at) g h = absurd h
 
 -- ---- a field of an accepted packet
 
@@ -62,7 +62,7 @@ pub record Puts (k : Kind) (s : List ℕ) (stop at : ℕ) (p : Put) (w v : ℕ) 
 
 module _ (s : List ℕ) (stop : ℕ) where
   room-now : {part : Format → Format} {at : ℕ} {p : Put} → Ahead (writer s stop) Fits part at p → p .next ≤ length (p .bytes)
-  room-now {part} {at} {p} h = fits-now p ((writer s stop) .run (part (h .follows)) at p) (grows _ (part (h .follows)) p _) (h .good)
+  room-now {part} {at} {p} h = fits-now p ((writer s stop) .run (part (h .follows)) at p) (grows _ (part (h .follows)) p at _) (h .good)
 
   reads-placed : {at : ℕ} → Reads s stop at → Placed s at stop
   reads-placed h = record { before = h .before; inside = h .inside; few = h .few }

@@ -33,7 +33,7 @@ writer s stop = passing packet writing (λ at. bitsBetween s at stop) (λ at p. 
 -- all is written, and nothing past the room's end
 abbrev pub Fits : Told Put → Type 0
 Fits (Told.told p) = p .next ≤ length (p .bytes)
-Fits (Told.not r) = ⊥
+Fits (Told.not r at) = ⊥
 
 -- a room that is written up to the byte n
 abbrev pub filled : List ℕ → ℕ → Put

@@ -11,10 +11,10 @@ use Rattle.journey.specs.Journey.{journeyFields, constraints}
 
 -- the numbers of the fields after the packet number, where the fields end at the bit stop
 abbrev pub journeyOf : List ℕ → ℕ → List ℕ
-journeyOf s stop = write sheet (journeyFields constraints) (valuesOf (read packet (journeyFields constraints) (bitsBetween s 24 stop)))
+journeyOf s stop = write sheet (journeyFields constraints) (valuesOf (read packet (journeyFields constraints) 24 (bitsBetween s 24 stop)))
 
 -- the fields are accepted, and the room holds their numbers from the byte start on
 pub record JourneyWritable (s : List ℕ) (stop : ℕ) (room : List ℕ) (start : ℕ) : Type 0 where
   pub place : Placed s 24 stop
-  pub accepts : read packet (journeyFields constraints) (bitsBetween s 24 stop) ≡ accepted (valuesOf (read packet (journeyFields constraints) (bitsBetween s 24 stop)))
+  pub accepts : read packet (journeyFields constraints) 24 (bitsBetween s 24 stop) ≡ accepted (valuesOf (read packet (journeyFields constraints) 24 (bitsBetween s 24 stop)))
   pub holds : start + length (journeyOf s stop) ≤ length room

@@ -5,18 +5,21 @@ use crate::program::{Answer, Program, Train};
 #[repr(C)]
 struct Converted {
     refusal: u32,
+    place: u32,
     length: u32,
 }
 
 #[repr(C)]
 struct Speed {
     refusal: u32,
+    place: u32,
     speed: u32,
 }
 
 #[repr(C)]
 struct Altitude {
     refusal: u32,
+    place: u32,
     altitude: i32,
 }
 
@@ -58,17 +61,17 @@ impl Program for Archive {
     }
 
     fn altitude_of_packet(packet: &[u8]) -> Answer {
-        let answer = unsafe { seglink_altitude_of_packet(packet.as_ptr(), packet.len()) };
-        Answer { refusal: answer.refusal, value: answer.altitude.into() }
+        let Altitude { refusal, place, altitude } = unsafe { seglink_altitude_of_packet(packet.as_ptr(), packet.len()) };
+        Answer { refusal, place, value: altitude.into() }
     }
 }
 
-fn converted(answer: Converted) -> Answer {
-    Answer { refusal: answer.refusal, value: answer.length.into() }
+fn converted(Converted { refusal, place, length }: Converted) -> Answer {
+    Answer { refusal, place, value: length.into() }
 }
 
-fn speed(answer: Speed) -> Answer {
-    Answer { refusal: answer.refusal, value: answer.speed.into() }
+fn speed(Speed { refusal, place, speed }: Speed) -> Answer {
+    Answer { refusal, place, value: speed.into() }
 }
 
 fn card(train: &Train) -> Card {

@@ -40,13 +40,13 @@ pub fn compare(random: &mut Random, question: &Question, room: usize, tally: &mu
     let mut other = lent.clone();
     let answer = Archive::answer(question, &mut lent[GUARD..GUARD + room]);
     let expected = Second::answer(question, &mut other[GUARD..GUARD + room]);
-    tally.count(question, answer.refusal);
+    tally.count(question, &answer);
     let asked = || format!("{:?}, {:?} at {}, room {room}", question.operation, question.train, question.x);
     if answer != expected {
         return Err(format!("{}: the archive gave {answer:?}, the second program {expected:?}", asked()));
     }
     match lent.iter().zip(&other).position(|(byte, expected)| byte != expected) {
-        Some(place) => Err(format!("{}: the rooms differ, first at byte {}", asked(), place as i64 - GUARD as i64)),
+        Some(first) => Err(format!("{}: the rooms differ, first at byte {}", asked(), first as i64 - GUARD as i64)),
         None => Ok(answer),
     }
 }
@@ -106,7 +106,7 @@ fn speeds(
     let by_sheet = compare(random, &ask(Operation::SpeedFromSheet, &case.sheet), 0, tally)?;
     if let Some(packet) = packet {
         let by_packet = Archive::speed_from_packet(packet, &train, x);
-        let lowered = Answer { refusal: by_sheet.refusal, value: by_sheet.value / 5 * 5 };
+        let lowered = Answer { value: by_sheet.value / 5 * 5, ..by_sheet };
         require(by_packet == lowered, "the speed from a sheet's packet is not the lowered speed from the sheet")?;
     }
     Ok(())

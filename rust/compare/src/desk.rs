@@ -1,4 +1,4 @@
-//! The document's desk cases, each with the answer that the document gives.
+//! The document's desk cases, each with the answer that the document gives; a refusal's place is counted by hand.
 
 use crate::desk_journeys;
 use crate::draft::{Draft, Kind};
@@ -132,7 +132,10 @@ pub fn cases() -> Vec<Desk> {
     conversions(&mut cases);
     refusals(&mut cases);
     limits(&mut cases);
-    rooms(&mut cases);
+    for draft in [draft(DOCUMENT), largest()] {
+        rooms(&mut cases, &draft);
+    }
+    questions(&mut cases);
     speeds(&mut cases);
     cases.extend(desk_journeys::cases());
     cases
@@ -140,97 +143,137 @@ pub fn cases() -> Vec<Desk> {
 
 const ROOM: usize = 16_000;
 
-fn converts(name: &'static str, operation: Operation, input: Vec<u8>, refusal: u32, length: i64) -> Desk {
-    Desk { name, operation, input, room: ROOM, train: TRAIN, x: 0, answer: Answer { refusal, value: length } }
+fn converts(name: &'static str, operation: Operation, input: Vec<u8>, answer: Answer) -> Desk {
+    Desk { name, operation, input, room: ROOM, train: TRAIN, x: 0, answer }
 }
 
-pub fn packet(name: &'static str, packet: Vec<u8>, refusal: u32, length: i64) -> Desk {
-    converts(name, Operation::PacketToSheet, packet, refusal, length)
+pub fn packet(name: &'static str, packet: Vec<u8>, answer: Answer) -> Desk {
+    converts(name, Operation::PacketToSheet, packet, answer)
 }
 
-pub fn sheet(name: &'static str, sheet: Vec<u8>, refusal: u32, length: i64) -> Desk {
-    converts(name, Operation::SheetToPacket, sheet, refusal, length)
+pub fn sheet(name: &'static str, sheet: Vec<u8>, answer: Answer) -> Desk {
+    converts(name, Operation::SheetToPacket, sheet, answer)
+}
+
+/// A draft's packet and sheet, each of which makes the other.
+pub fn accepted(cases: &mut Vec<Desk>, name: &'static str, draft: &Draft) {
+    let (bytes, numbers) = (draft.packet(), draft.sheet());
+    let (to_sheet, to_packet) = (Answer::success(numbers.len() as i64), Answer::success(bytes.len() as i64));
+    cases.push(packet(name, bytes, to_sheet));
+    cases.push(sheet(name, numbers, to_packet));
+}
+
+/// A draft's packet and sheet, both refused: the packet at a bit, the sheet at a byte.
+pub fn refused(cases: &mut Vec<Desk>, name: &'static str, draft: &Draft, refusal: u32, (bit, byte): (u32, u32)) {
+    cases.push(packet(name, draft.packet(), Answer::refused(refusal, bit)));
+    cases.push(sheet(name, draft.sheet(), Answer::refused(refusal, byte)));
+}
+
+/// Rooms of the result's size, and of one byte less.
+pub fn rooms(cases: &mut Vec<Desk>, draft: &Draft) {
+    let mut whole = Vec::new();
+    accepted(&mut whole, "a room of the result's size, or one byte less", draft);
+    for case in whole {
+        let room = case.answer.value as usize;
+        let short = converts(case.name, case.operation, case.input.clone(), Answer::refused(8, 0));
+        cases.push(Desk { room: room - 1, ..short });
+        cases.push(Desk { room, ..case });
+    }
 }
 
 fn conversions(cases: &mut Vec<Desk>) {
     let document = draft(DOCUMENT);
-    cases.push(packet("the document's packet", document.packet(), 0, 25));
-    cases.push(sheet("the document's sheet", document.sheet(), 0, 39));
-    let altitude = Answer { refusal: 0, value: -100_000 };
-    let asked = packet("the document's altitude", document.packet(), 0, 0);
-    cases.push(Desk { operation: Operation::AltitudeOfPacket, answer: altitude, ..asked });
+    cases.push(packet("the document's packet", document.packet(), Answer::success(25)));
+    cases.push(sheet("the document's sheet", document.sheet(), Answer::success(39)));
+    let asked = packet("the document's altitude", document.packet(), Answer::success(-100_000));
+    cases.push(Desk { operation: Operation::AltitudeOfPacket, ..asked });
     for speed in [83, 84, 85, 604] {
-        cases.push(sheet("an accepted speed", draft(Plan { speed, ..DOCUMENT }).sheet(), 0, 39));
+        cases.push(sheet("an accepted speed", draft(Plan { speed, ..DOCUMENT }).sheet(), Answer::success(39)));
     }
-    cases.push(sheet("0 A", draft(Plan { current: 1, ..DOCUMENT }).sheet(), 0, 39));
-    cases.push(packet("0 A", draft(Plan { current: 1, ..DOCUMENT }).packet(), 0, 25));
-    cases.push(packet("the largest packet", largest().packet(), 0, 5_608));
-    cases.push(sheet("the largest sheet", largest().sheet(), 0, 2_001));
+    cases.push(sheet("0 A", draft(Plan { current: 1, ..DOCUMENT }).sheet(), Answer::success(39)));
+    cases.push(packet("0 A", draft(Plan { current: 1, ..DOCUMENT }).packet(), Answer::success(25)));
+    cases.push(packet("the largest packet", largest().packet(), Answer::success(5_608)));
+    cases.push(sheet("the largest sheet", largest().sheet(), Answer::success(2_001)));
 }
 
+/// The fields of the document's packet end with the bit 304, the last of them begins at 300; the numbers of its sheet end with the byte 24.
 fn refusals(cases: &mut Vec<Desk>) {
     let document = draft(DOCUMENT).packet();
-    cases.push(packet("an empty packet", Vec::new(), 1, 0));
-    cases.push(packet("the packet without its last byte", document[..38].to_vec(), 3, 0));
     let with_byte = |place: usize, byte: u8| {
         let mut packet = document.clone();
         packet[place] = byte;
         packet
     };
-    cases.push(packet("a padding bit", with_byte(38, 1), 7, 0));
-    cases.push(packet("another packet number", with_byte(0, 5), 2, 0));
-    cases.push(packet("a segment that calls itself a journey", with_byte(0, 4), 6, 0));
-    cases.push(packet("a bit left", with_byte(2, 0xBA), 6, 0));
-    cases.push(packet("a length that asks for fewer bytes", with_byte(2, 0xB8), 3, 0));
-    cases.push(sheet("an empty sheet", Vec::new(), 9, 0));
-    cases.push(sheet("a number with a zero group", vec![0x80, 0x00], 9, 0));
-    cases.push(sheet("605 km/h", draft(Plan { speed: 605, ..DOCUMENT }).sheet(), 4, 0));
-}
-
-/// A plan's packet and sheet, both accepted (0) or both refused.
-fn both(cases: &mut Vec<Desk>, name: &'static str, plan: Plan, refusal: u32) {
-    let draft = draft(plan);
-    let (bytes, numbers) = (draft.packet(), draft.sheet());
-    let length = |result: &[u8]| if refusal == 0 { result.len() as i64 } else { 0 };
-    let lengths = (length(&numbers), length(&bytes));
-    cases.push(packet(name, bytes, refusal, lengths.0));
-    cases.push(sheet(name, numbers, refusal, lengths.1));
+    let no_body = with_byte(2, 0)[..15].to_vec();
+    let a_byte_more = [&with_byte(2, 0xC1)[..], &[0]].concat();
+    for (name, bytes, refusal, place) in [
+        ("an empty packet", Vec::new(), 1, 0),
+        ("another packet number", with_byte(0, 5), 2, 0),
+        ("the packet without its last byte", document[..38].to_vec(), 3, 0),
+        ("a length that asks for fewer bytes", with_byte(2, 0xB8), 3, 0),
+        ("a digit A, the last", with_byte(6, 0x4A), 4, 24),
+        ("no body", no_body, 6, 120),
+        ("a last field that does not fit", with_byte(2, 0xB8)[..38].to_vec(), 6, 300),
+        ("a bit left", with_byte(2, 0xBA), 13, 305),
+        ("bits left in a byte more", a_byte_more, 13, 305),
+        ("a segment that calls itself a journey", with_byte(0, 4), 13, 131),
+        ("a padding bit", with_byte(38, 1), 7, 311),
+        ("two padding bits", with_byte(38, 0x24), 7, 306),
+    ] {
+        cases.push(packet(name, bytes, Answer::refused(refusal, place)));
+    }
+    let numbers = draft(DOCUMENT).sheet();
+    for (name, bytes, refusal, place) in [
+        ("an empty sheet", Vec::new(), 9, 0),
+        ("a number with a zero group", vec![0x80, 0x00], 9, 0),
+        ("a length with a zero group", [&numbers[..12], &[0x81, 0x00], &numbers[13..]].concat(), 9, 12),
+        ("a sheet that ends within a number", numbers[..3].to_vec(), 9, 1),
+        ("a sheet without its last byte", numbers[..24].to_vec(), 9, 24),
+        ("a byte left", [&numbers[..], &[0]].concat(), 9, 25),
+        ("605 km/h", draft(Plan { speed: 605, ..DOCUMENT }).sheet(), 4, 16),
+    ] {
+        cases.push(sheet(name, bytes, Answer::refused(refusal, place)));
+    }
 }
 
 fn limits(cases: &mut Vec<Desk>) {
-    both(cases, "86,399 seconds", Plan { seconds: 86_399, ..DOCUMENT }, 0);
-    both(cases, "86,400 seconds", Plan { seconds: 86_400, ..DOCUMENT }, 4);
-    both(cases, "a location at L_SP - 1", Plan { change: Some(999), ..CHANGED }, 0);
-    both(cases, "a location at L_SP", Plan { change: Some(1_000), ..CHANGED }, 5);
-    both(cases, "a location at 0", Plan { change: Some(0), ..CHANGED }, 5);
-    both(cases, "23 voltage changes", Plan { voltages: 23, length: 24, ..DOCUMENT }, 0);
-    both(cases, "24 voltage changes", Plan { voltages: 24, length: 25, ..DOCUMENT }, 4);
-    both(cases, "a length of 0", Plan { length: 0, ..DOCUMENT }, 4);
+    accepted(cases, "86,399 seconds", &draft(Plan { seconds: 86_399, ..DOCUMENT }));
+    refused(cases, "86,400 seconds", &draft(Plan { seconds: 86_400, ..DOCUMENT }), 4, (95, 6));
+    accepted(cases, "a location at L_SP - 1", &draft(Plan { change: Some(999), ..CHANGED }));
+    // L_SP has two bytes in the sheet, so the first location begins a byte later
+    refused(cases, "a location at L_SP", &draft(Plan { change: Some(1_000), ..CHANGED }), 5, (271, 21));
+    refused(cases, "a location at 0", &draft(Plan { change: Some(0), ..CHANGED }), 5, (271, 21));
+    accepted(cases, "23 voltage changes", &draft(Plan { voltages: 23, length: 24, ..DOCUMENT }));
+    refused(cases, "24 voltage changes", &draft(Plan { voltages: 24, length: 25, ..DOCUMENT }), 4, (285, 22));
+    refused(cases, "a length of 0", &draft(Plan { length: 0, ..DOCUMENT }), 4, (178, 12));
 }
 
-fn rooms(cases: &mut Vec<Desk>) {
-    for draft in [draft(DOCUMENT), largest()] {
-        let (bytes, numbers) = (draft.packet(), draft.sheet());
-        for (short, refusal) in [(0, 0), (1, 8)] {
-            let length = |result: &[u8]| if short == 0 { result.len() as i64 } else { 0 };
-            let to_sheet = packet("a room of the sheet's size, or one byte less", bytes.clone(), refusal, length(&numbers));
-            let to_packet = sheet("a room of the packet's size, or one byte less", numbers.clone(), refusal, length(&bytes));
-            cases.push(Desk { room: numbers.len() - short, ..to_sheet });
-            cases.push(Desk { room: bytes.len() - short, ..to_packet });
+/// What a conversion of a segment refuses, but for the room, the questions refuse alike: before the train, which is not allowed here.
+fn questions(cases: &mut Vec<Desk>) {
+    let train = Train { length: 0, ..TRAIN };
+    let mut asked = Vec::new();
+    for case in cases.iter().filter(|case| ![0, 8].contains(&case.answer.refusal) && !case.question().is_journey()) {
+        let operations: &[Operation] = match case.operation {
+            Operation::PacketToSheet => &[Operation::SpeedFromPacket, Operation::AltitudeOfPacket],
+            _ => &[Operation::SpeedFromSheet],
+        };
+        for operation in operations {
+            let refused = converts(case.name, *operation, case.input.clone(), case.answer);
+            asked.push(Desk { train: train.clone(), ..refused });
         }
     }
+    cases.extend(asked);
 }
 
 fn speeds(cases: &mut Vec<Desk>) {
     for (front, x, speed) in [(0, 499, 100), (0, 699, 100), (0, 700, 140), (1, 499, 100), (1, 500, 140), (1, 999, 140)] {
         let plan = Plan { front, ..CHANGED };
-        both_speeds(cases, "a change at 500", plan, (TRAIN, x), Answer { refusal: 0, value: speed });
+        both_speeds(cases, "a change at 500", plan, (TRAIN, x), Answer::success(speed));
     }
-    let refused = |refusal| Answer { refusal, value: 0 };
-    both_speeds(cases, "x at L_SP", CHANGED, (TRAIN, 1_000), refused(11));
+    both_speeds(cases, "x at L_SP", CHANGED, (TRAIN, 1_000), Answer::refused(11, 0));
     for (length, cant) in [(0, 150), (150_001, 150), (200, 151)] {
         let train = Train { length, cant, ..TRAIN };
-        both_speeds(cases, "a train that is not allowed", CHANGED, (train, 1_000), refused(10));
+        both_speeds(cases, "a train that is not allowed", CHANGED, (train, 1_000), Answer::refused(10, 0));
     }
 }
 

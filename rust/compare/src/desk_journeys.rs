@@ -1,6 +1,6 @@
-//! Journeys like the desk cases, each with the answer that the request gives.
+//! Journeys like the desk cases, each with the answer that the request gives; a refusal's place is counted by hand.
 
-use crate::desk::{packet, sheet, Desk};
+use crate::desk::{accepted, packet, refused, rooms, sheet, Desk};
 use crate::draft::{Draft, Kind};
 use crate::journeys::LONGEST;
 use crate::program::{Answer, Operation, Train};
@@ -10,6 +10,7 @@ const HALT: [(u32, u32); 8] = [(2, 3), (1, 1), (1, 1), (1, 1), (15, 32_767), (17
 /// Where the fields of a journey's first segment stand, and those of its first timing point.
 const NUMBER: usize = 0;
 const STATUS: usize = 6;
+const SEGMENTS: usize = 7;
 const POINT: usize = 14;
 const ARRIVAL_SECONDS: usize = POINT + 2;
 const ALIGNMENT: usize = POINT + 4;
@@ -49,23 +50,16 @@ fn timing_point(draft: &mut Draft) {
 }
 
 /// A journey with one field changed, in both media.
-fn with(mut draft: Draft, place: usize, value: u32) -> Draft {
-    draft.fields[place].value = value;
-    draft.fields[place].number = value.into();
+fn with(mut draft: Draft, index: usize, value: u32) -> Draft {
+    draft.fields[index].value = value;
+    draft.fields[index].number = value.into();
     draft
 }
 
 /// A journey that passes its one timing point.
 fn passing() -> Draft {
     let eight = DOOR_SIDE..DOOR_SIDE + HALT.len();
-    eight.fold(with(journey((1, 1)), STOP, 2), |draft, place| with(draft, place, 0))
-}
-
-fn both(cases: &mut Vec<Desk>, name: &'static str, draft: &Draft, refusal: u32) {
-    let (bytes, numbers) = (draft.packet(), draft.sheet());
-    let length = |result: &[u8]| if refusal == 0 { result.len() as i64 } else { 0 };
-    cases.push(packet(name, bytes.clone(), refusal, length(&numbers)));
-    cases.push(sheet(name, numbers.clone(), refusal, length(&bytes)));
+    eight.fold(with(journey((1, 1)), STOP, 2), |draft, index| with(draft, index, 0))
 }
 
 /// All journeys of the desk.
@@ -74,68 +68,98 @@ pub fn cases() -> Vec<Desk> {
     ends(&mut cases);
     limits(&mut cases);
     numbers(&mut cases);
+    damaged(&mut cases);
     too_long(&mut cases);
     questions(&mut cases);
     cases
 }
 
 fn ends(cases: &mut Vec<Desk>) {
-    let smallest = (0..STATUS + 2).filter(|place| *place > NUMBER).fold(journey((0, 0)), |draft, place| with(draft, place, 0));
-    cases.push(packet("the smallest journey's packet", smallest.packet(), 0, 8));
-    cases.push(sheet("the smallest journey's sheet", smallest.sheet(), 0, 17));
-    cases.push(sheet("the largest journey's sheet", journey(LONGEST).sheet(), 0, 8_207));
-    cases.push(packet("the longest sheet of a journey", journey((18, 498)).packet(), 0, 15_212));
+    let smallest = (0..STATUS + 2).filter(|index| *index > NUMBER).fold(journey((0, 0)), |draft, index| with(draft, index, 0));
+    cases.push(packet("the smallest journey's packet", smallest.packet(), Answer::success(8)));
+    cases.push(sheet("the smallest journey's sheet", smallest.sheet(), Answer::success(17)));
+    cases.push(sheet("the largest journey's sheet", journey(LONGEST).sheet(), Answer::success(8_207)));
+    cases.push(packet("the longest sheet of a journey", journey((18, 498)).packet(), Answer::success(15_212)));
     for draft in [smallest, passing(), journey(LONGEST), journey((18, 498))] {
-        both(cases, "a journey", &draft, 0);
-        let (bytes, numbers) = (draft.packet(), draft.sheet());
-        for (short, refusal) in [(0, 0), (1, 8)] {
-            let length = |result: &[u8]| if short == 0 { result.len() as i64 } else { 0 };
-            let to_sheet = packet("a room of a journey's size, or one byte less", bytes.clone(), refusal, length(&numbers));
-            let to_packet = sheet("a room of a journey's size, or one byte less", numbers.clone(), refusal, length(&bytes));
-            cases.push(Desk { room: numbers.len() - short, ..to_sheet });
-            cases.push(Desk { room: bytes.len() - short, ..to_packet });
-        }
+        accepted(cases, "a journey", &draft);
+        rooms(cases, &draft);
     }
 }
 
+/// The bits and the bytes of the journey's fields: its status at 120 and 18, its timing point at 195 and 33, its constraints at 324 and 63.
 fn limits(cases: &mut Vec<Desk>) {
     let one = || journey((1, 1));
-    both(cases, "every field at its largest", &one(), 0);
-    for (place, past) in [
-        (STATUS, 5),
-        (ARRIVAL_SECONDS, 86_401),
-        (ALIGNMENT, 3),
-        (STOP, 3),
-        (INFORMATION, 2),
-        (DEPARTURE_SECONDS, 86_400),
-        (CONSTRAINTS, 1),
+    accepted(cases, "every field at its largest", &one());
+    for (index, past, place) in [
+        (STATUS, 5, (120, 18)),
+        (ARRIVAL_SECONDS, 86_401, (242, 41)),
+        (ALIGNMENT, 3, (269, 46)),
+        (STOP, 3, (271, 47)),
+        (INFORMATION, 2, (273, 48)),
+        (DEPARTURE_SECONDS, 86_400, (296, 57)),
+        (CONSTRAINTS, 1, (324, 63)),
     ] {
-        both(cases, "a field past its largest", &with(one(), place, past), 4);
+        refused(cases, "a field past its largest", &with(one(), index, past), 4, place);
     }
-    for place in DOOR_SIDE..DOOR_SIDE + HALT.len() {
-        both(cases, "a field that is not 0 at a passing point", &with(passing(), place, 1), 4);
+    refused(cases, "a passing point with a door side", &with(one(), STOP, 2), 4, (276, 50));
+    // where the train passes, each of the eight numbers has one byte
+    for (nth, bit) in [276, 278, 279, 280, 281, 296, 313, 323].into_iter().enumerate() {
+        let draft = with(passing(), DOOR_SIDE + nth, 1);
+        refused(cases, "a field that is not 0 at a passing point", &draft, 4, (bit, 50 + nth as u32));
     }
 }
 
 fn numbers(cases: &mut Vec<Desk>) {
     for number in [5, 7] {
-        both(cases, "another packet number", &with(journey((1, 1)), NUMBER, number), 2);
+        refused(cases, "another packet number", &with(journey((1, 1)), NUMBER, number), 2, (0, 0));
     }
+    // its status and its count are NID_C and part of NID_SP in the packet, NID_C and NID_SP in the sheet
     let as_segment = with(journey((0, 0)), NUMBER, 6);
-    cases.push(packet("a journey that calls itself a segment", as_segment.packet(), 6, 0));
-    cases.push(sheet("a journey that calls itself a segment", as_segment.sheet(), 9, 0));
+    cases.push(packet("a journey that calls itself a segment", as_segment.packet(), Answer::refused(6, 130)));
+    cases.push(sheet("a journey that calls itself a segment", as_segment.sheet(), Answer::refused(9, 20)));
+}
+
+/// The fields of the journey with one timing point end with the bit 328, its numbers with the byte 63.
+fn damaged(cases: &mut Vec<Desk>) {
+    let one = journey((1, 1));
+    let (bytes, numbers) = (one.packet(), one.sheet());
+    let with_byte = |place: usize, byte: u8| {
+        let mut packet = bytes.clone();
+        packet[place] = byte;
+        packet
+    };
+    let segments = |count| with(journey((1, 1)), SEGMENTS, count);
+    for (name, bytes, refusal, place) in [
+        ("a journey whose last field does not fit", with_byte(2, 0xD0)[..41].to_vec(), 6, 324),
+        ("a journey without its second segment", segments(2).packet(), 6, 329),
+        ("a journey with a bit left", with_byte(2, 0xD2), 13, 329),
+        ("a journey with a segment left", segments(0).packet(), 13, 131),
+        ("a journey with two padding bits", with_byte(41, 0x24), 7, 330),
+    ] {
+        cases.push(packet(name, bytes, Answer::refused(refusal, place)));
+    }
+    for (name, bytes, place) in [
+        ("a journey that ends within NID_TP", numbers[..35].to_vec(), 33),
+        ("a journey without its second segment", segments(2).sheet(), 64),
+        ("a journey with a segment left", segments(0).sheet(), 20),
+        ("a journey with a byte left", [&numbers[..], &[0]].concat(), 64),
+    ] {
+        cases.push(sheet(name, bytes, Answer::refused(9, place)));
+    }
 }
 
 /// The next body after the longest, of 65,537 bits; a segment more; the most that the counts allow.
 fn too_long(cases: &mut Vec<Desk>) {
     for size in [(56, 478), (LONGEST.0 + 1, LONGEST.1), (255, 31 * 255)] {
         let long = journey(size).sheet();
-        let refused = || sheet("a body too long", long.clone(), 12, 0);
+        let refused = || sheet("a body too long", long.clone(), Answer::refused(12, 0));
         cases.push(refused());
         cases.push(Desk { room: 0, ..refused() });
-        cases.push(sheet("a body too long, and a byte left", [&long[..], &[0]].concat(), 9, 0));
-        cases.push(sheet("a body too long, and a byte less", long[..long.len() - 1].to_vec(), 9, 0));
-        cases.push(sheet("a body too long, and a constraint", [&long[..long.len() - 1], &[1]].concat(), 4, 0));
+        let (length, last) = (long.len() as u32, long.len() as u32 - 1);
+        let (left, before) = ([&long[..], &[0]].concat(), &long[..long.len() - 1]);
+        cases.push(sheet("a body too long, and a byte left", left, Answer::refused(9, length)));
+        cases.push(sheet("a body too long, and a byte less", before.to_vec(), Answer::refused(9, last)));
+        cases.push(sheet("a body too long, and a constraint", [before, &[1]].concat(), Answer::refused(4, last)));
     }
 }
 
@@ -151,7 +175,7 @@ fn questions(cases: &mut Vec<Desk>) {
         (Operation::SpeedFromSheet, numbers),
         (Operation::SpeedFromSheet, vec![4]),
     ] {
-        let answer = Answer { refusal: 2, value: 0 };
+        let answer = Answer::refused(2, 0);
         cases.push(Desk { name: "a question about a journey", operation, input, room: 0, train: train.clone(), x: 0, answer });
     }
 }

@@ -44,8 +44,8 @@ impl Run {
         let seconds = began.elapsed().as_secs_f64();
         println!("{}", self.tally);
         println!("{cases} random cases from seed {first} in {seconds:.0} s, {:.0} a second", cases as f64 / seconds);
-        for (row, refusal) in self.tally.missing() {
-            self.count(Err(format!("{row}: never answered {refusal}")));
+        for missing in self.tally.missing() {
+            self.count(Err(missing));
         }
     }
 

@@ -5,12 +5,26 @@ pub use second::Train;
 /// The packet number of a journey.
 pub const JOURNEY: u8 = 4;
 
-/// A refusal, or 0 with a length, a speed or an altitude.
+/// A refusal with its place, or 0 with a length, a speed or an altitude.
 #[derive(Clone, Copy, Debug, PartialEq, Eq)]
 pub struct Answer {
     pub refusal: u32,
+    pub place: u32,
     pub value: i64,
 }
+
+impl Answer {
+    pub fn success(value: i64) -> Answer {
+        Answer { refusal: 0, place: 0, value }
+    }
+
+    pub fn refused(refusal: u32, place: u32) -> Answer {
+        Answer { refusal, place, value: 0 }
+    }
+}
+
+/// The refusals that are given at a bit or a byte; the place of every other is 0.
+pub const PLACED: [u32; 6] = [4, 5, 6, 7, 9, 13];
 
 #[derive(Clone, Copy, Debug, PartialEq, Eq)]
 pub enum Operation {
@@ -33,12 +47,12 @@ impl Operation {
     /// The refusals that the operation can give, and 0: of a journey's bytes, or of all others.
     pub fn refusals(self, journey: bool) -> &'static [u32] {
         match (self, journey) {
-            (Operation::PacketToSheet, false) => &[0, 1, 2, 3, 4, 5, 6, 7, 8],
+            (Operation::PacketToSheet, false) => &[0, 1, 2, 3, 4, 5, 6, 7, 8, 13],
             (Operation::SheetToPacket, false) => &[0, 2, 4, 5, 8, 9],
-            (Operation::SpeedFromPacket, false) => &[0, 1, 2, 3, 4, 5, 6, 7, 10, 11],
+            (Operation::SpeedFromPacket, false) => &[0, 1, 2, 3, 4, 5, 6, 7, 10, 11, 13],
             (Operation::SpeedFromSheet, false) => &[0, 2, 4, 5, 9, 10, 11],
-            (Operation::AltitudeOfPacket, false) => &[0, 1, 2, 3, 4, 5, 6, 7],
-            (Operation::PacketToSheet, true) => &[0, 1, 3, 4, 6, 7, 8],
+            (Operation::AltitudeOfPacket, false) => &[0, 1, 2, 3, 4, 5, 6, 7, 13],
+            (Operation::PacketToSheet, true) => &[0, 1, 3, 4, 6, 7, 8, 13],
             (Operation::SheetToPacket, true) => &[0, 4, 8, 9, 12],
             (Operation::SpeedFromPacket | Operation::AltitudeOfPacket, true) => &[1, 2],
             (Operation::SpeedFromSheet, true) => &[2],

@@ -1,7 +1,7 @@
 //! The second program under the common interface.
 
 use crate::program::{Answer, Program, Train};
-use second::Refusal;
+use second::Refused;
 
 pub struct Second;
 
@@ -27,10 +27,10 @@ impl Program for Second {
     }
 }
 
-/// A refusal comes with length, speed or altitude 0.
-fn answer(result: Result<impl Into<i64>, Refusal>) -> Answer {
+/// A refusal comes with length, speed or altitude 0, success with the place 0.
+fn answer(result: Result<impl Into<i64>, Refused>) -> Answer {
     match result {
-        Ok(value) => Answer { refusal: 0, value: value.into() },
-        Err(refusal) => Answer { refusal: refusal as u32, value: 0 },
+        Ok(value) => Answer::success(value.into()),
+        Err(refused) => Answer::refused(refused.refusal as u32, refused.place as u32),
     }
 }

@@ -1,37 +1,53 @@
-//! How often each operation gave each refusal and each success, for journeys apart from all else.
+//! How often each operation gave each refusal and each success, and at how many places, for journeys apart from all else.
 
-use crate::program::{Operation, Question, OPERATIONS};
+use crate::program::{Answer, Operation, Question, OPERATIONS, PLACED};
+use std::collections::BTreeSet;
 use std::fmt;
 
-/// The refusals are 1 to 12.
-const ANSWERS: usize = 13;
+/// The refusals are 1 to 13.
+const ANSWERS: usize = 14;
+
+/// What one operation answered, about journeys or about all else.
+#[derive(Default)]
+struct Row {
+    counts: [u64; ANSWERS],
+    /// The places other than 0 of each refusal.
+    places: [BTreeSet<u32>; ANSWERS],
+}
 
 #[derive(Default)]
 pub struct Tally {
-    counts: [[[u64; ANSWERS]; OPERATIONS.len()]; 2],
+    rows: [[Row; OPERATIONS.len()]; 2],
 }
 
 impl Tally {
-    pub fn count(&mut self, question: &Question, refusal: u32) {
-        let counts = &mut self.counts[usize::from(question.is_journey())];
-        if let Some(count) = counts[question.operation as usize].get_mut(refusal as usize) {
-            *count += 1;
+    pub fn count(&mut self, question: &Question, answer: &Answer) {
+        let row = &mut self.rows[usize::from(question.is_journey())][question.operation as usize];
+        let refusal = answer.refusal as usize;
+        if refusal < ANSWERS {
+            row.counts[refusal] += 1;
+            row.places[refusal].extend(Some(answer.place).filter(|place| *place > 0));
         }
     }
 
-    /// The answers that an operation can give and that were never met, each with its row.
-    pub fn missing(&self) -> Vec<(String, u32)> {
+    /// The answers that an operation can give and that were never met, or never at a place other than 0, each with its row.
+    pub fn missing(&self) -> Vec<String> {
         let mut missing = Vec::new();
         for (operation, journey) in rows() {
-            let counts = self.counts(operation, journey);
-            let answers = operation.refusals(journey).iter().filter(|refusal| counts[**refusal as usize] == 0);
-            missing.extend(answers.map(|refusal| (title(operation, journey), *refusal)));
+            let (row, title) = (self.row(operation, journey), title(operation, journey));
+            for refusal in operation.refusals(journey) {
+                if row.counts[*refusal as usize] == 0 {
+                    missing.push(format!("{title}: never answered {refusal}"));
+                } else if PLACED.contains(refusal) && row.places[*refusal as usize].is_empty() {
+                    missing.push(format!("{title}: never answered {refusal} at a place other than 0"));
+                }
+            }
         }
         missing
     }
 
-    fn counts(&self, operation: Operation, journey: bool) -> &[u64; ANSWERS] {
-        &self.counts[usize::from(journey)][operation as usize]
+    fn row(&self, operation: Operation, journey: bool) -> &Row {
+        &self.rows[usize::from(journey)][operation as usize]
     }
 }
 
@@ -46,13 +62,20 @@ fn title(operation: Operation, journey: bool) -> String {
 
 impl fmt::Display for Tally {
     fn fmt(&self, f: &mut fmt::Formatter) -> fmt::Result {
-        write!(f, "{:27}{:>9}", "", "accepted")?;
+        write!(f, "{:27}{:>9}", "answers", "accepted")?;
         (1..ANSWERS).try_for_each(|refusal| write!(f, "{refusal:>8}"))?;
         for (operation, journey) in rows() {
             write!(f, "\n{:27}", title(operation, journey))?;
-            let counts = self.counts(operation, journey);
+            let counts = self.row(operation, journey).counts;
             write!(f, "{:>9}", counts[0])?;
             counts[1..].iter().try_for_each(|count| write!(f, "{count:>8}"))?;
+        }
+        write!(f, "\n{:36}", "places other than 0")?;
+        PLACED.iter().try_for_each(|refusal| write!(f, "{refusal:>8}"))?;
+        for (operation, journey) in rows() {
+            write!(f, "\n{:36}", title(operation, journey))?;
+            let places = &self.row(operation, journey).places;
+            PLACED.iter().try_for_each(|refusal| write!(f, "{:>8}", places[*refusal as usize].len()))?;
         }
         Ok(())
     }

@@ -31,15 +31,21 @@ pub fn push(bits: &mut Vec<bool>, width: u32, value: u32) {
     }
 }
 
-/// Bits that are read from the front, field by field.
+/// Bits that are read in order, field by field.
 pub struct Reader {
     bits: Vec<bool>,
     at: usize,
 }
 
 impl Reader {
-    pub fn new(bits: Vec<bool>) -> Reader {
-        Reader { bits, at: 0 }
+    /// A reader of the bits from `at` on.
+    pub fn new(bits: Vec<bool>, at: usize) -> Reader {
+        Reader { bits, at }
+    }
+
+    /// The first bit that is not yet read.
+    pub fn place(&self) -> usize {
+        self.at
     }
 
     /// The next field, or nothing where it does not fit in the bits that are left.

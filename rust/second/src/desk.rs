@@ -5,12 +5,12 @@ use crate::numbers;
 use crate::*;
 
 /// The numbers of the document's sheet; its places are named below.
-const SHEET: [u32; 23] = [6, 0x12345, 1, 0, 0, 7, 0, 0, 0, 0, 1, 0, 0, 0, 80, 0, 0, 0, 0, 0, 0, 0, 0];
+pub const SHEET: [u32; 23] = [6, 0x12345, 1, 0, 0, 7, 0, 0, 0, 0, 1, 0, 0, 0, 80, 0, 0, 0, 0, 0, 0, 0, 0];
 const SECONDS: usize = 4;
-const LENGTH: usize = 10;
+pub const LENGTH: usize = 10;
 const SPEED: usize = 14;
 const FRONT: usize = 15;
-const SPEED_CHANGES: usize = 17;
+pub const SPEED_CHANGES: usize = 17;
 const VOLTAGE_CHANGES: usize = 20;
 const CURRENT: usize = 21;
 
@@ -34,7 +34,7 @@ fn sheet_with(place: usize, number: u32) -> Vec<u8> {
 }
 
 /// The document's packet, byte by byte.
-fn sample() -> Vec<u8> {
+pub fn sample() -> Vec<u8> {
     let mut packet = vec![0x06, 0x00, 0xB9, 0x00, 0x01, 0x23, 0x45, 0x00, 0x00, 0x01, 0x00, 0x00, 0x00, 0x00, 0x07];
     packet.extend([0; 10]);
     packet.push(0x40);
@@ -54,14 +54,14 @@ pub fn packet_with(packet: &[u8], (place, width): (usize, u32), value: u32) -> V
     bytes_of(&bits)
 }
 
-pub fn packet_of(sheet: &[u8]) -> Result<Vec<u8>, Refusal> {
+pub fn packet_of(sheet: &[u8]) -> Result<Vec<u8>, Refused> {
     let mut room = vec![0; 8_207];
     let length = sheet_to_packet(sheet, &mut room)?;
     room.truncate(length);
     Ok(room)
 }
 
-pub fn sheet_of(packet: &[u8]) -> Result<Vec<u8>, Refusal> {
+pub fn sheet_of(packet: &[u8]) -> Result<Vec<u8>, Refused> {
     let mut room = vec![0; 15_226];
     let length = packet_to_sheet(packet, &mut room)?;
     room.truncate(length);
@@ -86,30 +86,31 @@ fn speeds_are_lowered_to_the_whole_part() {
     assert_ne!(packet_of(&sheet_with(SPEED, 85)), Ok(sample()));
     assert!(packet_of(&sheet_with(SPEED, 85)).is_ok());
     assert_eq!(packet_of(&sheet_with(SPEED, 604)), packet_of(&sheet_with(SPEED, 600)));
-    assert_eq!(packet_of(&sheet_with(SPEED, 605)), Err(Refusal::Field));
+    assert_eq!(packet_of(&sheet_with(SPEED, 605)), Err(Refusal::Field.at(16)));
     assert_eq!(speed_from_sheet(&sheet_with(SPEED, 84), &TRAIN, 0), Ok(84));
 }
 
 #[test]
 fn packets_are_refused_in_the_document_s_order() {
-    assert_eq!(sheet_of(&[]), Err(Refusal::Short));
-    assert_eq!(sheet_of(&sample()[..38]), Err(Refusal::Size));
-    assert_eq!(sheet_of(&packet_with(&sample(), (38 * 8, 8), 1)), Err(Refusal::Padding));
-    assert_eq!(sheet_of(&packet_with(&sample(), (0, 8), 5)), Err(Refusal::Number));
-    assert_eq!(sheet_of(&packet_with(&sample(), (8, 16), 186)), Err(Refusal::Bits));
-    assert_eq!(sheet_of(&packet_with(&sample(), (8, 16), 184)), Err(Refusal::Size));
+    assert_eq!(sheet_of(&[]), Err(Refusal::Short.nowhere()));
+    assert_eq!(sheet_of(&sample()[..38]), Err(Refusal::Size.nowhere()));
+    assert_eq!(sheet_of(&packet_with(&sample(), (38 * 8, 8), 1)), Err(Refusal::Padding.at(311)));
+    assert_eq!(sheet_of(&packet_with(&sample(), (0, 8), 5)), Err(Refusal::Number.nowhere()));
+    assert_eq!(sheet_of(&packet_with(&sample(), (8, 16), 186)), Err(Refusal::Left.at(305)));
+    assert_eq!(sheet_of(&packet_with(&sample(), (8, 16), 184)), Err(Refusal::Size.nowhere()));
 }
 
 #[test]
 fn sheets_are_refused_for_their_form() {
-    assert_eq!(packet_of(&[]), Err(Refusal::Sheet));
-    assert_eq!(packet_of(&[0x80, 0x00]), Err(Refusal::Sheet));
-    assert_eq!(packet_of(&[sheet(&SHEET), vec![0]].concat()), Err(Refusal::Sheet));
-    assert_eq!(packet_of(&sheet_with(0, 5)), Err(Refusal::Number));
+    assert_eq!(packet_of(&[]), Err(Refusal::Sheet.at(0)));
+    assert_eq!(packet_of(&[0x80, 0x00]), Err(Refusal::Sheet.at(0)));
+    assert_eq!(packet_of(&[sheet(&SHEET), vec![0]].concat()), Err(Refusal::Sheet.at(25)));
+    assert_eq!(packet_of(&sheet_with(0, 5)), Err(Refusal::Number.nowhere()));
     assert_eq!(sheet(&[300, 127, 128]), [0xAC, 0x02, 0x7F, 0x80, 0x01]);
     let mut reader = numbers::Numbers::new(&[0xFF, 0xFF, 0xFF, 0xFF, 0x0F, 0x80, 0x80, 0x80, 0x80, 0x10]);
-    assert_eq!(reader.take(), Ok(u32::MAX));
-    assert_eq!(reader.take(), Err(Refusal::Sheet));
+    assert_eq!(reader.take(), Some(u32::MAX));
+    assert_eq!(reader.place(), 5);
+    assert_eq!(reader.take(), None);
 }
 
 #[test]
@@ -120,7 +121,7 @@ fn no_current_limit_is_not_a_limit_of_nothing() {
     assert_ne!(none, nothing);
     assert_eq!(sheet_of(&nothing.unwrap()), Ok(sheet_with(CURRENT, 1)));
     assert_eq!(packet_of(&sheet_with(CURRENT, 10_010)), packet_of(&sheet_with(CURRENT, 10_001)));
-    assert_eq!(packet_of(&sheet_with(CURRENT, 10_011)), Err(Refusal::Field));
+    assert_eq!(packet_of(&sheet_with(CURRENT, 10_011)), Err(Refusal::Field.at(23)));
 }
 
 #[test]
@@ -162,11 +163,11 @@ fn trains_and_locations_are_judged_last() {
     let sheet = sheet(&SHEET);
     for (length, cant) in [(0, 80), (150_001, 80), (200, 81)] {
         let train = Train { length, cant, ..TRAIN };
-        assert_eq!(speed_from_sheet(&sheet, &train, 9), Err(Refusal::Train));
-        assert_eq!(speed_from_packet(&[], &train, 9), Err(Refusal::Short));
+        assert_eq!(speed_from_sheet(&sheet, &train, 9), Err(Refusal::Train.nowhere()));
+        assert_eq!(speed_from_packet(&[], &train, 9), Err(Refusal::Short.nowhere()));
     }
-    assert_eq!(speed_from_sheet(&sheet, &TRAIN, 1), Err(Refusal::Place));
-    assert_eq!(speed_from_packet(&sample(), &TRAIN, u32::MAX), Err(Refusal::Place));
+    assert_eq!(speed_from_sheet(&sheet, &TRAIN, 1), Err(Refusal::PastEnd.nowhere()));
+    assert_eq!(speed_from_packet(&sample(), &TRAIN, u32::MAX), Err(Refusal::PastEnd.nowhere()));
 }
 
 #[test]
@@ -174,8 +175,8 @@ fn seconds_end_with_the_day() {
     let last = packet_with(&sample(), SECONDS_BITS, 86_399);
     assert_eq!(sheet_of(&last), Ok(sheet_with(SECONDS, 86_399)));
     assert_eq!(packet_of(&sheet_with(SECONDS, 86_399)), Ok(last));
-    assert_eq!(sheet_of(&packet_with(&sample(), SECONDS_BITS, 86_400)), Err(Refusal::Field));
-    assert_eq!(packet_of(&sheet_with(SECONDS, 86_400)), Err(Refusal::Field));
+    assert_eq!(sheet_of(&packet_with(&sample(), SECONDS_BITS, 86_400)), Err(Refusal::Field.at(95)));
+    assert_eq!(packet_of(&sheet_with(SECONDS, 86_400)), Err(Refusal::Field.at(6)));
 }
 
 #[test]
@@ -189,8 +190,8 @@ fn locations_lie_between_the_segment_s_ends() {
         packet_of(&sheet(&numbers))
     };
     assert!(changed(&[1, 999]).is_ok());
-    for wrong in [[0, 5], [5, 5], [5, 4], [5, 1_000], [5, u32::MAX]] {
-        assert_eq!(changed(&wrong), Err(Refusal::Location));
+    for (wrong, place) in [([0, 5], 21), ([5, 5], 25), ([5, 4], 25), ([5, 1_000], 25), ([5, u32::MAX], 25)] {
+        assert_eq!(changed(&wrong), Err(Refusal::Location.at(place)));
     }
 }
 
@@ -205,16 +206,16 @@ fn voltage_changes_are_at_most_23() {
         packet_of(&sheet(&numbers))
     };
     assert_eq!(changed(23).map(|packet| packet.len()), Ok(15 + (185 + 23 * 38 + 7) / 8));
-    assert_eq!(changed(24), Err(Refusal::Field));
-    assert_eq!(sheet_of(&packet_with(&sample(), VOLTAGE_COUNT_BITS, 24)), Err(Refusal::Field));
-    assert_eq!(sheet_of(&packet_with(&sample(), VOLTAGE_COUNT_BITS, 23)), Err(Refusal::Bits));
+    assert_eq!(changed(24), Err(Refusal::Field.at(23)));
+    assert_eq!(sheet_of(&packet_with(&sample(), VOLTAGE_COUNT_BITS, 24)), Err(Refusal::Field.at(285)));
+    assert_eq!(sheet_of(&packet_with(&sample(), VOLTAGE_COUNT_BITS, 23)), Err(Refusal::Bits.at(290)));
 }
 
 #[test]
 fn the_room_stays_where_it_is_too_small() {
     let mut room = [0xEE; 38];
-    assert_eq!(sheet_to_packet(&sheet(&SHEET), &mut room), Err(Refusal::Room));
-    assert_eq!(packet_to_sheet(&sample(), &mut room[..24]), Err(Refusal::Room));
+    assert_eq!(sheet_to_packet(&sheet(&SHEET), &mut room), Err(Refusal::Room.nowhere()));
+    assert_eq!(packet_to_sheet(&sample(), &mut room[..24]), Err(Refusal::Room.nowhere()));
     assert_eq!(room, [0xEE; 38]);
     assert_eq!(packet_to_sheet(&sample(), &mut room), Ok(25));
     assert_eq!((room[16], room[25]), (0x50, 0xEE));

@@ -4,7 +4,7 @@ use crate::desk::{packet_of, packet_with, sheet, sheet_of, TRAIN};
 use crate::*;
 
 /// A journey over one segment with one timing point, as numbers; the places of some are named below.
-const JOURNEY: [u32; 31] = [
+pub const JOURNEY: [u32; 31] = [
     4, 0x12345, 1, 0, 0, 7, 1, 1, 345, 0x89ABCDEF, 17, 130, 1, 1, 0x76543210, 12_345, 86_400, 601, 1, 0, 1, 1, 2, 1, 0, 1,
     23_456, 86_399, 777, 1, 0,
 ];
@@ -19,41 +19,53 @@ const CONSTRAINTS: usize = 30;
 const WIDTHS: [u32; 31] =
     [8, 32, 24, 15, 17, 8, 3, 8, 10, 32, 8, 8, 1, 5, 32, 15, 17, 10, 2, 2, 2, 1, 2, 1, 1, 1, 15, 17, 10, 1, 5];
 
-const PACKET: [u8; 42] = [
+pub const PACKET: [u8; 42] = [
     0x04, 0x00, 0xD1, 0x00, 0x01, 0x23, 0x45, 0x00, 0x00, 0x01, 0x00, 0x00, 0x00, 0x00, 0x07, // header
     0x20, 0x2A, 0xCC, 0x4D, 0x5E, 0x6F, 0x78, 0x8C, 0x14, 0x2E, 0xCA, 0x86, 0x42, 0x0C, 0x0E, 0x6A, 0x30, 0x12, 0xCA, 0x3A, 0xDB,
     0xA0, 0xA8, 0xBF, 0xE1, 0x30, 0x00,
 ];
 
-/// The journey with one number replaced, as a sheet and as a packet.
-fn with(place: usize, value: u32) -> (Vec<u8>, Vec<u8>) {
-    edited(&JOURNEY, place, value)
+/// A journey in both media, and where a number of it begins in each.
+struct Journey {
+    sheet: Vec<u8>,
+    byte: usize,
+    packet: Vec<u8>,
+    bit: usize,
 }
 
-fn edited(numbers: &[u32; 31], place: usize, value: u32) -> (Vec<u8>, Vec<u8>) {
+/// The journey with one number replaced.
+fn with(index: usize, value: u32) -> Journey {
+    edited(&JOURNEY, index, value)
+}
+
+fn edited(numbers: &[u32; 31], index: usize, value: u32) -> Journey {
     let mut numbers = *numbers;
-    numbers[place] = value;
+    numbers[index] = value;
     let mut packet = PACKET.to_vec();
-    for (place, value) in numbers.iter().enumerate() {
-        let before: u32 = WIDTHS[..place].iter().sum();
-        let start = before as usize + if place > 0 { 16 } else { 0 };
-        packet = packet_with(&packet, (start, WIDTHS[place]), *value);
+    for (index, value) in numbers.iter().enumerate() {
+        packet = packet_with(&packet, (bit_of(index), WIDTHS[index]), *value);
     }
-    (sheet(&numbers), packet)
+    Journey { sheet: sheet(&numbers), byte: sheet(&numbers[..index]).len(), packet, bit: bit_of(index) }
 }
 
-fn accepted((sheet, packet): (Vec<u8>, Vec<u8>)) {
-    assert_eq!(packet_of(&sheet), Ok(packet.clone()));
-    assert_eq!(sheet_of(&packet), Ok(sheet));
+fn bit_of(index: usize) -> usize {
+    let before: u32 = WIDTHS[..index].iter().sum();
+    before as usize + if index > 0 { 16 } else { 0 }
 }
 
-fn refused((sheet, packet): (Vec<u8>, Vec<u8>), refusal: Refusal) {
-    assert_eq!(packet_of(&sheet), Err(refusal));
-    assert_eq!(sheet_of(&packet), Err(refusal));
+fn accepted(journey: Journey) {
+    assert_eq!(packet_of(&journey.sheet), Ok(journey.packet.clone()));
+    assert_eq!(sheet_of(&journey.packet), Ok(journey.sheet));
+}
+
+/// Both media are refused, at the number.
+fn refused(journey: Journey, refusal: Refusal) {
+    assert_eq!(packet_of(&journey.sheet), Err(refusal.at(journey.byte)));
+    assert_eq!(sheet_of(&journey.packet), Err(refusal.at(journey.bit)));
 }
 
 /// The sheet of a journey with so many segments and timing points, at most 31 a segment, all numbers else 0.
-fn long(legs: u32, points: u32) -> Vec<u8> {
+pub fn long(legs: u32, points: u32) -> Vec<u8> {
     let mut numbers = vec![4, 0, 0, 0, 0, 0, 0, legs];
     let mut left = points;
     for _ in 0..legs {
@@ -68,11 +80,11 @@ fn long(legs: u32, points: u32) -> Vec<u8> {
 
 #[test]
 fn a_journey_goes_both_ways() {
-    assert_eq!(with(0, 4).1, PACKET);
+    assert_eq!(with(0, 4).packet, PACKET);
     accepted(with(0, 4));
     let (shortest, packet) = (sheet(&[4, 0x12345, 1, 0, 0, 7, 1, 0]), [&PACKET[..2], &[11], &PACKET[3..15], &[0x20, 0]].concat());
     assert_eq!(shortest, [0x04, 0xC5, 0xC6, 0x04, 0x01, 0, 0, 0x07, 0x01, 0x00]);
-    accepted((shortest, packet));
+    accepted(Journey { sheet: shortest, byte: 0, packet, bit: 0 });
 }
 
 #[test]
@@ -80,29 +92,33 @@ fn the_packet_number_says_what_follows() {
     for number in [0, 5, 7] {
         refused(with(0, number), Refusal::Number);
     }
-    let shortest = |number| (sheet(&[number, 0, 0, 0, 0, 0, 0, 0]), [&[number as u8, 0, 11][..], &[0; 14]].concat());
+    // of a segment, NID_C and NID_SP are there in the sheet and NID_C alone in the packet
+    let shortest = |number| {
+        let packet = [&[number as u8, 0, 11][..], &[0; 14]].concat();
+        Journey { sheet: sheet(&[number, 0, 0, 0, 0, 0, 0, 0]), byte: 8, packet, bit: 130 }
+    };
     accepted(shortest(4));
-    assert_eq!(packet_of(&shortest(6).0), Err(Refusal::Sheet));
-    assert_eq!(sheet_of(&shortest(6).1), Err(Refusal::Bits));
+    assert_eq!(packet_of(&shortest(6).sheet), Err(Refusal::Sheet.at(8)));
+    assert_eq!(sheet_of(&shortest(6).packet), Err(Refusal::Bits.at(130)));
 }
 
 #[test]
 fn a_segment_is_needed_for_a_question() {
     let sheet = sheet(&JOURNEY);
     let train = Train { length: 0, ..TRAIN };
-    assert_eq!(speed_from_sheet(&sheet, &train, 0), Err(Refusal::Number));
-    assert_eq!(speed_from_packet(&PACKET, &train, 0), Err(Refusal::Number));
-    assert_eq!(altitude_of_packet(&PACKET), Err(Refusal::Number));
-    assert_eq!(altitude_of_packet(&PACKET[..41]), Err(Refusal::Number));
-    assert_eq!(altitude_of_packet(&PACKET[..14]), Err(Refusal::Short));
-    assert_eq!(speed_from_sheet(&[4], &train, 0), Err(Refusal::Number));
+    assert_eq!(speed_from_sheet(&sheet, &train, 0), Err(Refusal::Number.nowhere()));
+    assert_eq!(speed_from_packet(&PACKET, &train, 0), Err(Refusal::Number.nowhere()));
+    assert_eq!(altitude_of_packet(&PACKET), Err(Refusal::Number.nowhere()));
+    assert_eq!(altitude_of_packet(&PACKET[..41]), Err(Refusal::Number.nowhere()));
+    assert_eq!(altitude_of_packet(&PACKET[..14]), Err(Refusal::Short.nowhere()));
+    assert_eq!(speed_from_sheet(&[4], &train, 0), Err(Refusal::Number.nowhere()));
 }
 
 #[test]
 fn ranges_end_where_the_request_says() {
-    let last = |place: usize, most: u32| {
-        accepted(with(place, most));
-        refused(with(place, most + 1), Refusal::Field);
+    let last = |index: usize, most: u32| {
+        accepted(with(index, most));
+        refused(with(index, most + 1), Refusal::Field);
     };
     last(STATUS, 4);
     last(POINT + 2, 86_400);
@@ -115,14 +131,18 @@ fn ranges_end_where_the_request_says() {
 
 #[test]
 fn numbers_fit_the_packet_s_fields() {
-    for place in [LEG, LEG + 2, LEG + 3, LEG + 4, POINT + 1, POINT + 3, POINT + 7, HALT, HALT + 1, HALT + 4, HALT + 6, HALT + 7] {
-        let most = (1 << WIDTHS[place]) - 1;
-        accepted(with(place, most));
-        assert_eq!(packet_of(&with(place, most + 1).0), Err(Refusal::Field));
+    let past = |index: usize, number: u32| {
+        let journey = with(index, number);
+        assert_eq!(packet_of(&journey.sheet), Err(Refusal::Field.at(journey.byte)));
+    };
+    for index in [LEG, LEG + 2, LEG + 3, LEG + 4, POINT + 1, POINT + 3, POINT + 7, HALT, HALT + 1, HALT + 4, HALT + 6, HALT + 7] {
+        let most = (1 << WIDTHS[index]) - 1;
+        accepted(with(index, most));
+        past(index, most + 1);
     }
     accepted(with(POINT, u32::MAX));
-    assert_eq!(packet_of(&with(LEGS, 256).0), Err(Refusal::Field));
-    assert_eq!(packet_of(&with(LEG + 5, 32).0), Err(Refusal::Field));
+    past(LEGS, 256);
+    past(LEG + 5, 32);
 }
 
 #[test]
@@ -131,11 +151,12 @@ fn a_passing_point_says_nothing_of_a_halt() {
     passing[POINT + 5] = 2;
     passing[HALT..CONSTRAINTS].fill(0);
     accepted(edited(&passing, 0, 4));
-    for place in HALT..CONSTRAINTS {
-        refused(edited(&passing, place, 1), Refusal::Field);
+    for index in HALT..CONSTRAINTS {
+        refused(edited(&passing, index, 1), Refusal::Field);
     }
     accepted(with(POINT + 5, 1));
-    refused(with(POINT + 5, 2), Refusal::Field);
+    // the door side is the first of the eight that is not 0
+    refused(Journey { byte: 38, bit: 276, ..with(POINT + 5, 2) }, Refusal::Field);
 }
 
 #[test]
@@ -145,15 +166,16 @@ fn bodies_are_at_most_65_535_bits() {
     assert_eq!((longest.len(), &longest[..3]), (8_207, &[4, 0xFF, 0xFE][..]));
     assert_eq!(sheet_of(&longest), Ok(long(41, 486)));
     for (legs, points) in [(56, 478), (42, 486), (41, 487), (255, 31 * 255)] {
-        assert_eq!(packet_of(&long(legs, points)), Err(Refusal::Body));
+        assert_eq!(packet_of(&long(legs, points)), Err(Refusal::Body.nowhere()));
     }
 }
 
 #[test]
 fn a_long_body_is_judged_after_the_sheet_and_before_the_room() {
     let long = long(42, 486);
-    assert_eq!(sheet_to_packet(&long, &mut []), Err(Refusal::Body));
-    assert_eq!(packet_of(&[&long[..], &[0]].concat()), Err(Refusal::Sheet));
-    assert_eq!(packet_of(&long[..long.len() - 1]), Err(Refusal::Sheet));
-    assert_eq!(packet_of(&[&long[..long.len() - 1], &[1]].concat()), Err(Refusal::Field));
+    assert_eq!(sheet_to_packet(&long, &mut []), Err(Refusal::Body.nowhere()));
+    let last = long.len() - 1;
+    assert_eq!(packet_of(&[&long[..], &[0]].concat()), Err(Refusal::Sheet.at(long.len())));
+    assert_eq!(packet_of(&long[..last]), Err(Refusal::Sheet.at(last)));
+    assert_eq!(packet_of(&[&long[..last], &[1]].concat()), Err(Refusal::Field.at(last)));
 }

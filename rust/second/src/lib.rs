@@ -7,6 +7,8 @@ mod carried;
 mod desk;
 #[cfg(test)]
 mod desk_journeys;
+#[cfg(test)]
+mod desk_places;
 mod journey;
 mod numbers;
 mod packet_reading;
@@ -17,39 +19,39 @@ mod sheet_reading;
 mod sheet_writing;
 mod speed;
 
-pub use refusal::Refusal;
+pub use refusal::{Refusal, Refused};
 pub use speed::Train;
 
 /// Packet to sheet: the sheet's length, with the sheet at the start of the room.
-pub fn packet_to_sheet(packet: &[u8], room: &mut [u8]) -> Result<usize, Refusal> {
+pub fn packet_to_sheet(packet: &[u8], room: &mut [u8]) -> Result<usize, Refused> {
     let carried = packet_reading::carried_in(packet)?;
     lay(&sheet_writing::sheet_of(&carried), room)
 }
 
 /// Sheet to packet: the packet's length, with the packet at the start of the room.
-pub fn sheet_to_packet(sheet: &[u8], room: &mut [u8]) -> Result<usize, Refusal> {
+pub fn sheet_to_packet(sheet: &[u8], room: &mut [u8]) -> Result<usize, Refused> {
     let carried = sheet_reading::carried_in(sheet)?;
     lay(&packet_writing::packet_of(&carried)?, room)
 }
 
 /// The permitted speed in km/h at location `x`, by the packet's speeds times 5.
-pub fn speed_from_packet(packet: &[u8], train: &Train, x: u32) -> Result<u32, Refusal> {
+pub fn speed_from_packet(packet: &[u8], train: &Train, x: u32) -> Result<u32, Refused> {
     speed::permitted(&packet_reading::segment_of(packet)?, train, x)
 }
 
 /// The permitted speed in km/h at location `x`, by the sheet's own speeds.
-pub fn speed_from_sheet(sheet: &[u8], train: &Train, x: u32) -> Result<u32, Refusal> {
+pub fn speed_from_sheet(sheet: &[u8], train: &Train, x: u32) -> Result<u32, Refused> {
     speed::permitted(&sheet_reading::segment_of(sheet)?, train, x)
 }
 
 /// The altitude of a packet in signed centimetres.
-pub fn altitude_of_packet(packet: &[u8]) -> Result<i32, Refusal> {
+pub fn altitude_of_packet(packet: &[u8]) -> Result<i32, Refused> {
     Ok(packet_reading::segment_of(packet)?.altitude)
 }
 
 /// Copies a result to the start of the room, or leaves the room as it was.
-fn lay(result: &[u8], room: &mut [u8]) -> Result<usize, Refusal> {
-    let start = room.get_mut(..result.len()).ok_or(Refusal::Room)?;
+fn lay(result: &[u8], room: &mut [u8]) -> Result<usize, Refused> {
+    let start = room.get_mut(..result.len()).ok_or_else(|| Refusal::Room.nowhere())?;
     start.copy_from_slice(result);
     Ok(result.len())
 }

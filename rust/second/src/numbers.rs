@@ -1,27 +1,31 @@
 //! A sheet's numbers: groups of seven bits, lowest group first, the shortest form alone.
 
-use crate::Refusal;
-
-/// The numbers of a sheet that are not yet read.
+/// A sheet whose numbers are read in order.
 pub struct Numbers<'a> {
-    left: &'a [u8],
+    sheet: &'a [u8],
+    at: usize,
 }
 
 impl<'a> Numbers<'a> {
     pub fn new(sheet: &'a [u8]) -> Numbers<'a> {
-        Numbers { left: sheet }
+        Numbers { sheet, at: 0 }
     }
 
-    /// The next number.
-    pub fn take(&mut self) -> Result<u32, Refusal> {
-        let last = self.left.iter().position(|byte| *byte < 128).ok_or(Refusal::Sheet)?;
-        let (groups, left) = self.left.split_at(last + 1);
-        self.left = left;
-        number_of(groups).ok_or(Refusal::Sheet)
+    /// The first byte that is not yet read.
+    pub fn place(&self) -> usize {
+        self.at
+    }
+
+    /// The next number, or nothing where it is not there or not well formed.
+    pub fn take(&mut self) -> Option<u32> {
+        let left = &self.sheet[self.at..];
+        let groups = 1 + left.iter().position(|byte| *byte < 128)?;
+        self.at += groups;
+        number_of(&left[..groups])
     }
 
     pub fn is_empty(&self) -> bool {
-        self.left.is_empty()
+        self.at == self.sheet.len()
     }
 }
 

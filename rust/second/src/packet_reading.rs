@@ -3,78 +3,87 @@
 use crate::bits::{bits_of, Reader};
 use crate::carried::Carried;
 use crate::journey::*;
-use crate::refusal::Refusal;
+use crate::refusal::{Refusal, Refused};
 use crate::segment::*;
 
 const HEADER_BYTES: usize = 15;
+/// The first bit after the packet number and L_PACKET_ATO.
+const OPERATIONAL: usize = 24;
 
 /// What a packet carries, or the refusal that comes first in the document's order.
-pub fn carried_in(packet: &[u8]) -> Result<Carried, Refusal> {
+pub fn carried_in(packet: &[u8]) -> Result<Carried, Refused> {
     match number_of(packet)? {
         SEGMENT_NUMBER => Ok(Carried::Segment(read(packet, Fields::segment)?)),
         JOURNEY_NUMBER => Ok(Carried::Journey(read(packet, Fields::journey)?)),
-        _ => Err(Refusal::Number),
+        _ => Err(Refusal::Number.nowhere()),
     }
 }
 
 /// The segment of a packet, where nothing else will do.
-pub fn segment_of(packet: &[u8]) -> Result<Segment, Refusal> {
+pub fn segment_of(packet: &[u8]) -> Result<Segment, Refused> {
     match number_of(packet)? {
         SEGMENT_NUMBER => read(packet, Fields::segment),
-        _ => Err(Refusal::Number),
+        _ => Err(Refusal::Number.nowhere()),
     }
 }
 
 /// The packet number, where there is a header.
-fn number_of(packet: &[u8]) -> Result<u32, Refusal> {
+fn number_of(packet: &[u8]) -> Result<u32, Refused> {
     if packet.len() < HEADER_BYTES {
-        return Err(Refusal::Short);
+        return Err(Refusal::Short.nowhere());
     }
     Ok(packet[0].into())
 }
 
 /// Reads the rest of the header, and the body by its own rules.
-fn read<T>(packet: &[u8], rules: fn(&mut Fields, Header) -> Result<T, Refusal>) -> Result<T, Refusal> {
-    let (header, body) = packet.split_at(HEADER_BYTES);
-    let mut header = Fields(Reader::new(bits_of(&header[1..])));
-    let length = header.any(16)? as usize;
-    if body.len() != length / 8 + usize::from(length % 8 > 0) {
-        return Err(Refusal::Size);
+fn read<T>(packet: &[u8], rules: fn(&mut Fields, Header) -> Result<T, Refused>) -> Result<T, Refused> {
+    let end = HEADER_BYTES * 8 + usize::from(u16::from_be_bytes([packet[1], packet[2]]));
+    if packet.len() != end / 8 + usize::from(end % 8 > 0) {
+        return Err(Refusal::Size.nowhere());
     }
-    let header = header.header()?;
-    let mut bits = bits_of(body);
-    let padding = bits.split_off(length);
-    let mut body = Fields(Reader::new(bits));
-    let content = rules(&mut body, header)?;
-    match (body.0.is_empty(), padding.contains(&true)) {
-        (false, _) => Err(Refusal::Bits),
-        (true, true) => Err(Refusal::Padding),
-        (true, false) => Ok(content),
+    let mut bits = bits_of(packet);
+    let padding = bits.split_off(end);
+    let mut fields = Fields(Reader::new(bits, OPERATIONAL));
+    let header = fields.header()?;
+    let content = rules(&mut fields, header)?;
+    if !fields.0.is_empty() {
+        return Err(Refusal::Left.at(fields.0.place()));
+    }
+    match padding.iter().position(|bit| *bit) {
+        Some(first) => Err(Refusal::Padding.at(end + first)),
+        None => Ok(content),
     }
 }
 
+/// Fields, each refused at its own first bit.
 struct Fields(Reader);
 
 impl Fields {
-    /// A field of which every value is allowed.
-    fn any(&mut self, width: usize) -> Result<u32, Refusal> {
-        self.0.take(width).ok_or(Refusal::Bits)
-    }
-
-    fn up_to(&mut self, width: usize, largest: u32) -> Result<u32, Refusal> {
-        self.field(width, |value| value <= largest)
-    }
-
-    fn field(&mut self, width: usize, allowed: impl Fn(u32) -> bool) -> Result<u32, Refusal> {
-        let value = self.any(width)?;
+    /// A field that fits in the bits that are left, and then is allowed.
+    fn judged(&mut self, width: usize, allowed: impl Fn(u32) -> bool, otherwise: Refusal) -> Result<u32, Refused> {
+        let place = self.0.place();
+        let value = self.0.take(width).ok_or_else(|| Refusal::Bits.at(place))?;
         if allowed(value) {
             Ok(value)
         } else {
-            Err(Refusal::Field)
+            Err(otherwise.at(place))
         }
     }
 
-    fn header(&mut self) -> Result<Header, Refusal> {
+    fn field(&mut self, width: usize, allowed: impl Fn(u32) -> bool) -> Result<u32, Refused> {
+        self.judged(width, allowed, Refusal::Field)
+    }
+
+    fn up_to(&mut self, width: usize, largest: u32) -> Result<u32, Refused> {
+        self.field(width, |value| value <= largest)
+    }
+
+    /// A field of which every value is allowed.
+    fn any(&mut self, width: usize) -> Result<u32, Refused> {
+        self.field(width, |_| true)
+    }
+
+    fn header(&mut self) -> Result<Header, Refused> {
         Ok(Header {
             operational: self.field(32, is_operational)?,
             engine: self.any(24)?,
@@ -85,7 +94,7 @@ impl Fields {
     }
 
     // A structure's fields are read in the order in which they are written here, which is the packet's.
-    fn segment(&mut self, header: Header) -> Result<Segment, Refusal> {
+    fn segment(&mut self, header: Header) -> Result<Segment, Refused> {
         let identity = self.identity()?;
         let length = self.field(24, |length| length > 0)?;
         Ok(Segment {
@@ -101,21 +110,16 @@ impl Fields {
         })
     }
 
-    fn identity(&mut self) -> Result<Identity, Refusal> {
+    fn identity(&mut self) -> Result<Identity, Refused> {
         Ok(Identity { country: self.any(10)?, number: self.any(32)?, version: [self.any(8)?, self.any(8)?] })
     }
 
     /// A change's location: past the one before it, and before the segment's end.
-    fn location(&mut self, before: u32, end: u32) -> Result<u32, Refusal> {
-        let location = self.any(24)?;
-        if before < location && location < end {
-            Ok(location)
-        } else {
-            Err(Refusal::Location)
-        }
+    fn location(&mut self, before: u32, end: u32) -> Result<u32, Refused> {
+        self.judged(24, |location| before < location && location < end, Refusal::Location)
     }
 
-    fn elements(&mut self, end: u32) -> Result<Vec<Element>, Refusal> {
+    fn elements(&mut self, end: u32) -> Result<Vec<Element>, Refused> {
         let mut start = 0;
         let mut elements = vec![self.element(start)?];
         for _ in 0..self.any(5)? {
@@ -125,7 +129,7 @@ impl Fields {
         Ok(elements)
     }
 
-    fn element(&mut self, start: u32) -> Result<Element, Refusal> {
+    fn element(&mut self, start: u32) -> Result<Element, Refused> {
         let speed = self.speed()?;
         let front = self.any(1)? == 1;
         let count = self.any(5)?;
@@ -133,11 +137,11 @@ impl Fields {
         Ok(Element { start, speed, front, entries })
     }
 
-    fn speed(&mut self) -> Result<u32, Refusal> {
+    fn speed(&mut self) -> Result<u32, Refused> {
         Ok(self.up_to(7, 120)? * 5)
     }
 
-    fn entry(&mut self) -> Result<Entry, Refusal> {
+    fn entry(&mut self) -> Result<Entry, Refused> {
         let class = match self.up_to(2, 2)? {
             0 => Class::Cant(CANTS[self.up_to(4, 10)? as usize]),
             1 => Class::Instead(self.up_to(4, 2)?),
@@ -146,7 +150,7 @@ impl Fields {
         Ok(Entry { class, speed: self.speed()? })
     }
 
-    fn voltages(&mut self, end: u32) -> Result<Vec<VoltageChange>, Refusal> {
+    fn voltages(&mut self, end: u32) -> Result<Vec<VoltageChange>, Refused> {
         let mut location = 0;
         let mut voltages = vec![self.voltage(location)?];
         for _ in 0..self.up_to(5, 23)? {
@@ -156,13 +160,13 @@ impl Fields {
         Ok(voltages)
     }
 
-    fn voltage(&mut self, location: u32) -> Result<VoltageChange, Refusal> {
+    fn voltage(&mut self, location: u32) -> Result<VoltageChange, Refused> {
         let volts = VOLTAGES[self.up_to(4, 5)? as usize];
         let traction = self.field(10, |traction| traction == 0 || volts > 0)?;
         Ok(VoltageChange { location, volts, traction })
     }
 
-    fn currents(&mut self, end: u32) -> Result<Vec<CurrentChange>, Refusal> {
+    fn currents(&mut self, end: u32) -> Result<Vec<CurrentChange>, Refused> {
         let mut location = 0;
         let mut currents = vec![self.current(location)?];
         for _ in 0..self.up_to(5, 23)? {
@@ -172,25 +176,21 @@ impl Fields {
         Ok(currents)
     }
 
-    fn current(&mut self, location: u32) -> Result<CurrentChange, Refusal> {
-        let amperes = match self.any(10)? {
-            1_023 => None,
-            tens @ 0..=1_000 => Some(tens * 10),
-            _ => return Err(Refusal::Field),
-        };
-        Ok(CurrentChange { location, amperes })
+    fn current(&mut self, location: u32) -> Result<CurrentChange, Refused> {
+        let tens = self.field(10, |tens| tens <= 1_000 || tens == NO_LIMIT)?;
+        Ok(CurrentChange { location, amperes: (tens != NO_LIMIT).then_some(tens * 10) })
     }
 }
 
 impl Fields {
-    fn journey(&mut self, header: Header) -> Result<Journey, Refusal> {
+    fn journey(&mut self, header: Header) -> Result<Journey, Refused> {
         let status = self.up_to(3, 4)?;
         let count = self.any(8)?;
         let legs = (0..count).map(|_| self.leg()).collect::<Result<_, _>>()?;
         Ok(Journey { header, status, legs })
     }
 
-    fn leg(&mut self) -> Result<Leg, Refusal> {
+    fn leg(&mut self) -> Result<Leg, Refused> {
         let identity = self.identity()?;
         let nominal = self.flag()?;
         let count = self.any(5)?;
@@ -199,7 +199,7 @@ impl Fields {
         Ok(Leg { identity, nominal, points })
     }
 
-    fn timing_point(&mut self) -> Result<TimingPoint, Refusal> {
+    fn timing_point(&mut self) -> Result<TimingPoint, Refused> {
         let number = self.any(32)?;
         let latest_arrival = self.moment(86_400)?;
         let window = self.any(10)?;
@@ -215,7 +215,7 @@ impl Fields {
         Ok(TimingPoint { number, latest_arrival, window, alignment, stop, ends_journey, daylight_saving })
     }
 
-    fn halt(&mut self) -> Result<Halt, Refusal> {
+    fn halt(&mut self) -> Result<Halt, Refused> {
         Ok(Halt {
             door_side: self.any(2)?,
             centralised_opening: self.flag()?,
@@ -227,23 +227,23 @@ impl Fields {
         })
     }
 
-    fn passing(&mut self) -> Result<Stop, Refusal> {
+    fn passing(&mut self) -> Result<Stop, Refused> {
         for width in HALT_WIDTHS {
             self.zero(width as usize)?;
         }
         Ok(Stop::Passing)
     }
 
-    fn moment(&mut self, last: u32) -> Result<Moment, Refusal> {
+    fn moment(&mut self, last: u32) -> Result<Moment, Refused> {
         Ok(Moment { date: self.any(15)?, seconds: self.up_to(17, last)? })
     }
 
-    fn flag(&mut self) -> Result<bool, Refusal> {
+    fn flag(&mut self) -> Result<bool, Refused> {
         Ok(self.any(1)? == 1)
     }
 
     /// A field that says nothing.
-    fn zero(&mut self, width: usize) -> Result<(), Refusal> {
+    fn zero(&mut self, width: usize) -> Result<(), Refused> {
         self.up_to(width, 0).map(|_| ())
     }
 }

@@ -3,16 +3,16 @@
 use crate::bits::{bytes_of, push};
 use crate::carried::Carried;
 use crate::journey::*;
-use crate::refusal::Refusal;
+use crate::refusal::{Refusal, Refused};
 use crate::segment::*;
 
 /// The packet of what is carried; refused where the header cannot count the body's bits.
-pub fn packet_of(carried: &Carried) -> Result<Vec<u8>, Refusal> {
+pub fn packet_of(carried: &Carried) -> Result<Vec<u8>, Refused> {
     let (number, head, mut body) = match carried {
         Carried::Segment(segment) => (SEGMENT_NUMBER, &segment.header, segment_body(segment)),
         Carried::Journey(journey) => (JOURNEY_NUMBER, &journey.header, journey_body(journey)),
     };
-    let length = u16::try_from(body.len()).map_err(|_| Refusal::Body)?;
+    let length = u16::try_from(body.len()).map_err(|_| Refusal::Body.nowhere())?;
     let mut packet = header(number, length, head);
     packet.append(&mut body);
     Ok(bytes_of(&packet))
@@ -116,7 +116,7 @@ fn currents(body: &mut Vec<bool>, currents: &[CurrentChange]) {
         currents,
         |change| change.location,
         |body, change| {
-            push(body, 10, change.amperes.map_or(1_023, |amperes| amperes / 10));
+            push(body, 10, change.amperes.map_or(NO_LIMIT, |amperes| amperes / 10));
         },
     );
 }

@@ -1,4 +1,4 @@
-//! The refusals of the build definition, with its numbers.
+//! The refusals of the build definition, with its numbers, and their places.
 
 #[derive(Clone, Copy, Debug, PartialEq, Eq)]
 pub enum Refusal {
@@ -12,7 +12,7 @@ pub enum Refusal {
     Field = 4,
     /// A change's location that does not rise, is 0, or is at or past L_SP.
     Location = 5,
-    /// A field does not fit in the body's remaining bits, or bits remain.
+    /// A field does not fit in the body's remaining bits.
     Bits = 6,
     /// A padding bit is 1.
     Padding = 7,
@@ -23,7 +23,27 @@ pub enum Refusal {
     /// The train's length or cant deficiency is not allowed.
     Train = 10,
     /// x is at or past L_SP.
-    Place = 11,
+    PastEnd = 11,
     /// A sheet's body would exceed 65,535 bits.
     Body = 12,
+    /// Bits of the body are left after the last field.
+    Left = 13,
+}
+
+/// A refusal, and the bit of the packet or the byte of the sheet at which it is given, both counted from 0.
+#[derive(Clone, Copy, Debug, PartialEq, Eq)]
+pub struct Refused {
+    pub refusal: Refusal,
+    pub place: usize,
+}
+
+impl Refusal {
+    pub fn at(self, place: usize) -> Refused {
+        Refused { refusal: self, place }
+    }
+
+    /// Of a refusal that is about no bit and no byte.
+    pub fn nowhere(self) -> Refused {
+        self.at(0)
+    }
 }

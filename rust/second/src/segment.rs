@@ -9,6 +9,9 @@ pub const CANTS: [u32; 11] = [80, 100, 130, 150, 165, 180, 210, 225, 245, 275, 3
 /// The voltages; M_VOLTAGE is the place in this list.
 pub const VOLTAGES: [u32; 6] = [0, 25_000, 15_000, 3_000, 1_500, 750];
 
+/// M_CURRENT where there is no limit.
+pub const NO_LIMIT: u32 = 1_023;
+
 /// The altitude is sent with this added.
 pub const ALTITUDE_ADDED: i32 = 100_000;
 

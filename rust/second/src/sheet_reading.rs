@@ -3,61 +3,70 @@
 use crate::carried::Carried;
 use crate::journey::*;
 use crate::numbers::Numbers;
-use crate::refusal::Refusal;
+use crate::refusal::{Refusal, Refused};
 use crate::segment::*;
 
 /// What a sheet carries, or the refusal that comes first in the document's order.
-pub fn carried_in(sheet: &[u8]) -> Result<Carried, Refusal> {
+pub fn carried_in(sheet: &[u8]) -> Result<Carried, Refused> {
     let mut numbers = Numbers::new(sheet);
-    match numbers.take()? {
+    match any(&mut numbers)? {
         SEGMENT_NUMBER => Ok(Carried::Segment(to_the_end(numbers, segment)?)),
         JOURNEY_NUMBER => Ok(Carried::Journey(to_the_end(numbers, journey)?)),
-        _ => Err(Refusal::Number),
+        _ => Err(Refusal::Number.nowhere()),
     }
 }
 
 /// The segment of a sheet, where nothing else will do.
-pub fn segment_of(sheet: &[u8]) -> Result<Segment, Refusal> {
+pub fn segment_of(sheet: &[u8]) -> Result<Segment, Refused> {
     let mut numbers = Numbers::new(sheet);
-    require(numbers.take()? == SEGMENT_NUMBER, Refusal::Number)?;
-    to_the_end(numbers, segment)
-}
-
-/// Reads all numbers that are left.
-fn to_the_end<T>(mut numbers: Numbers, read: fn(&mut Numbers) -> Result<T, Refusal>) -> Result<T, Refusal> {
-    let content = read(&mut numbers)?;
-    require(numbers.is_empty(), Refusal::Sheet)?;
-    Ok(content)
-}
-
-/// The next number, from `smallest` to `largest`.
-fn within(numbers: &mut Numbers, smallest: u32, largest: u32) -> Result<u32, Refusal> {
-    let number = numbers.take()?;
-    require(smallest <= number && number <= largest, Refusal::Field)?;
-    Ok(number)
-}
-
-fn require(holds: bool, refusal: Refusal) -> Result<(), Refusal> {
-    if holds {
-        Ok(())
-    } else {
-        Err(refusal)
+    match any(&mut numbers)? {
+        SEGMENT_NUMBER => to_the_end(numbers, segment),
+        _ => Err(Refusal::Number.nowhere()),
     }
 }
 
+/// Reads all numbers that are left.
+fn to_the_end<T>(mut numbers: Numbers, read: fn(&mut Numbers) -> Result<T, Refused>) -> Result<T, Refused> {
+    let content = read(&mut numbers)?;
+    if numbers.is_empty() {
+        Ok(content)
+    } else {
+        Err(Refusal::Sheet.at(numbers.place()))
+    }
+}
+
+/// The next number, there and well formed, and then allowed; else refused at its first byte.
+fn judged(numbers: &mut Numbers, allowed: impl Fn(u32) -> bool, otherwise: Refusal) -> Result<u32, Refused> {
+    let place = numbers.place();
+    let number = numbers.take().ok_or_else(|| Refusal::Sheet.at(place))?;
+    if allowed(number) {
+        Ok(number)
+    } else {
+        Err(otherwise.at(place))
+    }
+}
+
+/// The next number, whatever it is.
+fn any(numbers: &mut Numbers) -> Result<u32, Refused> {
+    within(numbers, 0, u32::MAX)
+}
+
+/// The next number, from `smallest` to `largest`.
+fn within(numbers: &mut Numbers, smallest: u32, largest: u32) -> Result<u32, Refused> {
+    judged(numbers, |number| smallest <= number && number <= largest, Refusal::Field)
+}
+
 /// The next number, of a field of so many bits of which every value is allowed.
-fn fitting(numbers: &mut Numbers, width: u32) -> Result<u32, Refusal> {
+fn fitting(numbers: &mut Numbers, width: u32) -> Result<u32, Refused> {
     within(numbers, 0, (1 << width) - 1)
 }
 
 /// The next number, one of a list.
-fn among(numbers: &mut Numbers, list: &[u32]) -> Result<u32, Refusal> {
-    let number = numbers.take()?;
-    require(list.contains(&number), Refusal::Field)?;
-    Ok(number)
+fn among(numbers: &mut Numbers, list: &[u32]) -> Result<u32, Refused> {
+    judged(numbers, |number| list.contains(&number), Refusal::Field)
 }
 
-fn segment(numbers: &mut Numbers) -> Result<Segment, Refusal> {
+fn segment(numbers: &mut Numbers) -> Result<Segment, Refused> {
     let header = header(numbers)?;
     let identity = identity(numbers)?;
     let length = within(numbers, 1, 16_777_215)?;
@@ -70,9 +79,8 @@ fn segment(numbers: &mut Numbers) -> Result<Segment, Refusal> {
     Ok(Segment { header, identity, length, eoa_offset, utc_offset, altitude, elements, voltages, currents })
 }
 
-fn header(numbers: &mut Numbers) -> Result<Header, Refusal> {
-    let operational = numbers.take()?;
-    require(is_operational(operational), Refusal::Field)?;
+fn header(numbers: &mut Numbers) -> Result<Header, Refused> {
+    let operational = judged(numbers, is_operational, Refusal::Field)?;
     let engine = fitting(numbers, 24)?;
     let date = fitting(numbers, 15)?;
     let seconds = within(numbers, 0, 86_399)?;
@@ -80,30 +88,29 @@ fn header(numbers: &mut Numbers) -> Result<Header, Refusal> {
     Ok(Header { operational, engine, date, seconds, counter })
 }
 
-fn identity(numbers: &mut Numbers) -> Result<Identity, Refusal> {
+fn identity(numbers: &mut Numbers) -> Result<Identity, Refused> {
     let country = fitting(numbers, 10)?;
-    let number = numbers.take()?;
+    let number = any(numbers)?;
     let version = [fitting(numbers, 8)?, fitting(numbers, 8)?];
     Ok(Identity { country, number, version })
 }
 
 /// Reads what stands at a location.
-type Item<T> = fn(&mut Numbers, u32) -> Result<T, Refusal>;
+type Item<T> = fn(&mut Numbers, u32) -> Result<T, Refused>;
 
 /// What stands at the start, then at most `most` changes whose locations rise and lie before the segment's end.
-fn list<T>(numbers: &mut Numbers, end: u32, most: u32, item: Item<T>) -> Result<Vec<T>, Refusal> {
+fn list<T>(numbers: &mut Numbers, end: u32, most: u32, item: Item<T>) -> Result<Vec<T>, Refused> {
     let mut items = vec![item(numbers, 0)?];
     let mut free = 1..end;
     for _ in 0..within(numbers, 0, most)? {
-        let location = numbers.take()?;
-        require(free.contains(&location), Refusal::Location)?;
+        let location = judged(numbers, |location| free.contains(&location), Refusal::Location)?;
         free.start = location + 1;
         items.push(item(numbers, location)?);
     }
     Ok(items)
 }
 
-fn element(numbers: &mut Numbers, start: u32) -> Result<Element, Refusal> {
+fn element(numbers: &mut Numbers, start: u32) -> Result<Element, Refused> {
     let speed = within(numbers, 0, 604)?;
     let front = flag(numbers)?;
     let mut entries = Vec::new();
@@ -113,7 +120,7 @@ fn element(numbers: &mut Numbers, start: u32) -> Result<Element, Refusal> {
     Ok(Element { start, speed, front, entries })
 }
 
-fn entry(numbers: &mut Numbers) -> Result<Entry, Refusal> {
+fn entry(numbers: &mut Numbers) -> Result<Entry, Refused> {
     let class = match within(numbers, 0, 2)? {
         0 => Class::Cant(among(numbers, &CANTS)?),
         1 => Class::Instead(within(numbers, 0, 2)?),
@@ -123,18 +130,18 @@ fn entry(numbers: &mut Numbers) -> Result<Entry, Refusal> {
     Ok(Entry { class, speed })
 }
 
-fn voltage(numbers: &mut Numbers, location: u32) -> Result<VoltageChange, Refusal> {
+fn voltage(numbers: &mut Numbers, location: u32) -> Result<VoltageChange, Refused> {
     let volts = among(numbers, &VOLTAGES)?;
     let traction = within(numbers, 0, if volts == 0 { 0 } else { 1_023 })?;
     Ok(VoltageChange { location, volts, traction })
 }
 
-fn current(numbers: &mut Numbers, location: u32) -> Result<CurrentChange, Refusal> {
+fn current(numbers: &mut Numbers, location: u32) -> Result<CurrentChange, Refused> {
     let number = within(numbers, 0, 10_010)?;
     Ok(CurrentChange { location, amperes: number.checked_sub(1) })
 }
 
-fn journey(numbers: &mut Numbers) -> Result<Journey, Refusal> {
+fn journey(numbers: &mut Numbers) -> Result<Journey, Refused> {
     let header = header(numbers)?;
     let status = within(numbers, 0, 4)?;
     let mut legs = Vec::new();
@@ -144,7 +151,7 @@ fn journey(numbers: &mut Numbers) -> Result<Journey, Refusal> {
     Ok(Journey { header, status, legs })
 }
 
-fn leg(numbers: &mut Numbers) -> Result<Leg, Refusal> {
+fn leg(numbers: &mut Numbers) -> Result<Leg, Refused> {
     let identity = identity(numbers)?;
     let nominal = flag(numbers)?;
     let mut points = Vec::new();
@@ -155,8 +162,8 @@ fn leg(numbers: &mut Numbers) -> Result<Leg, Refusal> {
     Ok(Leg { identity, nominal, points })
 }
 
-fn timing_point(numbers: &mut Numbers) -> Result<TimingPoint, Refusal> {
-    let number = numbers.take()?;
+fn timing_point(numbers: &mut Numbers) -> Result<TimingPoint, Refused> {
+    let number = any(numbers)?;
     let latest_arrival = moment(numbers, 86_400)?;
     let window = fitting(numbers, 10)?;
     let alignment = within(numbers, 0, 2)?;
@@ -171,7 +178,7 @@ fn timing_point(numbers: &mut Numbers) -> Result<TimingPoint, Refusal> {
     Ok(TimingPoint { number, latest_arrival, window, alignment, stop, ends_journey, daylight_saving })
 }
 
-fn halt(numbers: &mut Numbers) -> Result<Halt, Refusal> {
+fn halt(numbers: &mut Numbers) -> Result<Halt, Refused> {
     let door_side = fitting(numbers, 2)?;
     let centralised_opening = flag(numbers)?;
     let relaxed_coupler = flag(numbers)?;
@@ -182,17 +189,17 @@ fn halt(numbers: &mut Numbers) -> Result<Halt, Refusal> {
     Ok(Halt { door_side, centralised_opening, relaxed_coupler, train_hold, departure, dwell, automatic_closing })
 }
 
-fn passing(numbers: &mut Numbers) -> Result<Stop, Refusal> {
+fn passing(numbers: &mut Numbers) -> Result<Stop, Refused> {
     for _ in HALT_WIDTHS {
         within(numbers, 0, 0)?;
     }
     Ok(Stop::Passing)
 }
 
-fn moment(numbers: &mut Numbers, last: u32) -> Result<Moment, Refusal> {
+fn moment(numbers: &mut Numbers, last: u32) -> Result<Moment, Refused> {
     Ok(Moment { date: fitting(numbers, 15)?, seconds: within(numbers, 0, last)? })
 }
 
-fn flag(numbers: &mut Numbers) -> Result<bool, Refusal> {
+fn flag(numbers: &mut Numbers) -> Result<bool, Refused> {
     Ok(within(numbers, 0, 1)? == 1)
 }

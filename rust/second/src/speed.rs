@@ -1,6 +1,6 @@
 //! The permitted speed: the lowest speed of the elements that hold at a location.
 
-use crate::refusal::Refusal;
+use crate::refusal::{Refusal, Refused};
 use crate::segment::{Class, Element, Entry, Segment, CANTS};
 
 #[derive(Clone, Debug)]
@@ -24,12 +24,12 @@ impl Train {
 }
 
 /// The permitted speed of a train at location `x` of a segment.
-pub fn permitted(segment: &Segment, train: &Train, x: u32) -> Result<u32, Refusal> {
+pub fn permitted(segment: &Segment, train: &Train, x: u32) -> Result<u32, Refused> {
     if !train.is_allowed() {
-        return Err(Refusal::Train);
+        return Err(Refusal::Train.nowhere());
     }
     if x >= segment.length {
-        return Err(Refusal::Place);
+        return Err(Refusal::PastEnd.nowhere());
     }
     let starts = segment.elements.iter().map(|element| element.start);
     let ends = starts.skip(1).chain([segment.length]);

@@ -6,18 +6,21 @@ use crate::Train;
 #[repr(C)]
 pub(crate) struct Converted {
     pub(crate) refusal: u32,
+    pub(crate) place: u32,
     pub(crate) length: u32,
 }
 
 #[repr(C)]
 pub(crate) struct Speed {
     pub(crate) refusal: u32,
+    pub(crate) place: u32,
     pub(crate) speed: u32,
 }
 
 #[repr(C)]
 pub(crate) struct Altitude {
     pub(crate) refusal: u32,
+    pub(crate) place: u32,
     pub(crate) altitude: i32,
 }
 

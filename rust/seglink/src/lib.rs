@@ -2,31 +2,38 @@
 //!
 //! Packets and sheets are a segment's (packet number 6) or a journey's (4). The conversions take both, the questions a segment's alone.
 //!
-//! Any bytes may be handed over. An operation answers, or gives the one [`Refusal`] that the build definition names,
+//! Any bytes may be handed over. An operation answers, or gives the one [`Refusal`] that the build definition names, with its place,
 //! and then a lent room keeps every byte it had.
 //!
 //! ```
-//! use seglink::{Refusal, Train};
+//! use seglink::{Refusal, Refused, Train};
 //!
 //! // The build definition's sample sheet: a segment of 1 cm, 80 km/h.
 //! let sheet = [6, 0xC5, 0xC6, 4, 1, 0, 0, 7, 0, 0, 0, 0, 1, 0, 0, 0, 80, 0, 0, 0, 0, 0, 0, 0, 0];
-//! let packet = seglink::packet_of(&sheet)?;
+//! let mut packet = seglink::packet_of(&sheet)?;
 //! assert_eq!(packet.len(), 39);
 //! assert_eq!(seglink::sheet_of(&packet)?, sheet);
 //! assert_eq!(seglink::altitude_of_packet(&packet)?, -100_000);
 //!
 //! let train = Train { length: 200, cant: 150, freight_p: false, freight_g: false, passenger: true };
 //! assert_eq!(seglink::speed_from_packet(&packet, train, 0)?, 80);
-//! assert_eq!(seglink::speed_from_packet(&packet, train, 1), Err(Refusal::PastEnd));
-//! # Ok::<(), Refusal>(())
+//! assert_eq!(seglink::speed_from_packet(&packet, train, 1).unwrap_err().refusal, Refusal::PastEnd);
+//!
+//! packet[38] = 0x24; // two padding bits
+//! let refused = seglink::sheet_of(&packet).unwrap_err();
+//! assert_eq!((refused.refusal, refused.place), (Refusal::PaddingBit, 306));
+//! assert_eq!(refused.to_string(), "7 at bit 306: a padding bit is 1");
+//! # Ok::<(), Refused>(())
 //! ```
 #![deny(unsafe_code, missing_docs)]
 
 mod boundary;
 mod refusal;
+mod refused;
 mod train;
 
 pub use refusal::Refusal;
+pub use refused::{Refused, Unit};
 pub use train::Train;
 
 /// The count of bytes of a segment's smallest packet.
@@ -41,19 +48,19 @@ pub const LARGEST_JOURNEY_PACKET: usize = 8207;
 pub const LARGEST_JOURNEY_SHEET: usize = 15226;
 
 /// Writes the sheet of a packet to the start of the room and answers its length; the room's bytes past it stay.
-pub fn packet_to_sheet(packet: &[u8], room: &mut [u8]) -> Result<usize, Refusal> {
+pub fn packet_to_sheet(packet: &[u8], room: &mut [u8]) -> Result<usize, Refused> {
     let converted = boundary::packet_to_sheet(packet, room);
-    answer(converted.refusal, converted.length as usize)
+    answer(converted.refusal, converted.place, Unit::Bit, converted.length as usize)
 }
 
 /// Writes the packet of a sheet to the start of the room and answers its length; the room's bytes past it stay.
-pub fn sheet_to_packet(sheet: &[u8], room: &mut [u8]) -> Result<usize, Refusal> {
+pub fn sheet_to_packet(sheet: &[u8], room: &mut [u8]) -> Result<usize, Refused> {
     let converted = boundary::sheet_to_packet(sheet, room);
-    answer(converted.refusal, converted.length as usize)
+    answer(converted.refusal, converted.place, Unit::Byte, converted.length as usize)
 }
 
 /// The sheet of a packet, in a room of its own: never refused with [`Refusal::ShortRoom`].
-pub fn sheet_of(packet: &[u8]) -> Result<Vec<u8>, Refusal> {
+pub fn sheet_of(packet: &[u8]) -> Result<Vec<u8>, Refused> {
     let mut room = vec![0; LARGEST_JOURNEY_SHEET];
     let length = packet_to_sheet(packet, &mut room)?;
     room.truncate(length);
@@ -61,7 +68,7 @@ pub fn sheet_of(packet: &[u8]) -> Result<Vec<u8>, Refusal> {
 }
 
 /// The packet of a sheet, in a room of its own: never refused with [`Refusal::ShortRoom`].
-pub fn packet_of(sheet: &[u8]) -> Result<Vec<u8>, Refusal> {
+pub fn packet_of(sheet: &[u8]) -> Result<Vec<u8>, Refused> {
     let mut room = vec![0; LARGEST_JOURNEY_PACKET];
     let length = sheet_to_packet(sheet, &mut room)?;
     room.truncate(length);
@@ -69,27 +76,28 @@ pub fn packet_of(sheet: &[u8]) -> Result<Vec<u8>, Refusal> {
 }
 
 /// The permitted speed in km/h of a train at `x` cm from the segment's start, by the packet's speeds: multiples of 5.
-pub fn speed_from_packet(packet: &[u8], train: Train, x: u32) -> Result<u32, Refusal> {
+pub fn speed_from_packet(packet: &[u8], train: Train, x: u32) -> Result<u32, Refused> {
     let asked = boundary::speed_from_packet(packet, train, x);
-    answer(asked.refusal, asked.speed)
+    answer(asked.refusal, asked.place, Unit::Bit, asked.speed)
 }
 
 /// The permitted speed in km/h of a train at `x` cm from the segment's start, by the sheet's own speeds.
-pub fn speed_from_sheet(sheet: &[u8], train: Train, x: u32) -> Result<u32, Refusal> {
+pub fn speed_from_sheet(sheet: &[u8], train: Train, x: u32) -> Result<u32, Refused> {
     let asked = boundary::speed_from_sheet(sheet, train, x);
-    answer(asked.refusal, asked.speed)
+    answer(asked.refusal, asked.place, Unit::Byte, asked.speed)
 }
 
 /// The altitude of a packet's segment in signed centimetres.
-pub fn altitude_of_packet(packet: &[u8]) -> Result<i32, Refusal> {
+pub fn altitude_of_packet(packet: &[u8]) -> Result<i32, Refused> {
     let asked = boundary::altitude_of_packet(packet);
-    answer(asked.refusal, asked.altitude)
+    answer(asked.refusal, asked.place, Unit::Bit, asked.altitude)
 }
 
 /// Refusal 0 is success; the library is proved to give no number past those of [`Refusal`].
-fn answer<T>(refusal: u32, value: T) -> Result<T, Refusal> {
+fn answer<T>(refusal: u32, place: u32, unit: Unit, value: T) -> Result<T, Refused> {
     if refusal == 0 {
         return Ok(value);
     }
-    Err(Refusal::from_number(refusal).expect("the static library is of this crate's version"))
+    let refusal = Refusal::from_number(refusal).expect("the static library is of this crate's version");
+    Err(Refused { refusal, place, unit })
 }

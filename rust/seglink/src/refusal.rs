@@ -1,6 +1,4 @@
 //! The refusals of the build definition, each with its number and its ground.
-use std::error::Error;
-use std::fmt;
 
 /// Why an operation refused. Where several grounds hold, the build definition's order decides which is given.
 #[derive(Clone, Copy, Debug, PartialEq, Eq, Hash)]
@@ -16,7 +14,7 @@ pub enum Refusal {
     FieldValue = 4,
     /// 5: a change's location does not rise, is 0, or is at or past L_SP.
     ChangeLocation = 5,
-    /// 6: a field does not fit in the body's remaining bits, or bits remain after the last field.
+    /// 6: a field does not fit in the body's remaining bits.
     BodyBits = 6,
     /// 7: a padding bit is 1.
     PaddingBit = 7,
@@ -30,10 +28,12 @@ pub enum Refusal {
     PastEnd = 11,
     /// 12: a sheet's body would exceed 65,535 bits.
     LongBody = 12,
+    /// 13: bits of the body are left after the last field.
+    BitsLeft = 13,
 }
 
 /// Each refusal with its ground, in the words of the C header.
-const GROUNDS: [(Refusal, &str); 12] = [
+const GROUNDS: [(Refusal, &str); 13] = [
     (Refusal::ShortPacket, "a packet has fewer than 15 bytes"),
     (Refusal::PacketNumber, "the packet number is neither 4 nor 6, or is 4 where a segment is needed"),
     (Refusal::PacketLength, "the packet's bytes are not 15 + L_PACKET_ATO / 8, rounded up"),
@@ -42,7 +42,7 @@ const GROUNDS: [(Refusal, &str); 12] = [
         "a field is outside its range or set, or not 0: NID_CTRACTION at voltage 0, the last eight fields at a passing point",
     ),
     (Refusal::ChangeLocation, "a change's location does not rise, is 0, or is at or past L_SP"),
-    (Refusal::BodyBits, "a field does not fit in the body's remaining bits, or bits remain after the last field"),
+    (Refusal::BodyBits, "a field does not fit in the body's remaining bits"),
     (Refusal::PaddingBit, "a padding bit is 1"),
     (Refusal::ShortRoom, "the result is longer than the lent room"),
     (
@@ -52,25 +52,28 @@ const GROUNDS: [(Refusal, &str); 12] = [
     (Refusal::TrainValue, "the train's length or cant deficiency is not allowed"),
     (Refusal::PastEnd, "x is at or past L_SP"),
     (Refusal::LongBody, "a sheet's body would exceed 65,535 bits"),
+    (Refusal::BitsLeft, "bits of the body are left after the last field"),
 ];
 
 impl Refusal {
-    /// The build definition's number, 1 to 12.
+    /// The build definition's number, 1 to 13.
     pub fn number(self) -> u32 {
         self as u32
+    }
+
+    /// The ground in words.
+    pub fn ground(self) -> &'static str {
+        GROUNDS[self.number() as usize - 1].1
     }
 
     /// The refusal of a number, if there is one.
     pub fn from_number(number: u32) -> Option<Refusal> {
         GROUNDS.iter().map(|&(refusal, _)| refusal).find(|refusal| refusal.number() == number)
     }
-}
 
-impl fmt::Display for Refusal {
-    fn fmt(&self, f: &mut fmt::Formatter<'_>) -> fmt::Result {
-        let (_, ground) = GROUNDS[self.number() as usize - 1];
-        write!(f, "refused {}: {}", self.number(), ground)
+    /// Whether it is given at a bit or a byte: 4, 5, 6, 7, 9 and 13. The place of every other is 0.
+    pub fn has_place(self) -> bool {
+        use Refusal::*;
+        matches!(self, FieldValue | ChangeLocation | BodyBits | PaddingBit | SheetForm | BitsLeft)
     }
 }
-
-impl Error for Refusal {}

@@ -28,7 +28,7 @@ signed-requires : tie.Need-signed-requires
 signed-requires c κs = rw (c .read-field .ensures) (field-small (now (c .before .before .before .before .before .args .packet)) _ _ 20 (lit≤ tt))
 
 returns : tie.Need-returns
-returns c = altitude-refused (now (c .before .before .before .before .before .args .packet)) _ (sym (c .before .r .given .1) ∙ c .before .before .before .judge-packet .ensures)
+returns c = altitude-refused (now (c .before .before .before .before .before .args .packet)) _ _ (sym (c .before .r .given .1) ∙ c .before .before .before .judge-packet .ensures)
 
 returns-2 : tie.Need-returns-2
 returns-2 c =

@@ -24,6 +24,9 @@ read-window-requires c κs = search needs
 speed-requires : tie.Need-speed-requires
 speed-requires c κs = search needs
 
+cast-t10 : tie.Need-cast-t10
+cast-t10 c = search needs
+
 returns-2 : tie.Need-returns-2
 returns-2 c =
     let b = c .before .before .before .before .before in
@@ -33,14 +36,14 @@ returns-2 c =
 add-t7 : tie.Need-add-t7
 add-t7 c = search needs
 
-cast-t10 : tie.Need-cast-t10
-cast-t10 c = search needs
-
-add-t11 : tie.Need-add-t11
-add-t11 c = search needs
+cast-t11 : tie.Need-cast-t11
+cast-t11 c = search needs
 
 add-t12 : tie.Need-add-t12
 add-t12 c = search needs
+
+add-t13 : tie.Need-add-t13
+add-t13 c = search needs
 
 returns-3 : tie.Need-returns-3
 returns-3 c =
@@ -58,9 +61,10 @@ profile-head-spec =
     cast-read-window
     read-window-requires
     speed-requires
+    cast-t10
     returns-2
     add-t7
-    cast-t10
-    add-t11
+    cast-t11
     add-t12
+    add-t13
     returns-3)

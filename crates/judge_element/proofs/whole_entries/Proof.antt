@@ -1,5 +1,5 @@
 -- `judge_element::whole_entries` meets its contract.
-use Prim.Native.Nat.{_*_, _-_, _≤_}
+use Prim.Native.Nat.{_*_, _-_, _≤_, _<_}
 use native.Mathlib.Omega.{arith}
 use denote.Ref.{now}
 use Rattle.segment.specs.Segment.{entries}
@@ -25,12 +25,18 @@ loop-holds c = (left-all (c .before .pre .0), c .before .pre .1)
 whole-entry-requires : tie.Need-whole-entry-requires Inv-loop μ-loop
 whole-entry-requires c κs = (c .before .loop .inv .0 .stands, omega (arith, c .before .loop .inv .1, c .loop-test .taken))
 
+add-t12 : tie.Need-add-t12 Inv-loop μ-loop
+add-t12 c = let l = c .before .before .before .loop in omega (arith, l .inv .1, l .inv .0 .stands .few, c .before .whole-entry .ensures .1)
+
+cast-t13 : tie.Need-cast-t13 Inv-loop μ-loop
+cast-t13 c = let l = c .before .before .before .loop in omega (arith, l .inv .1, l .inv .0 .stands .few, c .before .whole-entry .ensures .1)
+
 returns : tie.Need-returns Inv-loop μ-loop
 returns c =
     let a = c .before .before .before .before .before .args in
     let l = c .before .before .before .loop in
     let more = left-as (λ f. entry (entries (l .left - 1) f)) (entries-more (l .left) (omega arith)) (l .inv .0) in
-    left-off entry (entries (l .left - 1)) more (entry-refused (now (a .s)) (a .stop) (c .before .whole-entry .ensures) (c .if1 .taken))
+    left-off entry (entries (l .left - 1)) more (entry-refused (now (a .s)) (a .stop) (c .before .whole-entry .ensures .0) (c .if1 .taken))
 
 add-to : tie.Need-add-to Inv-loop μ-loop
 add-to c = omega (arith, c .before .before .before .loop .inv .1, c .before .before .before .loop .inv .0 .stands .few)
@@ -38,7 +44,9 @@ add-to c = omega (arith, c .before .before .before .loop .inv .1, c .before .bef
 add-m : tie.Need-add-m Inv-loop μ-loop
 add-m c =
     let a = c .before .before .before .before .before .args in
-    let o = entry-passed (now (a .s)) (a .stop) (c .before .whole-entry .ensures) (c .if1 .left) .stands in
+    let r = c .before .whole-entry .result in
+    let h : r < 16 = omega (arith, c .if1 .left) in
+    let o = entry-passed (now (a .s)) (a .stop) (c .before .whole-entry .ensures .0) h .stands in
     omega (arith, o .counted, o .before, o .few)
 
 sub-left : tie.Need-sub-left Inv-loop μ-loop
@@ -49,10 +57,12 @@ loop-less c = search needs
 
 loop-again : tie.Need-loop-again Inv-loop μ-loop
 loop-again c =
+    let r = c .before .whole-entry .result in
+    let h : r < 16 = omega (arith, c .if1 .left) in
     let a = c .before .before .before .before .before .args in
     let l = c .before .before .before .loop in
     let more = left-as (λ f. entry (entries (l .left - 1) f)) (entries-more (l .left) (omega arith)) (l .inv .0) in
-    (left-on entry (entries (l .left - 1)) more (entry-passed (now (a .s)) (a .stop) (c .before .whole-entry .ensures) (c .if1 .left)), omega (arith, l .inv .1))
+    (left-on entry (entries (l .left - 1)) more (entry-passed (now (a .s)) (a .stop) (c .before .whole-entry .ensures .0) h), omega (arith, l .inv .1))
 
 returns-2 : tie.Need-returns-2 Inv-loop μ-loop
 returns-2 c =
@@ -67,6 +77,8 @@ whole-entries-spec =
     μ-loop
     loop-holds
     whole-entry-requires
+    add-t12
+    cast-t13
     returns
     add-to
     add-m

@@ -1,10 +1,11 @@
 -- `judge_element::whole_entry` meets its contract.
 use mathlib.Core.Path.{refl}
+use Prim.Native.Nat.{_/_, _%_}
 use native.Mathlib.Omega.{arith}
 use denote.Ref.{now}
-use lib.Dec.{lit≤}
+use lib.Dec.{lit≤, lit<}
 use Rattle.bits.proofs.Fields.{field-small}
-use Rattle.judge_element.proofs.Windows.{name-refused, speed-refused, entry-counted}
+use Rattle.judge_element.proofs.Windows.{q-refused, class-refused, speed-refused, entry-few, entry-counted}
 use borrow.Author.Needs.{needs}
 use Rattle.judge_element.proofs.whole_entry.Statement.{statement}
 use Rattle.judge_element.proofs.whole_entry.Tie as tie
@@ -20,20 +21,32 @@ name-bytes-requires c κs =
     let a = c .before .before .args in
     omega (arith, c .read-window .ensures, field-small (now (a .s)) (a .at) 13 13 (lit≤ tt))
 
+add-result : tie.Need-add-result
+add-result c = search needs
+
 returns : tie.Need-returns
 returns c =
-    let b = c .before .before .before .before in
+    let b = c .before .before .before .before .before in
     let a = b .args in
-    name-refused (now (a .s)) (a .stop) (b .pre .0) (b .pre .1) (c .before .before .read-window .ensures) (c .before .name-bytes .ensures) refl (c .if1 .taken)
+    (class-refused (now (a .s)) (a .stop) (b .pre .0) (b .pre .1) (c .before .before .before .read-window .ensures) (c .before .before .name-bytes .ensures) refl (c .before .if1 .taken) (c .if2 .taken), lit< tt)
+
+returns-2 : tie.Need-returns-2
+returns-2 c =
+    let b = c .before .before .before .before .before in
+    let a = b .args in
+    (q-refused (now (a .s)) (a .stop) (b .pre .0) (b .pre .1) (c .before .before .before .read-window .ensures) (c .before .before .name-bytes .ensures) refl (omega (arith, c .if2 .left)), lit< tt)
 
 speed-requires : tie.Need-speed-requires
 speed-requires c κs = search needs
 
-returns-2 : tie.Need-returns-2
-returns-2 c =
+add-result-2 : tie.Need-add-result-2
+add-result-2 c = search needs
+
+returns-3 : tie.Need-returns-3
+returns-3 c =
     let b = c .before .before .before .before .before .before in
     let a = b .args in
-    speed-refused (now (a .s)) (a .stop) (b .pre .0) (b .pre .1) (c .before .before .before .before .read-window .ensures) (c .before .before .before .name-bytes .ensures) (c .before .speed .ensures) (c .before .before .if1 .left) (c .if2 .taken)
+    (speed-refused (now (a .s)) (a .stop) (b .pre .0) (b .pre .1) (c .before .before .before .before .read-window .ensures) (c .before .before .before .name-bytes .ensures) (c .before .speed .ensures) (c .before .before .if1 .left) (c .if3 .taken), lit< tt)
 
 cast-result : tie.Need-cast-result
 cast-result c = search needs
@@ -41,14 +54,15 @@ cast-result c = search needs
 cast-result-2 : tie.Need-cast-result-2
 cast-result-2 c = search needs
 
-add-result : tie.Need-add-result
-add-result c = search needs
+add-result-3 : tie.Need-add-result-3
+add-result-3 c = search needs
 
-returns-3 : tie.Need-returns-3
-returns-3 c =
+returns-4 : tie.Need-returns-4
+returns-4 c =
     let b = c .before .before .before .before .before .before in
     let a = b .args in
-    entry-counted (now (a .s)) (a .stop) (b .pre .0) (b .pre .1) (c .before .before .before .before .read-window .ensures) (c .before .before .before .name-bytes .ensures) (c .before .speed .ensures) (c .before .before .if1 .left) (c .if2 .left)
+    let w = c .before .before .before .before .read-window .result in
+    (entry-counted (now (a .s)) (a .stop) (b .pre .0) (b .pre .1) (c .before .before .before .before .read-window .ensures) (c .before .before .before .name-bytes .ensures) (c .before .speed .ensures) (c .before .before .if1 .left) (c .if3 .left), omega (arith, entry-few (w / 128 / 16) (w / 128 % 16) (w % 128) (c .before .before .before .name-bytes .ensures) (c .before .speed .ensures)))
 
 pub whole-entry-spec : {M : Type 1} → statement M
 whole-entry-spec =
@@ -57,10 +71,13 @@ whole-entry-spec =
     cast-read-window
     read-window-requires
     name-bytes-requires
+    add-result
     returns
-    speed-requires
     returns-2
+    speed-requires
+    add-result-2
+    returns-3
     cast-result
     cast-result-2
-    add-result
-    returns-3)
+    add-result-3
+    returns-4)

@@ -25,6 +25,9 @@ read-window-requires c κs = search needs
 volts-requires : tie.Need-volts-requires
 volts-requires c κs = search needs
 
+cast-t11 : tie.Need-cast-t11
+cast-t11 c = search needs
+
 returns-2 : tie.Need-returns-2
 returns-2 c =
     let b = c .before .before .before .before .before in
@@ -33,6 +36,12 @@ returns-2 c =
 
 traction-requires : tie.Need-traction-requires
 traction-requires c κs = search needs
+
+add-t13 : tie.Need-add-t13
+add-t13 c = search needs
+
+cast-t14 : tie.Need-cast-t14
+cast-t14 c = search needs
 
 returns-3 : tie.Need-returns-3
 returns-3 c =
@@ -43,17 +52,17 @@ returns-3 c =
 add-t8 : tie.Need-add-t8
 add-t8 c = search needs
 
-cast-t12 : tie.Need-cast-t12
-cast-t12 c = search needs
+cast-t15 : tie.Need-cast-t15
+cast-t15 c = search needs
 
-add-t13 : tie.Need-add-t13
-add-t13 c = search needs
+add-t16 : tie.Need-add-t16
+add-t16 c = search needs
 
-cast-t14 : tie.Need-cast-t14
-cast-t14 c = search needs
+cast-t17 : tie.Need-cast-t17
+cast-t17 c = search needs
 
-add-t15 : tie.Need-add-t15
-add-t15 c = search needs
+add-t18 : tie.Need-add-t18
+add-t18 c = search needs
 
 returns-4 : tie.Need-returns-4
 returns-4 c =
@@ -71,12 +80,15 @@ wire-spec =
     cast-read-window
     read-window-requires
     volts-requires
+    cast-t11
     returns-2
     traction-requires
-    returns-3
-    add-t8
-    cast-t12
     add-t13
     cast-t14
-    add-t15
+    returns-3
+    add-t8
+    cast-t15
+    add-t16
+    cast-t17
+    add-t18
     returns-4)

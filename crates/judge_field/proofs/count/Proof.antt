@@ -12,6 +12,9 @@ use Rattle.judge_field.proofs.count.Tie as tie
 sub-if1 : tie.Need-sub-if1
 sub-if1 c = search needs
 
+cast-t10 : tie.Need-cast-t10
+cast-t10 c = search needs
+
 returns : tie.Need-returns
 returns c = let b = c .before .before in let a = b .args in took-short (now (a .s)) (a .stop) (nIter (a .limit)) 5 refl (b .pre .0) (omega arith)
 
@@ -20,6 +23,9 @@ read-window-requires c κs = search needs
 
 one-requires : tie.Need-one-requires
 one-requires c κs = search needs
+
+cast-t11 : tie.Need-cast-t11
+cast-t11 c = search needs
 
 returns-2 : tie.Need-returns-2
 returns-2 c =
@@ -30,11 +36,11 @@ returns-2 c =
 add-t8 : tie.Need-add-t8
 add-t8 c = search needs
 
-cast-t10 : tie.Need-cast-t10
-cast-t10 c = search needs
+cast-t12 : tie.Need-cast-t12
+cast-t12 c = search needs
 
-add-t11 : tie.Need-add-t11
-add-t11 c = search needs
+add-t13 : tie.Need-add-t13
+add-t13 c = search needs
 
 returns-3 : tie.Need-returns-3
 returns-3 c =
@@ -47,11 +53,13 @@ count-spec =
     tie.close
     (tie.spec
     sub-if1
+    cast-t10
     returns
     read-window-requires
     one-requires
+    cast-t11
     returns-2
     add-t8
-    cast-t10
-    add-t11
+    cast-t12
+    add-t13
     returns-3)

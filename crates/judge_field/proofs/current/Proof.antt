@@ -12,6 +12,9 @@ use Rattle.judge_field.proofs.current.Tie as tie
 sub-if1 : tie.Need-sub-if1
 sub-if1 c = search needs
 
+cast-t8 : tie.Need-cast-t8
+cast-t8 c = search needs
+
 returns : tie.Need-returns
 returns c = let b = c .before .before in let a = b .args in past-off (now (a .s)) (a .stop) (took-short (now (a .s)) (a .stop) mCurrent 10 refl (b .pre) (omega arith))
 
@@ -20,6 +23,9 @@ read-window-requires c κs = search needs
 
 current-requires : tie.Need-current-requires
 current-requires c κs = search needs
+
+cast-t10 : tie.Need-cast-t10
+cast-t10 c = search needs
 
 returns-2 : tie.Need-returns-2
 returns-2 c =
@@ -30,11 +36,11 @@ returns-2 c =
 add-t6 : tie.Need-add-t6
 add-t6 c = search needs
 
-cast-t9 : tie.Need-cast-t9
-cast-t9 c = search needs
+cast-t11 : tie.Need-cast-t11
+cast-t11 c = search needs
 
-add-t10 : tie.Need-add-t10
-add-t10 c = search needs
+add-t12 : tie.Need-add-t12
+add-t12 c = search needs
 
 returns-3 : tie.Need-returns-3
 returns-3 c =
@@ -47,11 +53,13 @@ current-spec =
     tie.close
     (tie.spec
     sub-if1
+    cast-t8
     returns
     read-window-requires
     current-requires
+    cast-t10
     returns-2
     add-t6
-    cast-t9
-    add-t10
+    cast-t11
+    add-t12
     returns-3)

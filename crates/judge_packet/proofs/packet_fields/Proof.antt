@@ -1,4 +1,5 @@
 -- `judge_packet::packet_fields` meets its contract.
+use native.Mathlib.Omega.{arith}
 use denote.Ref.{now}
 use Rattle.judge_packet.proofs.Verdicts.{first, refused-whole, accepted-whole, left-whole}
 use borrow.Author.Needs.{needs}
@@ -19,6 +20,11 @@ returns c =
     let a = c .before .before .before .before .before .before .args in
     accepted-whole (a .tree) (now (a .s)) (a .stop) (rw (c .before .before .at .given .1) at (c .before .before .before .before .fields .ensures)) (c .if1 .taken)
 
+cast-t11 : tie.Need-cast-t11
+cast-t11 c =
+    let o = (rw (c .before .before .at .given .1) at (c .before .before .before .before .fields .ensures)) .stands in
+    omega (arith, o .before, o .few)
+
 returns-2 : tie.Need-returns-2
 returns-2 c =
     let a = c .before .before .before .before .before .args in
@@ -31,4 +37,5 @@ returns-3 c =
 
 pub packet-fields-spec : {M : Type 1} → statement M
 packet-fields-spec =
-    tie.close (tie.spec fields-requires enum-known-r enum-known-at returns returns-2 returns-3)
+    tie.close
+    (tie.spec fields-requires enum-known-r enum-known-at returns cast-t11 returns-2 returns-3)

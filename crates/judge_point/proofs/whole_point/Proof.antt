@@ -1,9 +1,8 @@
 -- `judge_point::whole_point` meets its contract.
 use native.Mathlib.Omega.{arith}
-use mathlib.Core.Path.{refl}
 use Prim.Native.Nat.{_+_}
 use denote.Ref.{now}
-use Rattle.judge_point.proofs.Places.{few, small, latest-off, marks-off, eight-off, point-on}
+use Rattle.judge_point.proofs.Places.{few, small, point-on}
 use borrow.Author.Needs.{needs}
 use Rattle.judge_point.proofs.whole_point.Statement.{statement}
 use Rattle.judge_point.proofs.whole_point.Tie as tie
@@ -17,8 +16,11 @@ read-window-requires c κs = search needs
 latest-bytes-requires : tie.Need-latest-bytes-requires
 latest-bytes-requires c κs = search needs
 
+cut-point-requires : tie.Need-cut-point-requires
+cut-point-requires c κs = search needs
+
 returns : tie.Need-returns
-returns c = let b = c .before .before .before .before in latest-off (now (b .args .s)) (b .args .stop) (b .pre .0) (b .pre .1) (c .before .before .read-window .ensures) refl refl refl refl (c .before .latest-bytes .ensures) refl refl (c .if1 .taken)
+returns c = search needs
 
 add-read-window-2 : tie.Need-add-read-window-2
 add-read-window-2 c = search needs
@@ -29,8 +31,11 @@ read-window-requires-2 c κs = search needs
 marks-bytes-requires : tie.Need-marks-bytes-requires
 marks-bytes-requires c κs = let a = c .before .before .before .before .before .args in few (now (a .s)) (a .at + 64) 17 (c .read-window2 .ensures)
 
+cut-point-requires-2 : tie.Need-cut-point-requires-2
+cut-point-requires-2 c κs = search needs
+
 returns-2 : tie.Need-returns-2
-returns-2 c = let b = c .before .before .before .before .before .before .before in marks-off (now (b .args .s)) (b .args .stop) (b .pre .0) (b .pre .1) (c .before .before .before .before .before .read-window .ensures) (c .before .before .read-window2 .ensures) refl refl refl (c .before .before .before .before .latest-bytes .ensures) (c .before .marks-bytes .ensures) refl (c .before .before .before .if1 .left) (c .if2 .taken)
+returns-2 c = search needs
 
 add-read-window-3 : tie.Need-add-read-window-3
 add-read-window-3 c = search needs
@@ -47,8 +52,11 @@ read-window-requires-4 c κs = search needs
 eight-bytes-requires : tie.Need-eight-bytes-requires
 eight-bytes-requires c κs = let a = c .before .before .before .before .before .before .before .before .before .args in (few (now (a .s)) (a .at + 81) 20 (c .before .read-window3 .ensures), few (now (a .s)) (a .at + 101) 28 (c .read-window4 .ensures))
 
+cut-point-requires-3 : tie.Need-cut-point-requires-3
+cut-point-requires-3 c κs = search needs
+
 returns-3 : tie.Need-returns-3
-returns-3 c = let b = c .before .before .before .before .before .before .before .before .before .before .before in eight-off (now (b .args .s)) (b .args .stop) (b .pre .0) (b .pre .1) (c .before .before .before .before .before .before .before .before .before .read-window .ensures) (c .before .before .before .before .before .before .read-window2 .ensures) (c .before .before .before .read-window3 .ensures) (c .before .before .read-window4 .ensures) refl (c .before .before .before .before .before .before .before .before .latest-bytes .ensures) (c .before .before .before .before .before .marks-bytes .ensures) (c .before .eight-bytes .ensures) (c .before .before .before .before .before .before .before .if1 .left) (c .before .before .before .before .if2 .left) (c .if3 .taken)
+returns-3 c = search needs
 
 read-window-requires-5 : tie.Need-read-window-requires-5
 read-window-requires-5 c κs = search needs
@@ -84,16 +92,19 @@ whole-point-spec =
     add-read-window
     read-window-requires
     latest-bytes-requires
+    cut-point-requires
     returns
     add-read-window-2
     read-window-requires-2
     marks-bytes-requires
+    cut-point-requires-2
     returns-2
     add-read-window-3
     read-window-requires-3
     add-read-window-4
     read-window-requires-4
     eight-bytes-requires
+    cut-point-requires-3
     returns-3
     read-window-requires-5
     groups-requires

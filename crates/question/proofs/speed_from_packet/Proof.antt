@@ -48,7 +48,7 @@ returns-2 : tie.Need-returns-2
 returns-2 c =
     let a = c .before .before .before .before .before .before .args in
     let s = now (a .packet) in
-    c .refused .ensures ∙ packet-refused s (a .train) (a .x) _ (sym (c .before .before .r .given .1) ∙ c .before .before .before .before .judge-packet .ensures)
+    c .refused .ensures ∙ packet-refused s (a .train) (a .x) _ _ (sym (c .before .before .r .given .1) ∙ c .before .before .before .before .judge-packet .ensures)
 
 returns-3 : tie.Need-returns-3
 returns-3 c =

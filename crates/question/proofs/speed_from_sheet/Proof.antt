@@ -45,7 +45,7 @@ returns-2 : tie.Need-returns-2
 returns-2 c =
     let a = c .before .before .before .before .before .before .args in
     let s = now (a .sheet) in
-    c .refused .ensures ∙ sheet-refused s (a .train) (a .x) _ (sym (c .before .before .r .given .1) ∙ c .before .before .before .before .judge-sheet .ensures)
+    c .refused .ensures ∙ sheet-refused s (a .train) (a .x) _ _ (sym (c .before .before .r .given .1) ∙ c .before .before .before .before .judge-sheet .ensures)
 
 returns-3 : tie.Need-returns-3
 returns-3 c =

@@ -26,7 +26,7 @@ returns c =
     let s = c .before .before .before .before .before in
     let ok = bytes-of (now (s .args .packet)) (λ i. c .before .before .before .before .shared-slice-known .given i .fits) in
     let a = c .before .before .before .altitude-of-packet in
-    listing-laid (now (s .args .packet)) (now (s .args .room)) (refusedLine (a .result .refusal)) ok (omega arith) (c .put-refusal .ensures)
+    listing-laid (now (s .args .packet)) (now (s .args .room)) (refusedLine (a .result .refusal) (a .result .place)) ok (omega arith) (c .put-refusal .ensures)
     (refused-text (now (s .args .packet)) (a .result) (a .ensures) (c .before .before .if1 .taken))
 
 put-accepted-requires : tie.Need-put-accepted-requires
@@ -41,7 +41,7 @@ returns-2 c =
     let ok = bytes-of (now (s .args .packet)) (λ i. c .before .before .before .before .before .shared-slice-known .given i .fits) in
     let a = c .before .before .before .before .altitude-of-packet in
     let z = a .result .altitude in
-    let fits : SFits w32 z = record { sfits = c .before .struct-told .given .1 .0 .1 } in
+    let fits : SFits w32 z = record { sfits = c .before .struct-told .given .1 .1 .0 .1 } in
     let t = lines z (sheetNumbers (valuesOf (fromPacket wireChanges (now (s .args .packet))))) in
     listing-laid (now (s .args .packet)) (now (s .args .room)) t ok (omega arith) (rw (same z fits) at (c .put-accepted .ensures))
     (accepted-text (now (s .args .packet)) (a .result) (a .ensures) (c .before .before .before .if1 .left))

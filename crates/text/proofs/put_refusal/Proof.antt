@@ -11,22 +11,40 @@ slice-aggregate-put-labelled c = search needs
 put-labelled-requires : tie.Need-put-labelled-requires
 put-labelled-requires c κs = let s = c .before .before .before in omega (arith, s .pre, decimal-short (s .args .refusal))
 
+slice-aggregate-put-labelled-2 : tie.Need-slice-aggregate-put-labelled-2
+slice-aggregate-put-labelled-2 c = search needs
+
+put-labelled-requires-2 : tie.Need-put-labelled-requires-2
+put-labelled-requires-2 c κs =
+    let s = c .before .before .before .before .before .before .before .before in
+    let e = c .before .before .before .before .put-labelled .ensures in
+    omega (arith, s .pre, e .place, laid-long e, decimal-short (s .args .refusal), decimal-short (s .args .place))
+
 slice-aggregate-put-word : tie.Need-slice-aggregate-put-word
 slice-aggregate-put-word c = search needs
 
 put-word-requires : tie.Need-put-word-requires
 put-word-requires c κs =
-    let s = c .before .before .before .before .before .before .before .before in
-    let e = c .before .before .before .before .put-labelled .ensures in
-    omega (arith, s .pre, e .place, laid-long e, decimal-short (s .args .refusal))
+    let s = c .before .before .before .before .before .before .before .before .before .before .before .before .before in
+    let e = c .before .before .before .before .before .before .before .before .before .put-labelled .ensures in
+    let f = c .before .before .before .before .put-labelled2 .ensures in
+    omega (arith, s .pre, e .place, laid-long e, f .place, laid-long f, decimal-short (s .args .refusal), decimal-short (s .args .place))
 
 same-length : tie.Need-same-length
 same-length c = search needs
 
 returns : tie.Need-returns
-returns c = laid-on (c .before .before .before .before .before .before .before .put-labelled .ensures) (c .before .before .put-word .ensures)
+returns c = laid-on (laid-on (c .before .before .before .before .before .before .before .before .before .before .before .before .put-labelled .ensures) (c .before .before .before .before .before .before .before .put-labelled2 .ensures)) (c .before .before .put-word .ensures)
 
 pub put-refusal-spec : {M : Type 1} → statement M
 put-refusal-spec =
     tie.close
-    (tie.spec slice-aggregate-put-labelled put-labelled-requires slice-aggregate-put-word put-word-requires same-length returns)
+    (tie.spec
+    slice-aggregate-put-labelled
+    put-labelled-requires
+    slice-aggregate-put-labelled-2
+    put-labelled-requires-2
+    slice-aggregate-put-word
+    put-word-requires
+    same-length
+    returns)

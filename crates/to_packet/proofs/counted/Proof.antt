@@ -29,7 +29,7 @@ returns-2 : tie.Need-returns-2
 returns-2 c =
     let a = c .before .before .before .before .before .args in
     let ok = bytes-of (now (a .sheet)) (λ i. c .before .before .before .before .shared-slice-known .given i .fits) in
-    counted-refused (a .tree) (now (a .sheet)) ok _ (sym (c .before .r .given .1) ∙ c .before .before .before .judge-sheet .ensures)
+    counted-refused (a .tree) (now (a .sheet)) ok _ _ (sym (c .before .r .given .1) ∙ c .before .before .before .judge-sheet .ensures)
 
 returns-3 : tie.Need-returns-3
 returns-3 c =

@@ -123,7 +123,7 @@ returns-2 c =
     let a = c .before .before .before .before .before .before .before .args in
     let s = now (a .sheet) in
     let e = sym (c .before .before .r .given .1) ∙ c .before .before .before .before .counted .ensures in
-    rw (c .refused .ensures) (packet-refused (a .tree) s (now (a .room)) _ e)
+    rw (c .refused .ensures) (packet-refused (a .tree) s (now (a .room)) _ _ e)
 
 same-length : tie.Need-same-length
 same-length c = search needs

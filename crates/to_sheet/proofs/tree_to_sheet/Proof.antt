@@ -39,7 +39,7 @@ done-requires : tie.Need-done-requires
 done-requires c κs = search needs
 
 returns-2 : tie.Need-returns-2
-returns-2 c = let a = c .before .before .before .before .before .before .before .args in rw (c .refused .ensures) (sheet-refused (a .tree) (now (a .packet)) (now (a .room)) _ (sym (c .before .before .r .given .1) ∙ c .before .before .before .before .judge-packet .ensures))
+returns-2 c = let a = c .before .before .before .before .before .before .before .args in rw (c .refused .ensures) (sheet-refused (a .tree) (now (a .packet)) (now (a .room)) _ _ (sym (c .before .before .r .given .1) ∙ c .before .before .before .before .judge-packet .ensures))
 
 same-length : tie.Need-same-length
 same-length c = search needs

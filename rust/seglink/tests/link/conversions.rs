@@ -1,5 +1,6 @@
 //! Both conversions and the altitude.
 use crate::segments::{element, largest, packet, segment, sheet, DESK_PACKET, DESK_SHEET};
+use crate::told;
 use seglink::{
     altitude_of_packet, packet_of, packet_to_sheet, sheet_of, sheet_to_packet, Refusal, LARGEST_PACKET, LARGEST_SHEET,
 };
@@ -29,10 +30,10 @@ fn a_room_of_the_exact_size_is_enough() {
 #[test]
 fn a_room_one_byte_too_small_stays_as_it_was() {
     let mut room = [0xA5; 24];
-    assert_eq!(packet_to_sheet(&DESK_PACKET, &mut room), Err(Refusal::ShortRoom));
+    assert_eq!(told(packet_to_sheet(&DESK_PACKET, &mut room)), Err((Refusal::ShortRoom, 0)));
     assert_eq!(room, [0xA5; 24]);
     let mut room = [0xA5; 38];
-    assert_eq!(sheet_to_packet(&DESK_SHEET, &mut room), Err(Refusal::ShortRoom));
+    assert_eq!(told(sheet_to_packet(&DESK_SHEET, &mut room)), Err((Refusal::ShortRoom, 0)));
     assert_eq!(room, [0xA5; 38]);
 }
 
@@ -63,11 +64,11 @@ fn the_altitude_is_exact_at_zero_and_both_ends() {
 
 #[test]
 fn empty_slices_are_refused_by_their_own_rule() {
-    assert_eq!(packet_to_sheet(&[], &mut []), Err(Refusal::ShortPacket));
-    assert_eq!(sheet_to_packet(&[], &mut []), Err(Refusal::SheetForm));
-    assert_eq!(packet_to_sheet(&DESK_PACKET, &mut []), Err(Refusal::ShortRoom));
-    assert_eq!(sheet_to_packet(&DESK_SHEET, &mut []), Err(Refusal::ShortRoom));
-    assert_eq!(sheet_of(&[]), Err(Refusal::ShortPacket));
-    assert_eq!(packet_of(&[]), Err(Refusal::SheetForm));
-    assert_eq!(altitude_of_packet(&[]), Err(Refusal::ShortPacket));
+    assert_eq!(told(packet_to_sheet(&[], &mut [])), Err((Refusal::ShortPacket, 0)));
+    assert_eq!(told(sheet_to_packet(&[], &mut [])), Err((Refusal::SheetForm, 0)));
+    assert_eq!(told(packet_to_sheet(&DESK_PACKET, &mut [])), Err((Refusal::ShortRoom, 0)));
+    assert_eq!(told(sheet_to_packet(&DESK_SHEET, &mut [])), Err((Refusal::ShortRoom, 0)));
+    assert_eq!(told(sheet_of(&[])), Err((Refusal::ShortPacket, 0)));
+    assert_eq!(told(packet_of(&[])), Err((Refusal::SheetForm, 0)));
+    assert_eq!(told(altitude_of_packet(&[])), Err((Refusal::ShortPacket, 0)));
 }

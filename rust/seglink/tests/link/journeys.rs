@@ -1,5 +1,6 @@
 //! Journeys, written from the request that brought them: both conversions, their limits, and the questions, which need a segment.
-use crate::segments::{packet, same, sheet, Field};
+use crate::segments::{bit_of, byte_of, packet, same, sheet, Field};
+use crate::told;
 use seglink::{
     altitude_of_packet, packet_of, packet_to_sheet, sheet_of, sheet_to_packet, speed_from_packet, speed_from_sheet, Refusal,
     Train, LARGEST_JOURNEY_PACKET, LARGEST_JOURNEY_SHEET,
@@ -61,9 +62,10 @@ fn journey(segments: u32, points: u32) -> Vec<Field> {
     fields
 }
 
-fn refuses(fields: &[Field], refusal: Refusal) {
-    assert_eq!(sheet_of(&packet(fields)), Err(refusal));
-    assert_eq!(packet_of(&sheet(fields)), Err(refusal));
+/// Both media are refused with 4, at one field.
+fn refuses(fields: &[Field], index: usize) {
+    assert_eq!(told(sheet_of(&packet(fields))), Err((Refusal::FieldValue, bit_of(fields, index))));
+    assert_eq!(told(packet_of(&sheet(fields))), Err((Refusal::FieldValue, byte_of(fields, index))));
 }
 
 fn converts(fields: &[Field]) {
@@ -85,8 +87,8 @@ fn the_room_is_exact_or_stays_as_it_was() {
     assert_eq!(packet_to_sheet(&PACKET, &mut [0; 52]), Ok(52));
     assert_eq!(sheet_to_packet(&SHEET, &mut [0; 42]), Ok(42));
     let mut room = [0xA5; 51];
-    assert_eq!(packet_to_sheet(&PACKET, &mut room), Err(Refusal::ShortRoom));
-    assert_eq!(sheet_to_packet(&SHEET, &mut room[..41]), Err(Refusal::ShortRoom));
+    assert_eq!(told(packet_to_sheet(&PACKET, &mut room)), Err((Refusal::ShortRoom, 0)));
+    assert_eq!(told(sheet_to_packet(&SHEET, &mut room[..41])), Err((Refusal::ShortRoom, 0)));
     assert_eq!(room, [0xA5; 51]);
 }
 
@@ -106,12 +108,13 @@ fn a_long_body_is_refused_after_9_and_4_and_before_8() {
     // 65,537 bits, the next after 65,534; a segment more; the most that the counts allow
     for (segments, points) in [(56, 478), (42, 486), (255, 31 * 255)] {
         let long = sheet(&journey(segments, points));
-        assert_eq!(packet_of(&long), Err(Refusal::LongBody));
-        assert_eq!(sheet_to_packet(&long, &mut []), Err(Refusal::LongBody));
-        assert_eq!(packet_of(&[&long[..], &[0]].concat()), Err(Refusal::SheetForm));
+        assert_eq!(told(packet_of(&long)), Err((Refusal::LongBody, 0)));
+        assert_eq!(told(sheet_to_packet(&long, &mut [])), Err((Refusal::LongBody, 0)));
+        assert_eq!(told(packet_of(&[&long[..], &[0]].concat())), Err((Refusal::SheetForm, long.len() as u32)));
         let (&last, before) = long.split_last().unwrap();
-        assert_eq!(packet_of(before), Err(Refusal::SheetForm));
-        assert_eq!(packet_of(&[before, &[last + 1]].concat()), Err(Refusal::FieldValue));
+        let place = before.len() as u32;
+        assert_eq!(told(packet_of(before)), Err((Refusal::SheetForm, place)));
+        assert_eq!(told(packet_of(&[before, &[last + 1]].concat())), Err((Refusal::FieldValue, place)));
     }
 }
 
@@ -119,15 +122,15 @@ fn a_long_body_is_refused_after_9_and_4_and_before_8() {
 fn the_eight_fields_of_a_halt_are_0_at_a_passing_point() {
     let mut passing = journey(1, 1);
     passing[FIRST + STOP] = same(2, 2);
-    refuses(&passing, Refusal::FieldValue);
-    for place in DOOR_SIDE..FIRST + POINT.len() {
-        passing[place] = same(POINT[place - FIRST].0, 0);
+    refuses(&passing, DOOR_SIDE);
+    for index in DOOR_SIDE..FIRST + POINT.len() {
+        passing[index] = same(POINT[index - FIRST].0, 0);
     }
     converts(&passing);
-    for place in DOOR_SIDE..FIRST + POINT.len() {
+    for index in DOOR_SIDE..FIRST + POINT.len() {
         let mut one = passing.clone();
-        one[place] = same(POINT[place - FIRST].0, 1);
-        refuses(&one, Refusal::FieldValue);
+        one[index] = same(POINT[index - FIRST].0, 1);
+        refuses(&one, index);
     }
 }
 
@@ -135,19 +138,36 @@ fn the_eight_fields_of_a_halt_are_0_at_a_passing_point() {
 fn ranges_end_where_the_request_says() {
     let past =
         [(6, 3, 5), (FIRST + 2, 17, 86_401), (FIRST + 4, 2, 3), (FIRST + 5, 2, 3), (FIRST + 6, 2, 2), (FIRST + 13, 17, 86_400)];
-    for (place, width, value) in past.into_iter().chain([(FIRST + POINT.len(), 5, 1)]) {
+    for (index, width, value) in past.into_iter().chain([(FIRST + POINT.len(), 5, 1)]) {
         let mut fields = journey(1, 1);
-        fields[place] = same(width, value);
-        refuses(&fields, Refusal::FieldValue);
+        fields[index] = same(width, value);
+        refuses(&fields, index);
     }
+}
+
+/// The journey of one timing point damaged; the places are counted by hand.
+#[test]
+fn a_damaged_journey_is_refused_at_its_place() {
+    let with = |place: usize, byte: u8| {
+        let mut packet = PACKET;
+        packet[place] = byte;
+        packet
+    };
+    assert_eq!(told(sheet_of(&with(15, 0xA0))), Err((Refusal::FieldValue, 120)));
+    assert_eq!(told(sheet_of(&with(2, 0xD0)[..41])), Err((Refusal::BodyBits, 324)));
+    assert_eq!(told(sheet_of(&with(2, 0xD2))), Err((Refusal::BitsLeft, 329)));
+    assert_eq!(told(sheet_of(&with(41, 0x24))), Err((Refusal::PaddingBit, 330)));
+    assert_eq!(told(packet_of(&[&SHEET[..8], &[5], &SHEET[9..]].concat())), Err((Refusal::FieldValue, 8)));
+    assert_eq!(told(packet_of(&SHEET[..24])), Err((Refusal::SheetForm, 22)));
+    assert_eq!(told(packet_of(&[&SHEET[..], &[0]].concat())), Err((Refusal::SheetForm, 52)));
 }
 
 #[test]
 fn a_question_needs_a_segment() {
     let train = Train { length: 0, cant: 0, freight_p: false, freight_g: false, passenger: false };
     for fields in [journey(0, 0), journey(1, 1)] {
-        assert_eq!(speed_from_packet(&packet(&fields), train, 0), Err(Refusal::PacketNumber));
-        assert_eq!(speed_from_sheet(&sheet(&fields), train, 0), Err(Refusal::PacketNumber));
-        assert_eq!(altitude_of_packet(&packet(&fields)), Err(Refusal::PacketNumber));
+        assert_eq!(told(speed_from_packet(&packet(&fields), train, 0)), Err((Refusal::PacketNumber, 0)));
+        assert_eq!(told(speed_from_sheet(&sheet(&fields), train, 0)), Err((Refusal::PacketNumber, 0)));
+        assert_eq!(told(altitude_of_packet(&packet(&fields))), Err((Refusal::PacketNumber, 0)));
     }
 }

@@ -96,6 +96,17 @@ pub fn packet(fields: &[Field]) -> Vec<u8> {
     bits.chunks(8).map(|byte| byte.iter().enumerate().map(|(i, &bit)| (bit as u8) << (7 - i)).sum()).collect()
 }
 
+/// The first bit of a field in the packet; L_PACKET_ATO stands after the first.
+pub fn bit_of(fields: &[Field], index: usize) -> u32 {
+    let before: usize = fields[..index].iter().map(|field| field.width).sum();
+    before as u32 + if index > 0 { 16 } else { 0 }
+}
+
+/// The first byte of a field's number in the sheet.
+pub fn byte_of(fields: &[Field], index: usize) -> u32 {
+    sheet(&fields[..index]).len() as u32
+}
+
 /// Numbers in groups of seven bits, lowest group first; the top bit is 1 when another group follows.
 pub fn sheet(fields: &[Field]) -> Vec<u8> {
     let mut bytes = Vec::new();

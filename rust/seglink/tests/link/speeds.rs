@@ -1,5 +1,6 @@
 //! The permitted speed, from a packet and from a sheet.
 use crate::segments::{element, packet, segment, sheet, Field};
+use crate::told;
 use seglink::{speed_from_packet, speed_from_sheet, Refusal, Train};
 
 const SHUTTLE: Train = Train { length: 200, cant: 150, freight_p: false, freight_g: false, passenger: false };
@@ -61,6 +62,6 @@ fn trains_at_the_ends_of_their_range_are_allowed() {
 #[test]
 fn empty_slices_are_refused_before_train_and_x() {
     let train = Train { length: 0, ..SHUTTLE };
-    assert_eq!(speed_from_packet(&[], train, u32::MAX), Err(Refusal::ShortPacket));
-    assert_eq!(speed_from_sheet(&[], train, u32::MAX), Err(Refusal::SheetForm));
+    assert_eq!(told(speed_from_packet(&[], train, u32::MAX)), Err((Refusal::ShortPacket, 0)));
+    assert_eq!(told(speed_from_sheet(&[], train, u32::MAX)), Err((Refusal::SheetForm, 0)));
 }

@@ -1,0 +1,40 @@
+//! The error of every operation: a refusal and its place.
+use crate::Refusal;
+use std::error::Error;
+use std::fmt;
+
+/// Why an operation refused, and where. It prints both, as `6 at bit 300: a field does not fit in the body's remaining bits`.
+#[derive(Clone, Copy, Debug, PartialEq, Eq, Hash)]
+#[non_exhaustive]
+pub struct Refused {
+    /// Why.
+    pub refusal: Refusal,
+    /// Where, counted from 0 at the packet's or the sheet's start: the first bit of the field or the first byte of the number at fault;
+    /// the first bit or byte that is left; the first padding bit that is 1. It is 0 for a refusal that [has no place](Refusal::has_place).
+    pub place: u32,
+    /// What the place counts.
+    pub unit: Unit,
+}
+
+/// What a place counts.
+#[derive(Clone, Copy, Debug, PartialEq, Eq, Hash)]
+#[non_exhaustive]
+pub enum Unit {
+    /// The bits of a packet, the top bit of each byte first.
+    Bit,
+    /// The bytes of a sheet.
+    Byte,
+}
+
+impl fmt::Display for Refused {
+    fn fmt(&self, f: &mut fmt::Formatter<'_>) -> fmt::Result {
+        let unit = match self.unit {
+            _ if !self.refusal.has_place() => "",
+            Unit::Bit => "bit ",
+            Unit::Byte => "byte ",
+        };
+        write!(f, "{} at {unit}{}: {}", self.refusal.number(), self.place, self.refusal.ground())
+    }
+}
+
+impl Error for Refused {}
