@@ -1,4 +1,4 @@
-// Reads a packet from standard input and converts it to its sheet and back; of a segment, answers the permitted speed of three trains at two places.
+// Reads a packet from standard input and converts it to its sheet and back; of a segment, answers the permitted speed of four trains at two places.
 #include <stdio.h>
 #include <string.h>
 
@@ -9,6 +9,7 @@ static const struct {
     seglink_train train;
 } TRAINS[] = {
     {"passenger, 15 m, 150 mm", {.length = 1500, .cant = 150, .passenger = true}},
+    {"passenger, 15 m, 180 mm", {.length = 1500, .cant = 180, .passenger = true}}, // has no entry of its own: falls to 150 mm
     {"freight P, 25 m, 130 mm", {.length = 2500, .cant = 130, .freight_p = true}},
     {"freight G, 40 m,  80 mm", {.length = 4000, .cant = 80, .freight_g = true}},
 };

@@ -65,6 +65,8 @@ typedef struct {
 
 // A train: its length in cm, 1 to 150,000; its cant deficiency in mm, 80, 100, 130, 150, 165, 180, 210, 225, 245, 275 or 300;
 // whether it is freight in P position, freight in G position, passenger.
+// Where no entry of an element (Q_DIFF 0) names its cant deficiency, those of the greatest figure below it count, the lowest speed of them;
+// V_STATIC where there are none: with entries for 100 and 165, a train of 150 mm has the speed of the entry for 100.
 typedef struct {
     uint32_t length, cant;
     bool freight_p, freight_g, passenger;

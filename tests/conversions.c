@@ -1,4 +1,4 @@
-// Both conversions of the static library, of segments and journeys, and the questions' refusals, called from C and held to packets, sheets and places that are written here from the build definition; timed with 'time'.
+// Both conversions of the static library, of segments and journeys, the questions' refusals and speeds by cant deficiency, called from C and held to packets, sheets, places and speeds that are written here from the build definition; timed with 'time'.
 #define _POSIX_C_SOURCE 200809L
 #include <stdio.h>
 #include <stdlib.h>
@@ -809,6 +809,55 @@ static void damaged_sheets(void)
     }
 }
 
+// ---- Speeds by cant deficiency, worked out by hand
+
+// The desk sheet, 80 km/h, with entries from the byte 19 on; its last six numbers are 0. The speed at 0 from the sheet, and from its packet.
+#define MM(figure) {.length = 200, .cant = figure}
+#define FOR_100_AND_165 2, BYTES("\x00\x64\x6E\x00\xA5\x01\x82\x01")
+#define BESIDE_CATEGORIES 3, BYTES("\x00\x64\x70\x01\x01\x8C\x01\x02\x02\x68")
+static const struct { const char *name; uint8_t count; const char *entries; size_t length; seglink_train train; uint32_t sheet, packet; } BY_CANT[] = {
+    {"entries for 100 and 165: 150 mm", FOR_100_AND_165, MM(150), 110, 110},
+    {"entries for 100 and 165: 80 mm", FOR_100_AND_165, MM(80), 80, 80},
+    {"entries for 100 and 165: 100 mm", FOR_100_AND_165, MM(100), 110, 110},
+    {"entries for 100 and 165: 165 mm", FOR_100_AND_165, MM(165), 130, 130},
+    {"entries for 100 and 165: 300 mm", FOR_100_AND_165, MM(300), 130, 130},
+    {"an entry for 165, then one for 100", 2, BYTES("\x00\xA5\x01\x82\x01\x00\x64\x6E"), MM(150), 110, 110},
+    {"an entry for 100 below V_STATIC", 2, BYTES("\x00\x64\x3C\x00\xA5\x01\x28"), MM(150), 60, 60},
+    {"an own figure beside slower lower ones", 3, BYTES("\x00\x82\x01\x3C\x00\x96\x01\x78\x00\x50\x28"), MM(150), 120, 120},
+    {"an own figure beside faster lower ones", 3, BYTES("\x00\x50\x78\x00\x96\x01\x3C\x00\x82\x01\x64"), MM(150), 60, 60},
+    {"several entries of the figure", 3, BYTES("\x00\x64\x7C\x00\x64\x76\x00\x64\x83\x01"), MM(150), 118, 115},
+    {"an entry for 165 alone", 1, BYTES("\x00\xA5\x01\x3C"), MM(150), 80, 80},
+    {"lower figures, the greater of them faster", 2, BYTES("\x00\x50\x3C\x00\x82\x01\x78"), MM(150), 120, 120},
+    {"lower figures, the greater of them slower", 2, BYTES("\x00\x50\x78\x00\x82\x01\x3C"), MM(150), 60, 60},
+    {"a lower figure beside categories", BESIDE_CATEGORIES, MM(150), 112, 110},
+    {"a lower figure, and freight G instead", BESIDE_CATEGORIES, {.length = 200, .cant = 150, .freight_g = true}, 140, 140},
+    {"a lower figure, and passenger lower", BESIDE_CATEGORIES, {.length = 200, .cant = 150, .passenger = true}, 104, 100},
+};
+
+static void answers(const char *name, const char *medium, seglink_speed got, uint32_t wanted)
+{
+    char what[64];
+    snprintf(what, sizeof what, "the refusal of the speed from its %s", medium);
+    check(name, what, got.refusal, 0);
+    snprintf(what, sizeof what, "the speed from its %s", medium);
+    check(name, what, got.speed, wanted);
+}
+
+static void speeds_by_cant(void)
+{
+    uint8_t packet[SEGLINK_LARGEST_PACKET];
+    for (size_t i = 0; i < sizeof BY_CANT / sizeof *BY_CANT; ++i) {
+        struct bytes sheet = desk_sheet;
+        sheet.byte[18] = BY_CANT[i].count;
+        memcpy(sheet.byte + 19, BY_CANT[i].entries, BY_CANT[i].length);
+        sheet.length += BY_CANT[i].length;
+        seglink_converted made = seglink_sheet_to_packet(sheet.byte, sheet.length, packet, sizeof packet);
+        check(BY_CANT[i].name, "the refusal of its packet", made.refusal, 0);
+        answers(BY_CANT[i].name, "sheet", seglink_speed_from_sheet(sheet.byte, sheet.length, BY_CANT[i].train, 0), BY_CANT[i].sheet);
+        answers(BY_CANT[i].name, "packet", seglink_speed_from_packet(packet, made.length, BY_CANT[i].train, 0), BY_CANT[i].packet);
+    }
+}
+
 // ---- The cases of journeys
 
 // One field of the journey of one timing point changed.
@@ -1001,6 +1050,7 @@ static int all_checks(struct fields *s)
     reframed_packets();
     damaged_packets();
     damaged_sheets();
+    speeds_by_cant();
     journeys(s);
     printf("%u passed, %u failed\n", passed, failed);
     return failed == 0 ? 0 : 1;

@@ -5,12 +5,12 @@ use mathlib.Core.Bool.{true, false, cond}
 use mathlib.Core.List.{List}
 use Prim.Native.Nat.{ℕ, zero, suc, _+_, _*_, _-_, _/_, _%_, _^_, _≤_, _<_}
 use native.Mathlib.Omega.{arith}
-use borrow.Author.Tests.{ltb-true, ltb-false, ne-eqb}
-use lib.Dec.{eqb, ltb, lit≤}
+use borrow.Author.Tests.{ltb-true, ltb-false, leb-true, ne-eqb}
+use lib.Dec.{eqb, ltb, leb, lit≤}
 use lib.ListN.{length, drop, getD}
 use lib.Pow.{high, low}
 use Rattle.bits.specs.Bits.{fieldAt}
-use Rattle.bits.proofs.Tests.{by-cases}
+use Rattle.bits.proofs.Tests.{by-cases, and-right}
 use Rattle.bits.proofs.Fields.{field-small}
 use Rattle.bits.proofs.Windows.{field-split}
 use Rattle.kinds.specs.declared.Item.{Item}
@@ -28,9 +28,14 @@ use Rattle.segment.specs.Segment.{entries, profile}
 use Rattle.segment.specs.Parts.{entry}
 use Rattle.segment.proofs.Parts.{class-width}
 use Rattle.speed.specs.Speed.{afterEntries}
+use Rattle.elements.specs.Elements.{none, Kept}
 use Rattle.elements.specs.Reading.{Readable, Past, Passes, FieldRead}
 use Rattle.elements.proofs.Reading.{entriesEnd, readable-field, entry-passes, entries-pass}
 use Rattle.ask_packet.specs.Asking.{endOf, Reads}
+
+category-raised : (q v : ℕ) → 0 < q → class q .allowed v ≡ true → class q .raise v < 3
+category-raised zero v h e = absurd (omega arith)
+category-raised (suc q) v h e = omega (arith, leb-true v 2 (and-right (leb 0 v) (leb v 2) e))
 
 module _ (s : List ℕ) where
   -- a field of w bits that is there and has an allowed value
@@ -160,6 +165,18 @@ module _ (s : List ℕ) where
           second = field-read (class (t / 2048)) (at + 2) 4 (at + 6) (class-width (t / 2048)) (omega arith) g;
           third = field-read speed (at + 6) 7 (at + 13) refl (omega arith) (three-third at 2 4 7 i e);
         }
+
+    pub entry-kept : {t g : ℕ} → t ≡ fieldAt s at 13 → g ≡ class (t / 2048) .raise (t / 128 % 16) → Kept (t / 2048) g (t % 128 * 5)
+    entry-kept {t} {g} e r =
+        record {
+          few = omega (arith, field-small s at 13 13 (lit≤ tt));
+          category = λ p. rw r (category-raised (t / 2048) (t / 128 % 16) p (entry-at e .allowed));
+          speed = omega arith;
+        }
+
+  -- an element's V_STATIC is a speed
+  pub static-small : (at : ℕ) {t : ℕ} → t ≡ fieldAt s at 13 → t / 64 * 5 < none
+  static-small at e = omega (arith, field-small s at 13 13 (lit≤ tt))
 
   -- entries passed over: each has 13 bits
   entry-pass : (at : ℕ) → Passes (Reads s) entry (drop 3) at (at + 13)

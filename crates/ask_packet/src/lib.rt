@@ -94,7 +94,7 @@ fn ended(s: &[u8], open: Open, train: Train, held: u32, end: u32, x: u32) -> u32
         to += ENTRY;
         left -= 1;
     }
-    lows.lowered(open.v_static, held)
+    lows.lowered(train, open.v_static, held)
 }
 
 // The next change, of so many that are left at the bit at: the open element ends at its location. After the last it ends at lsp, and nothing follows.

@@ -17,9 +17,7 @@ use Rattle.numbers.proofs.Reading.{number-only, number-end}
 use Rattle.numbers.proofs.Counting.{last-group, more-groups}
 use Rattle.kinds.specs.declared.Item.{Item}
 use Rattle.kinds.specs.Kind.{Kind}
-use Rattle.kinds.specs.Kinds.{speed}
 use Rattle.kinds.specs.Judged.{fieldWith}
-use Rattle.fields.proofs.Lawful.{speed-lawful}
 use Rattle.format.specs.Format.{Format, field, sheetNumbers}
 use Rattle.format.specs.Media.{sheet}
 use Rattle.format.specs.Places as places
@@ -27,7 +25,6 @@ use Rattle.format.specs.Places.{Taken, takenAt, numberTaken}
 use Rattle.format.proofs.Media.{bytes-drop}
 use Rattle.format.proofs.Passing.{sheet-seen}
 use Rattle.format.proofs.Accepted.{Accepts, field-accepted}
-use Rattle.elements.specs.Elements as elements
 use Rattle.elements.specs.Reading.{Past, FieldRead}
 use Rattle.elements.proofs.Reading.{first-left}
 use Rattle.ask_sheet.specs.Asking.{countedAt, NumberAt, Reads}
@@ -159,7 +156,3 @@ module _ (s : List ℕ) (k : Kind) {at to a : ℕ} (n : NumberAt s at to a) wher
 -- past the end there is none
 pub none-past : (s : List ℕ) (at : ℕ) → length s ≤ at → countedAt s at ≡ 0
 none-past s at h = sym (ap counted (number-end s at 5 h))
-
--- a speed is below none
-pub speed-below : {a v : ℕ} → speed .lower a ≡ some v → a < elements.none
-speed-below {a} {v} e = omega (arith, speed-lawful .top a v e)

@@ -26,15 +26,19 @@ use Rattle.segment.proofs.Parts.{runs-more, runs-none}
 use Rattle.speed.specs.declared.Train.{Train}
 use Rattle.speed.specs.Speed.{speedIn}
 use Rattle.speed.proofs.Lowering.{when-is}
-use Rattle.elements.specs.Elements.{none}
+use Rattle.elements.specs.Elements.{none, Kept}
 use Rattle.elements.specs.Reading.{Readable, Past, Passes, FieldRead, ProfileRead}
 use Rattle.elements.proofs.Reading.{readable-field, past-here, then-past, then-is, passes-past}
 use Rattle.ask_sheet.specs.Asking.{AcceptedSheet, numbersOfSheet, countedAt, NumberAt, numberEnd, shortEnd, entryEnd, Reads, HeadRead}
-use Rattle.ask_sheet.proofs.Numbers.{valueOr, field-read, field-any, known, speed-below}
+use Rattle.ask_sheet.proofs.Numbers.{valueOr, field-read, field-any, known}
 
 class-highest : (q : ℕ) → class q .highest < 16384
 class-highest zero = lit< tt
 class-highest (suc q) = lit< tt
+
+category-highest : (q : ℕ) → 0 < q → class q .highest < 3
+category-highest zero h = absurd (omega arith)
+category-highest (suc q) h = lit< tt
 
 q-diff-lawful : LawfulKind qDiff
 q-diff-lawful = upTo-lawful 2 2 (narrow tt) (lit< tt)
@@ -57,14 +61,21 @@ module _ (s : List ℕ) where
     pub speed-read : FieldRead (Reads s) speed at to (valueOr (speed .lower a)) a
     speed-read = field-any s speed n
 
-    pub speed-small : (part : ℕ → Format → Format) → Readable (Reads s) (λ i. field speed (λ u. part u i)) at → a < none
-    speed-small part h = rw (n .value) (speed-below (known s speed (h .reads) .lowers))
+    pub number-most : {k : Kind} → LawfulKind k → (part : ℕ → Format → Format) → Readable (Reads s) (λ i. field k (λ u. part u i)) at → a ≤ k .highest
+    number-most {k} w part h = rw (n .value) (w .top _ _ (known s k (h .reads) .lowers))
 
-  -- the third number of an entry is a speed
-  pub entry-small : {at b d to q g w : ℕ} → NumberAt s at b q → NumberAt s b d g → NumberAt s d to w → Readable (Reads s) entry at → w < none
-  entry-small {q = q} x y z h =
-      speed-small z (λ u f. f)
-      (readable-field (Reads s) (class-read y q) (λ c f. then speed f) (readable-field (Reads s) (same-read x qDiff (λ u. refl)) (λ q f. then (class q) (then speed f)) h))
+    pub speed-small : (part : ℕ → Format → Format) → Readable (Reads s) (λ i. field speed (λ u. part u i)) at → a < none
+    speed-small part h = omega (arith, number-most speed-lawful part h)
+
+  pub entry-kept : {at b d to q g w : ℕ} → NumberAt s at b q → NumberAt s b d g → NumberAt s d to w → Readable (Reads s) entry at → Kept q g w
+  entry-kept {q = q} x y z h =
+      let second = readable-field (Reads s) (same-read x qDiff (λ u. refl)) (λ u f. then (class u) (then speed f)) h in
+      let third = readable-field (Reads s) (class-read y q) (λ c f. then speed f) second in
+      record {
+        few = omega (arith, number-most x q-diff-lawful (λ u f. then (class u) (then speed f)) h);
+        category = λ p. omega (arith, number-most y (class-lawful q) (λ c f. then speed f) second, category-highest q p);
+        speed = speed-small z (λ u f. f) third;
+      }
 
   -- ---- numbers by their first bytes
 

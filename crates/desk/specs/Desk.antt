@@ -5,7 +5,8 @@ use Prim.Native.Nat.{ℕ}
 use lib.IntN.{pos, negsuc}
 use lib.ListN.{length, replicate}
 use Rattle.segment.specs.Desk.{Question, askSheetOf, askPacketOf, Reply, bytes, refusal, firstPacket, conversions}
-use Rattle.speed.specs.Desk.{plain}
+use Rattle.speed.specs.declared.Train.{Train}
+use Rattle.speed.specs.Desk.{plain, canted}
 use Rattle.convert.specs.Convert.{Outcome, packetToSheet, sheetToPacket}
 use Rattle.question.specs.declared.Speed.{Speed}
 use Rattle.question.specs.Question.{speedFromPacket, speedFromSheet}
@@ -56,6 +57,41 @@ getsFromSheet front next x v = record { said = speedSaid (speedFromSheet (change
 -- "a 200 cm train gets": from its packet
 abbrev pub getsFromPacket : ℕ → ℕ → ℕ → ℕ → Case
 getsFromPacket front next x v = record { said = speedSaid (speedFromPacket (changePacket front next) plain x); due = speedSaid (record { refusal = 0; place = 0; speed = v }) }
+
+-- ---- A4: "Cant deficiency falls to the next lower class"
+
+-- the same segment with one element: 100 km/h, and n entries
+abbrev pub entriesSheet : ℕ → List ℕ → List ℕ
+entriesSheet n entries =
+    0x06 ∷ 0xC5 ∷ 0xC6 ∷ 0x04 ∷ 0x01 ∷ 0x00 ∷ 0x00 ∷ 0x07 ∷ replicate 4 0 ++ 0xE8 ∷ 0x07 ∷ replicate 3 0
+    ++ 0x64 ∷ 0x00 ∷ n ∷ entries ++ replicate 6 0
+
+-- "entries for 100 and 165": 120 and 140 km/h
+abbrev pub twoSheet : List ℕ
+twoSheet = entriesSheet 2 (0x00 ∷ 0x64 ∷ 0x78 ∷ 0x00 ∷ 0xA5 ∷ 0x01 ∷ 0x8C ∷ 0x01 ∷ [])
+
+-- 90 km/h for 100 mm; 115, 112 and 125 for 130 mm; 140 for 165 mm
+abbrev pub severalSheet : List ℕ
+severalSheet =
+    entriesSheet 5
+    (0x00 ∷ 0x82 ∷ 0x01 ∷ 0x73 ∷ 0x00 ∷ 0xA5 ∷ 0x01 ∷ 0x8C ∷ 0x01 ∷ 0x00 ∷ 0x82 ∷ 0x01 ∷ 0x70 ∷ 0x00 ∷ 0x64 ∷ 0x5A ∷ 0x00 ∷ 0x82 ∷ 0x01 ∷ 0x7D ∷ [])
+
+-- what a train of this cant deficiency is told, and what it is due
+abbrev pub told : ℕ → (Train → ℕ → Speed) → ℕ → Case
+told cant question v = record { said = speedSaid (question (canted cant) 0); due = speedSaid (record { refusal = 0; place = 0; speed = v }) }
+
+-- from the sheet of two entries and its packet of 42 bytes, and from the sheet of five and its packet of 47
+abbrev pub cants : List Case
+cants =
+    -- "A 150 mm train with entries for 100 and 165 uses the 100 entry"
+    told 150 (speedFromSheet twoSheet) 120 ∷ told 150 (speedFromPacket (sheetToPacket twoSheet (room 42) .room)) 120
+    -- its own beside a lower one, and none at or below its own
+    ∷ told 165 (speedFromSheet twoSheet) 140 ∷ told 165 (speedFromPacket (sheetToPacket twoSheet (room 42) .room)) 140
+    ∷ told 80 (speedFromSheet twoSheet) 100 ∷ told 80 (speedFromPacket (sheetToPacket twoSheet (room 42) .room)) 100
+    -- "the lowest speed of them", in fives from the packet
+    ∷ told 150 (speedFromSheet severalSheet) 112 ∷ told 150 (speedFromPacket (sheetToPacket severalSheet (room 47) .room)) 110
+    ∷ told 130 (speedFromSheet severalSheet) 112 ∷ told 130 (speedFromPacket (sheetToPacket severalSheet (room 47) .room)) 110
+    ∷ []
 
 -- ---- A1: "the journey on the same link, as packet number 4"
 
@@ -108,4 +144,5 @@ desk =
     ∷ getsFromPacket 0 0 699 100 ∷ getsFromPacket 0 0 700 140 ∷ getsFromPacket 1 1 500 140
     -- wire 4: "Q_FRONT's delay tied to the element that follows instead of the one that ends"
     ∷ getsFromSheet 0 1 699 100 ∷ getsFromSheet 1 0 500 140 ∷ getsFromPacket 0 1 699 100 ∷ getsFromPacket 1 0 500 140
-    ∷ journeys
+    ∷ cants
+    ++ journeys

@@ -1,81 +1,154 @@
 -- One speed more, and one element more: what stands for those before stands for it too.
 -- Assumes nothing.
-use mathlib.Core.Path.{_≡_, refl, ap, _∙_}
+use mathlib.Core.Path.{_≡_, ap, _∙_}
 use mathlib.Core.Bool.{Bool, true, false, cond, _&&_}
 use mathlib.Core.List.{List, [], _∷_}
-use Prim.Native.Nat.{ℕ, _+_, _≤_, _<_, min}
+use Prim.Native.Nat.{ℕ, _+_, _-_, _*_, _/_, _%_, _≤_, _<_, min, max}
+use mir.Val.{boolByte}
 use native.Mathlib.Omega.{arith}
-use borrow.Author.Tests.{eqb-true, eqb-false, ne-eqb, le-leb, lt-leb}
-use lib.Dec.{eqb, ltb}
+use borrow.Author.Tests.{eqb-true, eqb-false, eq-eqb, ne-eqb, leb-true, leb-false, le-leb, lt-leb, ltb-true, ltb-false, lt-ltb, le-ltb}
+use lib.Dec.{eqb, ltb, leb, lit≤}
 use Rattle.bits.proofs.Tests.{by-cases}
 use Rattle.speed.specs.declared.Train.{Train}
-use Rattle.speed.specs.Speed.{Entry, named, namedSpeeds, holds}
+use Rattle.speed.specs.Speed.{Entry, Element, belongs, notAbove, greatestFigure, greatestSpeeds, namedSpeeds, instead, elementSpeed, holds}
 use Rattle.elements.specs.declared.Lows.{Lows}
 use Rattle.elements.specs.declared.Open.{Open}
-use Rattle.elements.specs.Elements.{none, insteadFrom, lowestFrom, speedFrom, speedOf, Worked, OneMore, elementWith}
+use Rattle.elements.specs.Elements.{none, insteadFrom, lowestFrom, counted, distance, folded, counts, noFigure, foldedEntry, cantFrom, cantOf, noLows, Kept, speedFrom, speedOf, Worked, OneMore, elementWith}
 
 -- ---- one speed more
 
--- with one that is a speed, there is one
-some-low : (low w : ℕ) → w < none → eqb (min low w) none ≡ false
-some-low low w h = ne-eqb (min low w) none (λ e. omega arith)
+module _ (low v w : ℕ) (l : List ℕ) (h : w < none) where
+  -- with a speed, there is one
+  some-low : ltb (min low w) none ≡ true
+  some-low = lt-ltb (min low w) none (omega arith)
 
-module _ (low v : ℕ) (l : List ℕ) (h : low ≤ none) where
-  instead-none : insteadFrom (min low none) v l ≡ insteadFrom low v l
-  instead-none = let e : min low none ≡ low = omega arith in rw e
+  pub instead-one : insteadFrom (min low w) v l ≡ insteadFrom low v (w ∷ l)
+  instead-one =
+      by-cases (ltb low none)
+      (λ d. rw (d, some-low))
+      (λ d. let e : min low w ≡ w = omega (arith, ltb-false low none d) in rw (d, some-low, e))
 
-  instead-one : (w : ℕ) → w < none → insteadFrom (min low w) v l ≡ insteadFrom low v (w ∷ l)
-  instead-one w s =
-      by-cases (eqb low none)
-      (λ d. let e : min low w ≡ w = omega (arith, eqb-true low none d) in let f : eqb w none ≡ false = ne-eqb w none (λ q. omega arith) in rw (d, e, f))
-      (λ d. rw (d, some-low low w s))
+  lowest-one : lowestFrom (min low w) v l ≡ lowestFrom low v (w ∷ l)
+  lowest-one =
+      by-cases (ltb low none)
+      (λ d. let e : min v (min low w) ≡ min (min v low) w = omega arith in rw (d, some-low, e))
+      (λ d. let e : min low w ≡ w = omega (arith, ltb-false low none d) in rw (d, some-low, e))
 
-  pub instead-more : (b : Bool) (w : ℕ) → w < none → insteadFrom (min low (cond b w none)) v l ≡ insteadFrom low v (cond b (w ∷ l) l)
-  instead-more true w s = instead-one w s
-  instead-more false w s = instead-none
+  -- one that does not count changes nothing
+  none-low : ltb (min low (w + none)) none ≡ ltb low none
+  none-low =
+      by-cases (ltb low none)
+      (λ d. rw d (lt-ltb (min low (w + none)) none (omega (arith, ltb-true low none d))))
+      (λ d. rw d (le-ltb (min low (w + none)) none (omega (arith, ltb-false low none d))))
 
-  lowest-none : lowestFrom (min low none) v l ≡ lowestFrom low v l
-  lowest-none = let e : min low none ≡ low = omega arith in rw e
+  low-stays : ltb low none ≡ true → min low (w + none) ≡ low
+  low-stays d = omega (arith, ltb-true low none d)
 
-  lowest-one : (w : ℕ) → w < none → lowestFrom (min low w) v l ≡ lowestFrom low v (w ∷ l)
-  lowest-one w s =
-      by-cases (eqb low none)
-      (λ d. let e : min low w ≡ w = omega (arith, eqb-true low none d) in let f : eqb w none ≡ false = ne-eqb w none (λ q. omega arith) in rw (d, e, f))
-      (λ d. let e : min v (min low w) ≡ min (min v low) w = omega arith in rw (d, some-low low w s, e))
+  pub instead-more : (b : Bool) → insteadFrom (min low (counted b w)) v l ≡ insteadFrom low v (cond b (w ∷ l) l)
+  instead-more true = instead-one
+  instead-more false = rw none-low (by-cases (ltb low none) (λ d. rw (d, low-stays d)) (λ d. rw d))
 
-  pub lowest-more : (b : Bool) (w : ℕ) → w < none → lowestFrom (min low (cond b w none)) v l ≡ lowestFrom low v (cond b (w ∷ l) l)
-  lowest-more true w s = lowest-one w s
-  lowest-more false w s = lowest-none
+  pub lowest-more : (b : Bool) → lowestFrom (min low (counted b w)) v l ≡ lowestFrom low v (cond b (w ∷ l) l)
+  lowest-more true = lowest-one
+  lowest-more false = rw none-low (by-cases (ltb low none) (λ d. rw (d, low-stays d)) (λ d. rw d))
 
--- a pair of tests, one after the other
-both : (a b : Bool) (w : ℕ) → cond a (cond b w none) none ≡ cond (a && b) w none
-both true b w = refl
-both false b w = refl
+-- what counts, as the code works it out
+pub both-most : (a b : Bool) → boolByte a * boolByte b ≤ 1
+both-most true true = lit≤ tt
+both-most true false = lit≤ tt
+both-most false true = lit≤ tt
+both-most false false = lit≤ tt
+
+pub counted-as : (a b : Bool) (v : ℕ) → v + 1024 * (1 - boolByte a * boolByte b) ≡ counted (a && b) v
+counted-as true true v = omega arith
+counted-as true false v = omega arith
+counted-as false true v = omega arith
+counted-as false false v = omega arith
+
+-- ---- one figure more
+
+-- the better of two entries, by figure and then by speed, stands for both
+module _ (v : ℕ) (a b c : Entry) (l : List Entry) (greater : c .class ≡ max (a .class) (b .class))
+    (first : b .class < a .class → c .vDiff ≡ a .vDiff) (second : a .class < b .class → c .vDiff ≡ b .vDiff)
+    (same : a .class ≡ b .class → c .vDiff ≡ min (a .vDiff) (b .vDiff)) where
+  two-as-one : instead v (greatestSpeeds (c ∷ l)) ≡ instead v (greatestSpeeds (a ∷ b ∷ l))
+  two-as-one =
+      let f = greatestFigure (c ∷ l) in
+      let e : max (a .class) (max (b .class) (greatestFigure l)) ≡ f = omega arith in
+      rw e
+      (by-cases (eqb (a .class) f)
+      (λ p. let x : a .class ≡ f = eqb-true (a .class) f p in
+      let z : eqb (c .class) f ≡ true = eq-eqb (c .class) f (omega arith) in
+      by-cases (eqb (b .class) f)
+      (λ q. let y : b .class ≡ f = eqb-true (b .class) f q in rw (p, q, z, same (omega arith)))
+      (λ q. let y = eqb-false (b .class) f q in rw (p, q, z, first (omega arith))))
+      (λ p. let x = eqb-false (a .class) f p in
+      by-cases (eqb (b .class) f)
+      (λ q. let y : b .class ≡ f = eqb-true (b .class) f q in
+      let z : eqb (c .class) f ≡ true = eq-eqb (c .class) f (omega arith) in
+      rw (p, q, z, second (omega arith)))
+      (λ q. let y = eqb-false (b .class) f q in
+      let z : eqb (c .class) f ≡ false = ne-eqb (c .class) f (λ e. omega arith) in
+      rw (p, q, z))))
+
+module _ (t : Train) (best v q class w : ℕ) (es : List Entry) (k : Kept q class w) (small : t .cant < 4294967296) (low : class < 4294967296) where
+  abbrev here : Entry
+  here = record { qDiff = q; class = class; vDiff = w }
+
+  abbrev more : ℕ
+  more = min best (folded t q class w)
+
+  -- so far below, where it counts
+  near : q ≡ 0 → class ≤ t .cant → distance t q class ≡ t .cant - class
+  near e h = omega arith
+
+  counted-more : q ≡ 0 → class ≤ t .cant → cantFrom t more v es
+      ≡ instead v (greatestSpeeds (cond (counts t best) (foldedEntry t best ∷ here ∷ notAbove t es) (here ∷ notAbove t es)))
+  counted-more e h =
+      let d = near e h in
+      let some : counts t more ≡ true = le-leb (more / 1024) (t .cant) (omega arith) in
+      by-cases (counts t best)
+      (λ z. let g = leb-true (best / 1024) (t .cant) z in
+      rw (z, some)
+      (two-as-one v (foldedEntry t best) here (foldedEntry t more) (notAbove t es) (omega arith)
+      (λ less. omega arith)
+      (λ less. omega arith)
+      (λ same. omega arith)))
+      (λ z. let g = leb-false (best / 1024) (t .cant) z in
+      let a : t .cant - more / 1024 ≡ class = omega arith in
+      let b : more % 1024 ≡ w = omega arith in
+      rw (z, some, a, b))
+
+  -- further than all that count, where it does not
+  none-more : 4294967296 ≤ distance t q class → cantFrom t more v es ≡ cantFrom t best v es
+  none-more h =
+      by-cases (counts t best)
+      (λ z. let e : more ≡ best = omega (arith, leb-true (best / 1024) (t .cant) z) in rw e)
+      (λ z. let e : counts t more ≡ false = lt-leb (more / 1024) (t .cant) (omega (arith, leb-false (best / 1024) (t .cant) z)) in rw (z, e))
+
+  -- the lower number stands for both
+  pub figure-more : cantFrom t more v es ≡ cantFrom t best v (here ∷ es)
+  figure-more =
+      by-cases (eqb q 0)
+      (λ d. let e = eqb-true q 0 d in
+      by-cases (leb class (t .cant))
+      (λ g. rw (d, g) (counted-more e (leb-true class (t .cant) g)))
+      (λ g. let h = leb-false class (t .cant) g in rw (d, g) (none-more (omega arith))))
+      (λ d. let e = eqb-false q 0 d in let f = k .few in rw d (none-more (omega arith)))
 
 -- ---- one entry more
 
--- the Q_DIFF's own test
-named-as : (t : Train) (p q class w : ℕ) → cond (eqb q p) (cond (named t q class) w none) none ≡ cond (eqb q p && named t p class) w none
-named-as t p q class w =
-    by-cases (eqb q p)
-    (λ d. let e : q ≡ p = eqb-true q p d in rw (d, e))
-    (λ d. rw d)
+-- the lows after it, as the code works them out: whether a train belongs to a category was asked of its class, a category where Q_DIFF is not 0
+pub low-with : (t : Train) (p q class w low : ℕ) {s so : ℕ} {m : Bool} → 0 < p → Kept q class w → (class < 3 → m ≡ belongs t class) → so ≡ counted (eqb q p && m) w → s ≡ min low so
+    → s ≡ min low (counted (eqb q p && belongs t class) w)
+low-with t p q class w low {m = m} h k a b c =
+    c ∙ ap (min low)
+    (b ∙ by-cases (eqb q p) (λ d. let e : q ≡ p = eqb-true q p d in rw (d, a (k .category (omega arith)))) (λ d. rw d))
 
--- every low is one that a number of 32 bits holds
-pub record Small (lows : Lows) : Type 0 where
-  pub cant : lows .cant ≤ none
-  pub replacing : lows .replacing ≤ none
-  pub lowering : lows .lowering ≤ none
-
--- a Q_DIFF's low with an entry, as the code works it out
-pub low-with : (t : Train) (p q class w low : ℕ) {n s so : ℕ} → n ≡ cond (named t q class) w none → so ≡ cond (eqb q p) n none → s ≡ min low so
-    → s ≡ min low (cond (eqb q p && named t p class) w none)
-low-with t p q class w low a b c = c ∙ ap (min low) (b ∙ rw a (named-as t p q class w))
-
-module _ (t : Train) (lows after : Lows) (q class w : ℕ) (m : Small lows) (h : w < none)
-    (a : after .cant ≡ min (lows .cant) (cond (eqb q 0 && named t 0 class) w none))
-    (b : after .replacing ≡ min (lows .replacing) (cond (eqb q 1 && named t 1 class) w none))
-    (c : after .lowering ≡ min (lows .lowering) (cond (eqb q 2 && named t 2 class) w none)) where
+module _ (t : Train) (lows after : Lows) (q class w : ℕ) (k : Kept q class w) (small : t .cant < 4294967296) (low : class < 4294967296)
+    (a : after .cant ≡ min (lows .cant) (folded t q class w))
+    (b : after .replacing ≡ min (lows .replacing) (counted (eqb q 1 && belongs t class) w))
+    (c : after .lowering ≡ min (lows .lowering) (counted (eqb q 2 && belongs t class) w)) where
   pub entry-more : OneMore t lows q class w after
   entry-more = record { same = same }
     where
@@ -85,35 +158,46 @@ module _ (t : Train) (lows after : Lows) (q class w : ℕ) (m : Small lows) (h :
             a,
             b,
             c,
-            instead-more (lows .cant) v (namedSpeeds t 0 es) (m .cant) (eqb q 0 && named t 0 class) w h,
-            instead-more (lows .replacing) _ (namedSpeeds t 1 es) (m .replacing) (eqb q 1 && named t 1 class) w h,
-            lowest-more (lows .lowering) _ (namedSpeeds t 2 es) (m .lowering) (eqb q 2 && named t 2 class) w h,
+            figure-more t (lows .cant) v q class w es k small low,
+            instead-more (lows .replacing) _ w (namedSpeeds t 1 es) (k .speed) (eqb q 1 && belongs t class),
+            lowest-more (lows .lowering) _ w (namedSpeeds t 2 es) (k .speed) (eqb q 2 && belongs t class),
           )
 
 -- ---- the element's speed
 
-instead-below : (low v : ℕ) → low ≤ none → v < none → insteadFrom low v [] < none
-instead-below low v h l = by-cases (eqb low none) (λ d. rw d l) (λ d. rw d (omega (arith, eqb-false low none d)))
+instead-below : (low v : ℕ) → v < none → insteadFrom low v [] < none
+instead-below low v l = by-cases (ltb low none) (λ d. rw d (ltb-true low none d)) (λ d. rw d l)
+
+cant-below : (t : Train) (best v : ℕ) → v < none → cantOf t best v < none
+cant-below t best v l = by-cases (counts t best) (λ d. rw d (omega arith)) (λ d. rw d l)
+
+-- with no entry to come, the number stands for one
+pub cant-last : (t : Train) (best v : ℕ) → cantFrom t best v [] ≡ cantOf t best v
+cant-last t best v =
+    let f = t .cant - best / 1024 in
+    let e : eqb f (max f 0) ≡ true = eq-eqb f (max f 0) (omega arith) in
+    by-cases (counts t best) (λ d. rw (d, e)) (λ d. rw d)
+
+-- with none before, the entries to come are all
+pub speed-first : (t : Train) (e : Element) → t .cant < 4294967296 → elementSpeed t e ≡ speedFrom t noLows (e .vStatic) (e .entries)
+speed-first t e h = let z : counts t noFigure ≡ false = lt-leb 4294967296 (t .cant) h in rw z
 
 -- as the code works it out
-pub speed-worked : (lows : Lows) (v held : ℕ) {a b w r : ℕ} → Small lows → a ≡ insteadFrom (lows .cant) v [] → b ≡ insteadFrom (lows .replacing) a [] → b ≤ none
-    → w ≡ min b (lows .lowering) → r ≡ min held w → Worked lows v held r
-speed-worked lows v held {a} {b} {w} {r} m p q h e f = record { is = f ∙ ap (min held) is; below = λ l. rw is at (below l) }
+pub speed-worked : (t : Train) (lows : Lows) (v held : ℕ) {a b w r : ℕ} → v < none → a ≡ cantOf t (lows .cant) v → b ≡ insteadFrom (lows .replacing) a [] → w ≡ min b (lows .lowering) → r ≡ min held w
+    → Worked t lows v held r
+speed-worked t lows v held {a} {b} {w} {r} l p q e f = record { is = f ∙ ap (min held) is; below = rw is at less }
   where
-    under : (low : ℕ) → min b low ≡ lowestFrom low b []
-    under low =
-        by-cases (eqb low none)
-        (λ d. let z : min b low ≡ b = omega (arith, eqb-true low none d) in rw d z)
-        (λ d. rw d)
+    small : b < none
+    small = rw q (instead-below (lows .replacing) a (rw p (cant-below t (lows .cant) v l)))
 
-    is : w ≡ speedOf lows v
+    under : (low : ℕ) → min b low ≡ lowestFrom low b []
+    under low = by-cases (ltb low none) (λ d. rw d) (λ d. let z : min b low ≡ b = omega (arith, small, ltb-false low none d) in rw d z)
+
+    is : w ≡ speedOf t lows v
     is = e ∙ under (lows .lowering) ∙ ap (λ (n : ℕ). lowestFrom (lows .lowering) n []) (q ∙ ap (λ (n : ℕ). insteadFrom (lows .replacing) n []) p)
 
-    below : v < none → w < none
-    below l =
-        let c : a < none = rw p (instead-below (lows .cant) v (m .cant) l) in
-        let d : b < none = rw q (instead-below (lows .replacing) a (m .replacing) c) in
-        omega arith
+    less : w < none
+    less = omega (arith, small)
 
 -- ---- where an element holds
 
@@ -129,7 +213,6 @@ module _ (t : Train) (o : Open) (stop x : ℕ) where
 
 -- ---- one element more
 
--- one speed more is held, or none
-module _ (held : ℕ) (h : held ≤ none) where
-  pub held-more : {r v : ℕ} → r ≡ min held v → v < none → (l : List ℕ) → insteadFrom r 0 l ≡ insteadFrom held 0 (v ∷ l)
-  held-more {r} {v} e s l = rw e (instead-one held 0 l h v s)
+-- one speed more is held
+pub held-more : (held : ℕ) {r v : ℕ} → r ≡ min held v → v < none → (l : List ℕ) → insteadFrom r 0 l ≡ insteadFrom held 0 (v ∷ l)
+held-more held {r} {v} e s l = rw e (instead-one held 0 v l s)

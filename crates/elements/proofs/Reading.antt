@@ -19,9 +19,9 @@ use Rattle.speed.specs.Speed.{Element, elementSpeed, endBefore, holds, heldSpee
 use Rattle.elements.specs.declared.Lows.{Lows}
 use Rattle.elements.specs.declared.Next.{Next}
 use Rattle.elements.specs.declared.Open.{Open}
-use Rattle.elements.specs.Elements.{none, noLows, insteadFrom, speedFrom, Worked, OneMore, elementWith}
+use Rattle.elements.specs.Elements.{none, noLows, insteadFrom, speedFrom, Worked, OneMore, elementWith, elementAs}
 use Rattle.elements.specs.Reading.{Readable, Past, Passes, FieldRead, EntryRead, Opened, Opens, ElementRead, Ended, ChangeRead, NextRead, ChangesRead, ProfileRead}
-use Rattle.elements.proofs.Lowest.{held-more}
+use Rattle.elements.proofs.Lowest.{cant-last, speed-first, held-more}
 
 -- one more number is gone
 one-gone : {m : List ℕ} (n : ℕ) (s : List ℕ) → m ≡ drop n s → drop 1 m ≡ drop (n + 1) s
@@ -200,15 +200,18 @@ module _ (Reads : Format → ℕ → List Item → Type 0) where
 
   module _ {t : Train} {held stop x : ℕ} {o : Open} where
     -- it holds, and its entries were read
-    pub ended-read : {n to r : ℕ} {lows : Lows} → holds t (elementWith o []) stop x ≡ true → Entered t (o .count) (o .entries) n to lows → n ≤ 0 → Worked lows (o .«v_static») held r
-        → o .«v_static» < none → held ≤ none → Ended Reads t held stop x o r
-    ended-read {n} {to} {r} {lows} d g z w h b = record { said = said }
+    pub ended-read : {n to r : ℕ} {lows : Lows} → holds t (elementWith o []) stop x ≡ true → Entered t (o .count) (o .entries) n to lows → n ≤ 0 → Worked t lows (o .«v_static») held r
+        → t .cant < 4294967296 → Ended Reads t held stop x o r
+    ended-read {n} {to} {r} {lows} d g z w small = record { said = said }
       where
         gone : Entered t (o .count) (o .entries) 0 to lows
         gone = let q : n ≡ 0 = omega arith in rw q at g
 
         said : (e : Element) → Opened Reads o e → (l : List ℕ) → insteadFrom r 0 l ≡ insteadFrom held 0 (cond (holds t e stop x) (elementSpeed t e ∷ l) l)
-        said e i l = let s = gone .going (i .follows) (i .values) (i .reads) .same (o .«v_static») in rw (i .is, d, ← s) (held-more held b (w .is) (w .below h) l)
+        said e i l =
+            let s = gone .going (i .follows) (i .values) (i .reads) .same (o .«v_static») in
+            let whole = speed-first t (elementAs o (sheetNumbers (i .values))) small ∙ sym s in
+            rw (i .is, d, whole, cant-last t (lows .cant) (o .«v_static»)) (held-more held (w .is) (w .below) l)
 
     -- it does not, so nothing more is held
     pub ended-not : holds t (elementWith o []) stop x ≡ false → Ended Reads t held stop x o held

@@ -1,23 +1,33 @@
 // One element of a speed profile: the lowest speeds of its entries that name the train, its speed, and whether it holds.
 ghost use mathlib.Core.Path.{_≡_};
-ghost use mathlib.Core.Bool.{cond};
+ghost use mathlib.Core.Bool.{_&&_};
 ghost use mathlib.Core.List.{[]};
 ghost use Prim.Native.Nat.{min, _<_};
 ghost use Rattle.speed.specs.Speed.{holds};
-ghost use Rattle.elements.specs.Elements.{none, noLows, insteadFrom, Worked, OneMore, elementWith};
+ghost use Rattle.elements.specs.Elements.{none, counted, distance, cantOf, noLows, insteadFrom, Kept, Worked, OneMore, elementWith};
 use speed::Train;
 
-// Stands for no speed. It is above every speed, so that the lowest of it and another is the other, and no flag goes along.
-pub const NONE: u32 = 4294967295;
+// Stands for no speed, as every number from it on. Speeds are below it, so that the lowest of it and another is the other, and no flag goes along.
+pub const NONE: u32 = 1024;
+
+// The same of an entry's distance and speed as one number; what the distance is counted in, and modulo.
+const NO_FIGURE: u64 = 4398046511104;
+
+const SPEEDS: u64 = 1024;
+
+const DISTANCES: u64 = 18014398509481984;
+
+// What a Q_DIFF adds to a figure: more than any cant deficiency.
+const Q_DIFF: u64 = 4294967296;
 
 // The Q_DIFF of entries that replace, and of those that only lower.
 const REPLACING: u32 = 1;
 
 const LOWERING: u32 = 2;
 
-// The lowest speeds of the entries that name the train, for each Q_DIFF.
+// The lowest speeds of the entries that name the train, for each Q_DIFF; by cant deficiency the lowest number.
 pub struct Lows {
-    pub cant: u32,
+    pub cant: u64,
     pub replacing: u32,
     pub lowering: u32,
 }
@@ -54,14 +64,41 @@ fn lower(a: u32, b: u32) -> u32
     b
 }
 
-// A speed where it counts.
-fn counted(so: bool, v: u32) -> u32
-    ensures { λ r. ⌜ r ≡ cond so v none ⌝ }
+// The nearer entry of two, and of two that are as near the slower: the lower number.
+fn nearer(one: u64, other: u64) -> u64
+    ensures { λ r. ⌜ r ≡ min one other ⌝ }
 {
-    if so {
-        return v;
+    if one < other {
+        return one;
     }
-    NONE
+    other
+}
+
+// A speed where it counts, by a sum: which entries count goes up and down, and a wrong guess costs more.
+fn counted(so: bool, member: bool, v: u32) -> u32
+    requires { ⌜ v < none ⌝ }
+    ensures { λ r. ⌜ r ≡ counted (so && member) v ⌝ }
+{
+    v + NONE * (1 - so as u32 * member as u32)
+}
+
+// How far an entry's figure lies below the train's, by a difference that falls below 0 where it does not count.
+fn distance(train: Train, q_diff: u32, class: u32) -> u64
+    requires { ⌜ «q_diff» < 4 ⌝ }
+    ensures { λ r. ⌜ r ≡ distance train «q_diff» class ⌝ }
+{
+    (DISTANCES + train.cant as u64 - (class as u64 + q_diff as u64 * Q_DIFF)) % DISTANCES
+}
+
+// The lowest speed of the nearest figure instead of this, if there is one.
+fn by_cant(train: Train, best: u64, v: u32) -> u32
+    ensures { λ r. ⌜ r ≡ cantOf train best v ⌝ }
+{
+    let low = (best % SPEEDS) as u32;
+    if best / SPEEDS <= train.cant as u64 {
+        return low;
+    }
+    v
 }
 
 // Those of no entry.
@@ -69,7 +106,7 @@ pub fn no_lows() -> Lows
     ensures { λ r. ⌜ r ≡ noLows ⌝ }
 {
     Lows {
-        cant: NONE,
+        cant: NO_FIGURE,
         replacing: NONE,
         lowering: NONE,
     }
@@ -79,22 +116,23 @@ pub fn no_lows() -> Lows
 fn instead(low: u32, v: u32) -> u32
     ensures { λ r. ⌜ r ≡ insteadFrom low v [] ⌝ }
 {
-    if low == NONE {
-        return v;
+    if low < NONE {
+        return low;
     }
-    low
+    v
 }
 
 impl Lows {
     // With one entry more: each is looked at for every Q_DIFF, with no branch on its own.
     pub fn with(self, train: Train, q_diff: u32, class: u32, v: u32) -> Lows
-        requires { ⌜ v < none ⌝ }
+        requires { ⌜ Kept «q_diff» class v ⌝ }
         ensures { λ r. ⌜ OneMore train self «q_diff» class v r ⌝ }
     {
-        let w = counted(speed::names(train, q_diff, class), v);
-        let cant = lower(self.cant, counted(q_diff == speed::OF_CANT, w));
-        let replacing = lower(self.replacing, counted(q_diff == REPLACING, w));
-        let lowering = lower(self.lowering, counted(q_diff == LOWERING, w));
+        let far = distance(train, q_diff, class) * SPEEDS;
+        let cant = nearer(self.cant, far + v as u64);
+        let member = speed::belongs_to(train, class);
+        let replacing = lower(self.replacing, counted(q_diff == REPLACING, member, v));
+        let lowering = lower(self.lowering, counted(q_diff == LOWERING, member, v));
         Lows {
             cant,
             replacing,
@@ -103,10 +141,11 @@ impl Lows {
     }
 
     // The lowest speed held, with the element's.
-    pub fn lowered(self, v_static: u32, held: u32) -> u32
-        ensures { λ r. ⌜ Worked self «v_static» held r ⌝ }
+    pub fn lowered(self, train: Train, v_static: u32, held: u32) -> u32
+        requires { ⌜ «v_static» < none ⌝ }
+        ensures { λ r. ⌜ Worked train self «v_static» held r ⌝ }
     {
-        let v = instead(self.replacing, instead(self.cant, v_static));
+        let v = instead(self.replacing, by_cant(train, self.cant, v_static));
         lower(held, lower(v, self.lowering))
     }
 }

@@ -1,13 +1,12 @@
 -- A permitted speed is at most 604 km/h: every speed of a sheet's values is, and the lowest of some is one of them.
 -- Assumes nothing.
 use mathlib.Core.Path.{_≡_, refl}
-use mathlib.Core.Bool.{_&&_}
+use mathlib.Core.Bool.{Bool, true, false, cond, _&&_}
 use mathlib.Core.List.{List, [], _∷_}
 use Prim.Native.Nat.{ℕ, zero, suc, _+_, _≤_, min}
 use native.Mathlib.Omega.{arith}
 use lib.Dec.{eqb}
 use lib.ListN.{drop, getD}
-use Rattle.bits.proofs.Tests.{by-cases}
 use Rattle.kinds.specs.declared.Item.{Item}
 use Rattle.kinds.specs.Kinds.{speed, nIter}
 use Rattle.fields.proofs.Lawful.{speed-lawful}
@@ -15,7 +14,7 @@ use Rattle.format.specs.Format.{Format, field, sheetNumbers}
 use Rattle.format.specs.Conforming.{Conforming, also, InSheet}
 use Rattle.segment.specs.Segment.{entries, profile, changes, part, lists, sheetFields, wireChanges}
 use Rattle.speed.specs.declared.Train.{Train}
-use Rattle.speed.specs.Speed.{Entry, Element, named, namedSpeeds, lowest, instead, elementSpeed, endBefore, holds, heldSpeeds, entriesOf, afterEntries, elementOf, afterElement, changesFrom, elementsFrom, segmentLength, profileOf, speedIn}
+use Rattle.speed.specs.Speed.{Entry, Element, belongs, isNotAbove, notAbove, greatestFigure, isOf, figureSpeeds, cantSpeeds, namedSpeeds, lowest, instead, elementSpeed, endBefore, holds, heldSpeeds, entriesOf, afterEntries, elementOf, afterElement, changesFrom, elementsFrom, segmentLength, profileOf, speedIn}
 use Rattle.speed.proofs.Lowering.{same-is, apart, at-lists}
 
 -- ---- speeds of at most 604
@@ -40,24 +39,40 @@ instead-within : (v : ℕ) (l : List ℕ) → v ≤ 604 → Within l → instead
 instead-within v [] h b = h
 instead-within v (w ∷ l) h b = lowest-within w l (b .0)
 
+-- whether one is taken or not
+chosen-within : (b : Bool) (v : ℕ) (l : List ℕ) → v ≤ 604 → Within l → Within (cond b (v ∷ l) l)
+chosen-within true v l h r = (h, r)
+chosen-within false v l h r = r
+
 named-within : (t : Train) (q : ℕ) (l : List Entry) → EntriesWithin l → Within (namedSpeeds t q l)
 named-within t q [] b = tt
-named-within t q (e ∷ l) b =
-    by-cases (eqb (e .qDiff) q && named t q (e .class)) (λ d. rw d (b .0, named-within t q l (b .1))) (λ d. rw d (named-within t q l (b .1)))
+named-within t q (e ∷ l) b = chosen-within (eqb (e .qDiff) q && belongs t (e .class)) (e .vDiff) (namedSpeeds t q l) (b .0) (named-within t q l (b .1))
+
+chosen-entries : (b : Bool) (e : Entry) (l : List Entry) → e .vDiff ≤ 604 → EntriesWithin l → EntriesWithin (cond b (e ∷ l) l)
+chosen-entries true e l h r = (h, r)
+chosen-entries false e l h r = r
+
+above-within : (t : Train) (l : List Entry) → EntriesWithin l → EntriesWithin (notAbove t l)
+above-within t [] b = tt
+above-within t (e ∷ l) b = chosen-entries (isNotAbove t e) e (notAbove t l) (b .0) (above-within t l (b .1))
+
+figure-within : (figure : ℕ) (l : List Entry) → EntriesWithin l → Within (figureSpeeds figure l)
+figure-within figure [] b = tt
+figure-within figure (e ∷ l) b = chosen-within (isOf figure e) (e .vDiff) (figureSpeeds figure l) (b .0) (figure-within figure l (b .1))
+
+cant-within : (t : Train) (l : List Entry) → EntriesWithin l → Within (cantSpeeds t l)
+cant-within t l b = figure-within (greatestFigure (notAbove t l)) (notAbove t l) (above-within t l b)
 
 element-within : (t : Train) (e : Element) → e .vStatic ≤ 604 → EntriesWithin (e .entries) → elementSpeed t e ≤ 604
 element-within t e h b =
     let l = e .entries in
-    let first = instead-within (e .vStatic) (namedSpeeds t 0 l) h (named-within t 0 l b) in
-    lowest-within (instead (instead (e .vStatic) (namedSpeeds t 0 l)) (namedSpeeds t 1 l)) (namedSpeeds t 2 l)
-    (instead-within (instead (e .vStatic) (namedSpeeds t 0 l)) (namedSpeeds t 1 l) first (named-within t 1 l b))
+    let first = instead (e .vStatic) (cantSpeeds t l) in
+    lowest-within (instead first (namedSpeeds t 1 l)) (namedSpeeds t 2 l)
+    (instead-within first (namedSpeeds t 1 l) (instead-within (e .vStatic) (cantSpeeds t l) h (cant-within t l b)) (named-within t 1 l b))
 
 held-within : (t : Train) (lsp x : ℕ) (l : List Element) → ElementsWithin l → Within (heldSpeeds t lsp x l)
 held-within t lsp x [] b = tt
-held-within t lsp x (e ∷ l) b =
-    by-cases (holds t e (endBefore lsp l) x)
-    (λ d. rw d (element-within t e (b .0) (b .1), held-within t lsp x l (b .2)))
-    (λ d. rw d (held-within t lsp x l (b .2)))
+held-within t lsp x (e ∷ l) b = chosen-within (holds t e (endBefore lsp l) x) (elementSpeed t e) (heldSpeeds t lsp x l) (element-within t e (b .0) (b .1)) (held-within t lsp x l (b .2))
 
 -- ---- through the segment's tree
 

@@ -1,7 +1,7 @@
 -- At every place of a segment some element holds; the permitted speed of lowered elements is the permitted speed, lowered; what the code asks of a train.
 -- Assumes nothing.
 use mathlib.Core.Path.{_≡_, refl, sym, ap, _∙_}
-use mathlib.Core.Bool.{Bool, true, false, _&&_}
+use mathlib.Core.Bool.{Bool, true, false, cond, _&&_}
 use mathlib.Core.List.{List, [], _∷_, map}
 use mathlib.Core.Option.{Option, none, some}
 use Prim.Native.Nat.{ℕ, zero, suc, _+_, _*_, _/_, _%_, _^_, _≤_, _<_, min}
@@ -15,7 +15,7 @@ use Rattle.kinds.specs.Tables.{cantFigures, place}
 use Rattle.fields.proofs.Lookup.{place-small}
 use Rattle.lowering.specs.Lowered.{valueOr, lowered}
 use Rattle.speed.specs.declared.Train.{Train}
-use Rattle.speed.specs.Speed.{found, figure, validTrain, belongs, Entry, Element, named, namedSpeeds, lowest, instead, elementSpeed, endBefore, holds, heldSpeeds, permitted, inFives, entryInFives, elementInFives}
+use Rattle.speed.specs.Speed.{found, figure, validTrain, belongs, Entry, Element, isNotAbove, notAbove, greatestFigure, isOf, figureSpeeds, cantSpeeds, namedSpeeds, lowest, instead, elementSpeed, endBefore, holds, heldSpeeds, permitted, inFives, entryInFives, elementInFives}
 
 -- ---- somewhere an element holds
 
@@ -48,18 +48,37 @@ lowered-instead : (v : ℕ) (l : List ℕ) → instead (inFives v) (map inFives 
 lowered-instead v [] = refl
 lowered-instead v (w ∷ l) = lowered-lowest w l
 
+-- whether one is taken or not
+map-chosen : {A B : Type 0} (f : A → B) (b : Bool) (e : A) (l : List A) → cond b (f e ∷ map f l) (map f l) ≡ map f (cond b (e ∷ l) l)
+map-chosen f true e l = refl
+map-chosen f false e l = refl
+
 lowered-named : (t : Train) (q : ℕ) (l : List Entry) → namedSpeeds t q (map entryInFives l) ≡ map inFives (namedSpeeds t q l)
 lowered-named t q [] = refl
-lowered-named t q (e ∷ l) =
-    by-cases (eqb (e .qDiff) q && named t q (e .class))
-    (λ d. rw d (ap (λ (m : List ℕ). inFives (e .vDiff) ∷ m) (lowered-named t q l)))
-    (λ d. rw d (lowered-named t q l))
+lowered-named t q (e ∷ l) = rw (lowered-named t q l) (map-chosen inFives (eqb (e .qDiff) q && belongs t (e .class)) (e .vDiff) (namedSpeeds t q l))
+
+-- lowering changes no figure, so the greatest stays
+lowered-above : (t : Train) (l : List Entry) → notAbove t (map entryInFives l) ≡ map entryInFives (notAbove t l)
+lowered-above t [] = refl
+lowered-above t (e ∷ l) = rw (lowered-above t l) (map-chosen entryInFives (isNotAbove t e) e (notAbove t l))
+
+lowered-greatest : (l : List Entry) → greatestFigure (map entryInFives l) ≡ greatestFigure l
+lowered-greatest [] = refl
+lowered-greatest (e ∷ l) = rw (lowered-greatest l)
+
+lowered-figure : (figure : ℕ) (l : List Entry) → figureSpeeds figure (map entryInFives l) ≡ map inFives (figureSpeeds figure l)
+lowered-figure figure [] = refl
+lowered-figure figure (e ∷ l) = rw (lowered-figure figure l) (map-chosen inFives (isOf figure e) (e .vDiff) (figureSpeeds figure l))
+
+pub lowered-cant : (t : Train) (l : List Entry) → cantSpeeds t (map entryInFives l) ≡ map inFives (cantSpeeds t l)
+lowered-cant t l = let m = notAbove t l in rw (lowered-above t l, lowered-greatest m) (lowered-figure (greatestFigure m) m)
 
 lowered-speed : (t : Train) (e : Element) → elementSpeed t (elementInFives e) ≡ inFives (elementSpeed t e)
 lowered-speed t e =
     let l = e .entries in
-    rw (lowered-named t 0 l, lowered-named t 1 l, lowered-named t 2 l, lowered-instead (e .vStatic) (namedSpeeds t 0 l), lowered-instead (instead (e .vStatic) (namedSpeeds t 0 l)) (namedSpeeds t 1 l))
-    (lowered-lowest (instead (instead (e .vStatic) (namedSpeeds t 0 l)) (namedSpeeds t 1 l)) (namedSpeeds t 2 l))
+    let first = instead (e .vStatic) (cantSpeeds t l) in
+    rw (lowered-cant t l, lowered-named t 1 l, lowered-named t 2 l, lowered-instead (e .vStatic) (cantSpeeds t l), lowered-instead first (namedSpeeds t 1 l))
+    (lowered-lowest (instead first (namedSpeeds t 1 l)) (namedSpeeds t 2 l))
 
 lowered-end : (lsp : ℕ) (l : List Element) → endBefore lsp (map elementInFives l) ≡ endBefore lsp l
 lowered-end lsp [] = refl
@@ -98,14 +117,11 @@ categories-bits false true false = (refl, refl, refl)
 categories-bits false false true = (refl, refl, refl)
 categories-bits false false false = (refl, refl, refl)
 
-pub belongs-bit : (t : Train) (c m : ℕ) → m ≡ min c 2 → eqb (categories t / 2 ^ m % 2) 1 ≡ belongs t c
-belongs-bit t zero m e = let z : m ≡ 0 = omega arith in rw z (categories-bits (t .«freight_p») (t .«freight_g») (t .passenger) .0)
-belongs-bit t (suc zero) m e = let z : m ≡ 1 = omega arith in rw z (categories-bits (t .«freight_p») (t .«freight_g») (t .passenger) .1)
-belongs-bit t (suc (suc c)) m e = let z : m ≡ 2 = omega arith in rw z (categories-bits (t .«freight_p») (t .«freight_g») (t .passenger) .2)
-
-pub named-category : (t : Train) (q class : ℕ) → (q ≡ 0 → ⊥) → belongs t class ≡ named t q class
-named-category t zero class a = absurd (a refl)
-named-category t (suc q) class a = refl
+pub belongs-bit : (t : Train) (c m : ℕ) → m ≡ c % 32 → c < 3 → eqb (categories t / 2 ^ m % 2) 1 ≡ belongs t c
+belongs-bit t zero m e h = let z : m ≡ 0 = omega arith in rw z (categories-bits (t .«freight_p») (t .«freight_g») (t .passenger) .0)
+belongs-bit t (suc zero) m e h = let z : m ≡ 1 = omega arith in rw z (categories-bits (t .«freight_p») (t .«freight_g») (t .passenger) .1)
+belongs-bit t (suc (suc zero)) m e h = let z : m ≡ 2 = omega arith in rw z (categories-bits (t .«freight_p») (t .«freight_g») (t .passenger) .2)
+belongs-bit t (suc (suc (suc c))) m e h = absurd (omega arith)
 
 -- a cant deficiency that has a place is one of the figures
 pub figure-place : (a v : ℕ) → v ≡ lowered (class 0) a → ltb v 16 ≡ figure a

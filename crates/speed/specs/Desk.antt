@@ -32,6 +32,18 @@ plain = trainOf 200 80 false false false
 abbrev pub specific : List ℕ
 specific = segmentWith (100 ∷ 0 ∷ 4 ∷ 0 ∷ 100 ∷ 120 ∷ 1 ∷ 0 ∷ 130 ∷ 1 ∷ 1 ∷ 90 ∷ 2 ∷ 2 ∷ 125 ∷ 0 ∷ [])
 
+-- a train of this cant deficiency and of no category
+abbrev pub canted : ℕ → Train
+canted cant = trainOf 200 cant false false false
+
+-- 100 km/h; "entries for 100 and 165": 120 and 140
+abbrev pub twoFigures : List ℕ
+twoFigures = segmentWith (100 ∷ 0 ∷ 2 ∷ 0 ∷ 100 ∷ 120 ∷ 0 ∷ 165 ∷ 140 ∷ 0 ∷ [])
+
+-- 100 km/h; 90 for 100 mm; 115, 112 and 125 for 130 mm; 140 for 165 mm
+abbrev pub severalEntries : List ℕ
+severalEntries = segmentWith (100 ∷ 0 ∷ 5 ∷ 0 ∷ 130 ∷ 115 ∷ 0 ∷ 165 ∷ 140 ∷ 0 ∷ 130 ∷ 112 ∷ 0 ∷ 100 ∷ 90 ∷ 0 ∷ 130 ∷ 125 ∷ 0 ∷ [])
+
 abbrev pub speeds : List SpeedCase
 speeds =
     -- "a 200 cm train gets 100 at 699 and 140 at 700. With Q_FRONT 1 it gets 140 at 500"
@@ -52,4 +64,14 @@ speeds =
     ∷ record { train = trainOf 200 100 true true false; x = 0; numbers = specific; answer = 90 }
     ∷ record { train = trainOf 200 100 false false true; x = 0; numbers = specific; answer = 120 }
     ∷ record { train = trainOf 200 80 true false true; x = 999; numbers = specific; answer = 125 }
+    -- "A 150 mm train with entries for 100 and 165 uses the 100 entry"
+    ∷ record { train = canted 150; x = 0; numbers = twoFigures; answer = 120 }
+    -- its own beside a lower one, the greatest of two below, and none at or below its own
+    ∷ record { train = canted 165; x = 0; numbers = twoFigures; answer = 140 }
+    ∷ record { train = canted 300; x = 0; numbers = twoFigures; answer = 140 }
+    ∷ record { train = canted 80; x = 0; numbers = twoFigures; answer = 100 }
+    -- several entries of the figure that is taken: "the lowest speed of them", and of them alone
+    ∷ record { train = canted 150; x = 0; numbers = severalEntries; answer = 112 }
+    ∷ record { train = canted 130; x = 0; numbers = severalEntries; answer = 112 }
+    ∷ record { train = canted 100; x = 0; numbers = severalEntries; answer = 90 }
     ∷ []

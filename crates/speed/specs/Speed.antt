@@ -3,7 +3,7 @@
 use mathlib.Core.Bool.{Bool, true, false, cond, _&&_}
 use mathlib.Core.List.{List, [], _∷_, map}
 use mathlib.Core.Option.{Option, none, some}
-use Prim.Native.Nat.{ℕ, zero, suc, _+_, _*_, _/_, min}
+use Prim.Native.Nat.{ℕ, zero, suc, _+_, _*_, _/_, min, max}
 use lib.Dec.{eqb, ltb, leb}
 use lib.ListN.{drop, getD}
 use Rattle.kinds.specs.Tables.{cantFigures, place}
@@ -45,19 +45,39 @@ pub record Element : Type 0 where
   pub qFront : ℕ
   pub entries : List Entry
 
--- the choice by cant deficiency: "name the train's own cant deficiency"
-abbrev pub ownCant : Train → ℕ → Bool
-ownCant t class = eqb class (t .cant)
+-- an entry "with Q_DIFF 0" whose figure is "the train's own cant deficiency" or "below its own"
+abbrev pub isNotAbove : Train → Entry → Bool
+isNotAbove t e = eqb (e .qDiff) 0 && leb (e .class) (t .cant)
 
--- whether an entry of this Q_DIFF and class is the train's: by cant deficiency, or by "a category the train belongs to"
-abbrev pub named : Train → ℕ → ℕ → Bool
-named t zero class = ownCant t class
-named t (suc q) class = belongs t class
+abbrev pub notAbove : Train → List Entry → List Entry
+notAbove t [] = []
+notAbove t (e ∷ l) = cond (isNotAbove t e) (e ∷ notAbove t l) (notAbove t l)
 
--- "entries with Q_DIFF 0", 1 or 2 that name the train's own: their speeds
+-- "the greatest figure" of some entries
+abbrev pub greatestFigure : List Entry → ℕ
+greatestFigure [] = 0
+greatestFigure (e ∷ l) = max (e .class) (greatestFigure l)
+
+-- the speeds of "the entries of" a figure
+abbrev pub isOf : ℕ → Entry → Bool
+isOf figure e = eqb (e .class) figure
+
+abbrev pub figureSpeeds : ℕ → List Entry → List ℕ
+figureSpeeds figure [] = []
+figureSpeeds figure (e ∷ l) = cond (isOf figure e) (e .vDiff ∷ figureSpeeds figure l) (figureSpeeds figure l)
+
+-- the speeds of "the entries of the greatest figure"
+abbrev pub greatestSpeeds : List Entry → List ℕ
+greatestSpeeds l = figureSpeeds (greatestFigure l) l
+
+-- the choice by cant deficiency: the greatest figure not above the train's is its own, or where no entry names that, "the greatest figure below its own"
+abbrev pub cantSpeeds : Train → List Entry → List ℕ
+cantSpeeds t l = greatestSpeeds (notAbove t l)
+
+-- "entries with Q_DIFF 1" or 2 that "name a category the train belongs to": their speeds
 abbrev pub namedSpeeds : Train → ℕ → List Entry → List ℕ
 namedSpeeds t q [] = []
-namedSpeeds t q (e ∷ l) = cond (eqb (e .qDiff) q && named t q (e .class)) (e .vDiff ∷ namedSpeeds t q l) (namedSpeeds t q l)
+namedSpeeds t q (e ∷ l) = cond (eqb (e .qDiff) q && belongs t (e .class)) (e .vDiff ∷ namedSpeeds t q l) (namedSpeeds t q l)
 
 -- "the lowest of this and all"
 abbrev pub lowest : ℕ → List ℕ → ℕ
@@ -71,7 +91,7 @@ instead v (w ∷ l) = lowest w l
 
 -- "begin with V_STATIC", then Q_DIFF 0 and 1 instead, then Q_DIFF 2 with it
 abbrev pub elementSpeed : Train → Element → ℕ
-elementSpeed t e = lowest (instead (instead (e .vStatic) (namedSpeeds t 0 (e .entries))) (namedSpeeds t 1 (e .entries))) (namedSpeeds t 2 (e .entries))
+elementSpeed t e = lowest (instead (instead (e .vStatic) (cantSpeeds t (e .entries))) (namedSpeeds t 1 (e .entries))) (namedSpeeds t 2 (e .entries))
 
 -- ---- "An element holds at location x"
 

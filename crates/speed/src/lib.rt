@@ -1,7 +1,7 @@
 // A train, and what of a segment's speed profile is meant for it.
 ghost use mathlib.Core.Path.{_≡_};
-ghost use Prim.Native.Nat.{min};
-ghost use Rattle.speed.specs.Speed.{validTrain, figure, belongs, named};
+ghost use Prim.Native.Nat.{_<_};
+ghost use Rattle.speed.specs.Speed.{validTrain, figure, belongs};
 use fields::tables;
 
 #[repr(C)]
@@ -40,32 +40,10 @@ pub fn valid(train: Train) -> bool
     is_figure(train.cant)
 }
 
-fn lesser(a: u32, b: u32) -> u32
-    ensures { λ r. ⌜ r ≡ min a b ⌝ }
-{
-    if a < b {
-        return a;
-    }
-    b
-}
-
-// Whether a train belongs to a category: its bit among the train's three, with no branch on it.
-fn belongs_to(train: Train, category: u32) -> bool
-    ensures { λ r. ⌜ r ≡ belongs train category ⌝ }
+// Whether a train belongs to a category: its bit among the train's three, with no branch on it. Of another number it says nothing.
+pub fn belongs_to(train: Train, category: u32) -> bool
+    ensures { λ r. ⌜ (category < 3 → r ≡ belongs train category) ⌝ }
 {
     let all = train.freight_p as u32 + 2 * train.freight_g as u32 + 4 * train.passenger as u32;
-    let bit = lesser(category, 2);
-    (all >> bit) % 2 == 1
-}
-
-// Whether an entry with this Q_DIFF and class names the train. Both ways are worked out and one is chosen: Q_DIFF goes up and down from entry to entry.
-pub fn names(train: Train, q_diff: u32, class: u32) -> bool
-    ensures { λ r. ⌜ r ≡ named train «q_diff» class ⌝ }
-{
-    let by_cant = class == train.cant;
-    let by_category = belongs_to(train, class);
-    if q_diff == OF_CANT {
-        return by_cant;
-    }
-    by_category
+    (all >> (category % 32)) % 2 == 1
 }

@@ -5,16 +5,18 @@ use crate::draft::{Draft, Kind, CANTS};
 use crate::journeys::{about_the_longest, any_points, journey};
 use crate::program::Train;
 use crate::random::Random;
-use crate::segments::{any_sizes, segment, Sizes};
+use crate::segments::{any_sizes, gathered, segment, Sizes};
 
 pub struct Case {
     pub name: &'static str,
     pub packet: Vec<u8>,
     pub sheet: Vec<u8>,
-    /// Whether both are accepted, and the packet is the sheet's.
-    pub whole: bool,
+    /// What both carry where both are accepted, and the packet is the sheet's.
+    pub whole: Option<Draft>,
     /// L_SP first, then the locations of changes and 0: speed questions are asked about them. A journey has 0 alone.
     pub marks: Vec<u32>,
+    /// The places of the cant deficiencies that entries name: trains are drawn about them.
+    pub named: Vec<u32>,
 }
 
 impl Case {
@@ -33,7 +35,8 @@ impl Case {
     pub fn of(name: &'static str, draft: &Draft, whole: bool) -> Case {
         let marked = |kind| draft.places(kind).into_iter().map(|place| draft.fields[place].value);
         let marks = marked(Kind::Length).chain(marked(Kind::Location)).chain([0]).collect();
-        Case { name, packet: draft.packet(), sheet: draft.sheet(), whole, marks }
+        let named = marked(Kind::Cant).collect();
+        Case { name, packet: draft.packet(), sheet: draft.sheet(), whole: whole.then(|| draft.clone()), marks, named }
     }
 }
 
@@ -44,7 +47,11 @@ fn any_draft(random: &mut Random) -> Draft {
         journey(random, &points)
     } else {
         let sizes = any_sizes(random);
-        segment(random, sizes)
+        if random.one_in(2) {
+            gathered(random, sizes)
+        } else {
+            segment(random, sizes)
+        }
     }
 }
 
@@ -120,7 +127,7 @@ fn noise(random: &mut Random) -> Case {
         sheet.iter_mut().for_each(|byte| *byte &= 0x7F);
         overwrite(&mut sheet, &[start[0], 0, 0, 0, 0, 0]);
     }
-    Case { name: "noise", packet, sheet, whole: false, marks: vec![0] }
+    Case { name: "noise", packet, sheet, whole: None, marks: vec![0], named: Vec::new() }
 }
 
 /// Writes bytes over the first ones, as far as there are any.
@@ -129,10 +136,10 @@ fn overwrite(bytes: &mut [u8], start: &[u8]) {
 }
 
 /// A train, one time in eight one that is not allowed.
-pub fn any_train(random: &mut Random) -> Train {
+pub fn any_train(random: &mut Random, named: &[u32]) -> Train {
     let mut train = Train {
         length: if random.one_in(2) { random.with_ends(1, 1_000) } else { random.with_ends(1, 150_000) },
-        cant: random.pick(&CANTS),
+        cant: any_cant(random, named),
         freight_p: random.one_in(2),
         freight_g: random.one_in(2),
         passenger: random.one_in(2),
@@ -143,6 +150,15 @@ pub fn any_train(random: &mut Random) -> Train {
         _ => {}
     }
     train
+}
+
+/// A cant deficiency: one that an entry names or one of the two above it, or any.
+fn any_cant(random: &mut Random, named: &[u32]) -> u32 {
+    if named.is_empty() || random.one_in(4) {
+        return random.pick(&CANTS);
+    }
+    let place = random.pick(named).saturating_add(random.pick(&[0, 1, 1, 2]));
+    CANTS[(place as usize).min(CANTS.len() - 1)]
 }
 
 /// A location: about a mark plus the train's length, about a mark, from 0 to L_SP or anywhere.

@@ -27,7 +27,7 @@ pub fn check(random: &mut Random, case: &Case, tally: &mut Tally) -> Result<(), 
     }
     let packet = round_trips(case)?;
     for _ in 0..SPEEDS {
-        let train = any_train(random);
+        let train = any_train(random, &case.named);
         let x = any_location(random, &case.marks, &train);
         speeds(random, case, packet.as_deref(), (train, x), tally)?;
     }
@@ -78,7 +78,7 @@ fn round_trips(case: &Case) -> Result<Option<Vec<u8>>, String> {
         let again = lowered.and_then(|sheet| converted(Archive::sheet_to_packet, &sheet, LARGEST_PACKET));
         require(again.as_ref() == Some(packet), "the lowered sheet does not make the sheet's packet")?;
     }
-    if case.whole {
+    if case.whole.is_some() {
         require(sheet.is_some(), "a whole packet is refused")?;
         require(packet.as_ref() == Some(&case.packet), "a whole sheet does not make its packet")?;
     }
@@ -102,8 +102,14 @@ fn speeds(
     tally: &mut Tally,
 ) -> Result<(), String> {
     let ask = |operation, input| Question { operation, input, train: train.clone(), x };
-    compare(random, &ask(Operation::SpeedFromPacket, &case.packet), 0, tally)?;
+    let by_packet = compare(random, &ask(Operation::SpeedFromPacket, &case.packet), 0, tally)?;
     let by_sheet = compare(random, &ask(Operation::SpeedFromSheet, &case.sheet), 0, tally)?;
+    if let Some(draft) = case.whole.as_ref().filter(|_| by_sheet.refusal == 0) {
+        let rest = draft.without_lower(train.cant);
+        let (packet, sheet) = (rest.packet(), rest.sheet());
+        tally.count_fall(Operation::SpeedFromPacket, by_packet != Second::speed_from_packet(&packet, &train, x));
+        tally.count_fall(Operation::SpeedFromSheet, by_sheet != Second::speed_from_sheet(&sheet, &train, x));
+    }
     if let Some(packet) = packet {
         let by_packet = Archive::speed_from_packet(packet, &train, x);
         let lowered = Answer { value: by_sheet.value / 5 * 5, ..by_sheet };

@@ -1,5 +1,6 @@
 //! The document's desk cases, each with the answer that the document gives; a refusal's place is counted by hand.
 
+use crate::desk_cants;
 use crate::desk_journeys;
 use crate::draft::{Draft, Kind};
 use crate::program::{Answer, Operation, Question, Train};
@@ -23,27 +24,33 @@ impl Desk {
 
 /// The figures in which the desk cases differ from the document's packet.
 #[derive(Clone, Copy)]
-struct Plan {
-    seconds: u32,
-    length: u32,
-    speed: u32,
-    front: u32,
+pub struct Plan {
+    pub seconds: u32,
+    pub length: u32,
+    pub speed: u32,
+    pub front: u32,
+    /// Of the start: Q_DIFF, the class in the packet, km/h.
+    pub entries: &'static [(u32, u32, u32)],
     /// A change to 140 km/h.
-    change: Option<u32>,
-    voltages: u32,
-    current: u32,
+    pub change: Option<u32>,
+    pub voltages: u32,
+    pub current: u32,
 }
 
-const DOCUMENT: Plan = Plan { seconds: 0, length: 1, speed: 80, front: 0, change: None, voltages: 0, current: 0 };
-const CHANGED: Plan = Plan { length: 1_000, speed: 100, change: Some(500), ..DOCUMENT };
-const TRAIN: Train = Train { length: 200, cant: 150, freight_p: true, freight_g: false, passenger: false };
+const DOCUMENT: Plan = Plan { seconds: 0, length: 1, speed: 80, front: 0, entries: &[], change: None, voltages: 0, current: 0 };
+pub const CHANGED: Plan = Plan { length: 1_000, speed: 100, change: Some(500), ..DOCUMENT };
+pub const TRAIN: Train = Train { length: 200, cant: 150, freight_p: true, freight_g: false, passenger: false };
 
 fn draft(plan: Plan) -> Draft {
     let mut draft = Draft::default();
     start(&mut draft, plan);
     draft.speed(plan.speed);
     draft.same(Kind::Front, 1, plan.front);
-    draft.same(Kind::Count, 5, 0);
+    draft.same(Kind::Count, 5, plan.entries.len() as u32);
+    for (q_diff, class, speed) in plan.entries {
+        draft.class(*q_diff, *class);
+        draft.speed(*speed);
+    }
     draft.same(Kind::Count, 5, plan.change.map_or(0, |_| 1));
     if let Some(location) = plan.change {
         draft.same(Kind::Location, 24, location);
@@ -120,8 +127,7 @@ fn full_element(draft: &mut Draft) {
     draft.same(Kind::Front, 1, 0);
     draft.same(Kind::Count, 5, 31);
     for _ in 0..31 {
-        draft.same(Kind::QDiff, 2, 0);
-        draft.cant(10);
+        draft.class(0, 10);
         draft.speed(600);
     }
 }
@@ -137,6 +143,7 @@ pub fn cases() -> Vec<Desk> {
     }
     questions(&mut cases);
     speeds(&mut cases);
+    desk_cants::speeds(&mut cases);
     cases.extend(desk_journeys::cases());
     cases
 }
@@ -268,18 +275,22 @@ fn questions(cases: &mut Vec<Desk>) {
 fn speeds(cases: &mut Vec<Desk>) {
     for (front, x, speed) in [(0, 499, 100), (0, 699, 100), (0, 700, 140), (1, 499, 100), (1, 500, 140), (1, 999, 140)] {
         let plan = Plan { front, ..CHANGED };
-        both_speeds(cases, "a change at 500", plan, (TRAIN, x), Answer::success(speed));
+        both_speeds(cases, "a change at 500", plan, (&TRAIN, x), Answer::success(speed));
     }
-    both_speeds(cases, "x at L_SP", CHANGED, (TRAIN, 1_000), Answer::refused(11, 0));
+    both_speeds(cases, "x at L_SP", CHANGED, (&TRAIN, 1_000), Answer::refused(11, 0));
     for (length, cant) in [(0, 150), (150_001, 150), (200, 151)] {
         let train = Train { length, cant, ..TRAIN };
-        both_speeds(cases, "a train that is not allowed", CHANGED, (train, 1_000), Answer::refused(10, 0));
+        both_speeds(cases, "a train that is not allowed", CHANGED, (&train, 1_000), Answer::refused(10, 0));
     }
 }
 
-fn both_speeds(cases: &mut Vec<Desk>, name: &'static str, plan: Plan, (train, x): (Train, u32), answer: Answer) {
+/// The answer from the sheet, and lowered to a multiple of 5 that from the packet.
+pub fn both_speeds(cases: &mut Vec<Desk>, name: &'static str, plan: Plan, (train, x): (&Train, u32), answer: Answer) {
     let draft = draft(plan);
-    for (operation, input) in [(Operation::SpeedFromPacket, draft.packet()), (Operation::SpeedFromSheet, draft.sheet())] {
+    let lowered = Answer { value: answer.value / 5 * 5, ..answer };
+    for (operation, input, answer) in
+        [(Operation::SpeedFromPacket, draft.packet(), lowered), (Operation::SpeedFromSheet, draft.sheet(), answer)]
+    {
         cases.push(Desk { name, operation, input, room: 0, train: train.clone(), x, answer });
     }
 }

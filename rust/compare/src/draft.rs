@@ -66,8 +66,44 @@ impl Draft {
         self.field(Kind::Speed, 7, speed / 5, speed);
     }
 
-    pub fn cant(&mut self, place: u32) {
-        self.field(Kind::Cant, 4, place, CANTS[place as usize]);
+    /// Q_DIFF and the class: with Q_DIFF 0 the place of a cant deficiency, else a category.
+    pub fn class(&mut self, q_diff: u32, class: u32) {
+        self.same(Kind::QDiff, 2, q_diff);
+        match q_diff {
+            0 => self.field(Kind::Cant, 4, class, CANTS[class as usize]),
+            _ => self.same(Kind::Category, 4, class),
+        }
+    }
+
+    /// Puts another Q_DIFF and class at the place of an entry's Q_DIFF.
+    pub fn replace_class(&mut self, place: usize, q_diff: u32, class: u32) {
+        let mut other = Draft::default();
+        other.class(q_diff, class);
+        self.fields.splice(place..place + 2, other.fields);
+    }
+
+    /// The same segment without the entries by cant deficiency that name less than so many millimetres.
+    pub fn without_lower(&self, cant: u32) -> Draft {
+        let mut kept = Draft::default();
+        let mut left = &self.fields[..];
+        while let Some((field, after)) = left.split_first() {
+            // an entry is Q_DIFF, the class and V_DIFF
+            let lower = field.kind == Kind::QDiff && after[0].kind == Kind::Cant && after[0].number < cant.into();
+            if lower {
+                kept.count_one_less();
+            } else {
+                kept.fields.push(field.clone());
+            }
+            left = if lower { &after[2..] } else { after };
+        }
+        kept
+    }
+
+    /// The count that stands last, which is that of the entries after it.
+    fn count_one_less(&mut self) {
+        let count = self.fields.iter_mut().rfind(|field| field.kind == Kind::Count).expect("entries are counted");
+        count.value -= 1;
+        count.number -= 1;
     }
 
     pub fn voltage(&mut self, place: u32, traction: u32) {

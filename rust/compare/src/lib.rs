@@ -5,6 +5,7 @@ pub mod case;
 pub mod check;
 pub mod damage;
 pub mod desk;
+pub mod desk_cants;
 pub mod desk_journeys;
 pub mod draft;
 pub mod journeys;

@@ -54,6 +54,21 @@ pub fn segment(random: &mut Random, sizes: Sizes) -> Draft {
     draft
 }
 
+/// A random segment with entries in every element; three of four name one of a few cant deficiencies that stand next to one another, so
+/// that trains fall from one to the next.
+pub fn gathered(random: &mut Random, sizes: Sizes) -> Draft {
+    let (least, most) = sizes.entries;
+    let mut draft = segment(random, Sizes { entries: (least.max(1), most.max(1)), ..sizes });
+    let lowest = random.place(CANTS.len()) as u32;
+    let highest = (lowest + random.between(0, 3)).min(CANTS.len() as u32 - 1);
+    for place in draft.places(Kind::QDiff) {
+        if !random.one_in(4) {
+            draft.replace_class(place, 0, random.between(lowest, highest));
+        }
+    }
+    draft
+}
+
 pub fn header(random: &mut Random, draft: &mut Draft, number: u32) {
     let digits = (0..8).fold(0, |number, _| number << 4 | random.pick(&[0, 1, 2, 3, 4, 5, 6, 7, 8, 9, 15]));
     draft.same(Kind::PacketNumber, 8, number);
@@ -109,12 +124,9 @@ fn element(random: &mut Random, draft: &mut Draft, (least, most): (u32, u32)) {
 }
 
 fn entry(random: &mut Random, draft: &mut Draft) {
-    let differs_by = random.between(0, 2);
-    draft.same(Kind::QDiff, 2, differs_by);
-    if differs_by == 0 {
-        draft.cant(random.place(CANTS.len()) as u32);
-    } else {
-        draft.same(Kind::Category, 4, random.between(0, 2));
+    match random.between(0, 2) {
+        0 => draft.class(0, random.place(CANTS.len()) as u32),
+        differs_by => draft.class(differs_by, random.between(0, 2)),
     }
     draft.speed(random.with_ends(0, 604));
 }

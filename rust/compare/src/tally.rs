@@ -1,4 +1,5 @@
-//! How often each operation gave each refusal and each success, and at how many places, for journeys apart from all else.
+//! How often each operation gave each refusal and each success, and at how many places, for journeys apart from all else; and how many
+//! speeds came by a lower cant deficiency than the train's.
 
 use crate::program::{Answer, Operation, Question, OPERATIONS, PLACED};
 use std::collections::BTreeSet;
@@ -13,6 +14,10 @@ struct Row {
     counts: [u64; ANSWERS],
     /// The places other than 0 of each refusal.
     places: [BTreeSet<u32>; ANSWERS],
+    /// Speeds of random whole segments.
+    whole: u64,
+    /// Those that would be others without the entries of lower cant deficiencies than the train's.
+    fallen: u64,
 }
 
 #[derive(Default)]
@@ -30,7 +35,15 @@ impl Tally {
         }
     }
 
-    /// The answers that an operation can give and that were never met, or never at a place other than 0, each with its row.
+    /// A speed of a random whole segment, and whether it would be another without the entries of lower cant deficiencies than the train's.
+    pub fn count_fall(&mut self, operation: Operation, fallen: bool) {
+        let row = &mut self.rows[0][operation as usize];
+        row.whole += 1;
+        row.fallen += u64::from(fallen);
+    }
+
+    /// The answers that an operation can give and that were never met, or never at a place other than 0, each with its row; and
+    /// the speed questions of which no random one came by a lower cant deficiency.
     pub fn missing(&self) -> Vec<String> {
         let mut missing = Vec::new();
         for (operation, journey) in rows() {
@@ -43,6 +56,10 @@ impl Tally {
                 }
             }
         }
+        let fallen = |operation: &Operation| self.row(*operation, false).fallen > 0;
+        for operation in SPEED_OPERATIONS.into_iter().filter(|operation| !fallen(operation)) {
+            missing.push(format!("{operation:?}: no random speed by a lower cant deficiency than the train's"));
+        }
         missing
     }
 
@@ -50,6 +67,8 @@ impl Tally {
         &self.rows[usize::from(journey)][operation as usize]
     }
 }
+
+const SPEED_OPERATIONS: [Operation; 2] = [Operation::SpeedFromPacket, Operation::SpeedFromSheet];
 
 /// Each operation, asked about a journey or not.
 fn rows() -> impl Iterator<Item = (Operation, bool)> {
@@ -77,6 +96,9 @@ impl fmt::Display for Tally {
             let places = &self.row(operation, journey).places;
             PLACED.iter().try_for_each(|refusal| write!(f, "{:>8}", places[*refusal as usize].len()))?;
         }
-        Ok(())
+        SPEED_OPERATIONS.into_iter().try_for_each(|operation| {
+            let Row { whole, fallen, .. } = self.row(operation, false);
+            write!(f, "\n{operation:?}: {fallen} of {whole} random speeds by a lower cant deficiency than the train's")
+        })
     }
 }

@@ -3,7 +3,7 @@
 /// A segment's packet number on this link.
 pub const SEGMENT_NUMBER: u32 = 6;
 
-/// The cant deficiencies in millimetres; NC_CDDIFF is the place in this list.
+/// The cant deficiencies in millimetres, rising; NC_CDDIFF is the place in this list.
 pub const CANTS: [u32; 11] = [80, 100, 130, 150, 165, 180, 210, 225, 245, 275, 300];
 
 /// The voltages; M_VOLTAGE is the place in this list.
@@ -58,6 +58,7 @@ pub struct Entry {
 }
 
 /// Q_DIFF and the class that it gives the meaning of.
+#[derive(PartialEq, Eq)]
 pub enum Class {
     /// Q_DIFF 0: a cant deficiency in millimetres.
     Cant(u32),

@@ -1,7 +1,7 @@
 //! The permitted speed: the lowest speed of the elements that hold at a location.
 
 use crate::refusal::{Refusal, Refused};
-use crate::segment::{Class, Element, Entry, Segment, CANTS};
+use crate::segment::{Class, Element, Segment, CANTS};
 
 #[derive(Clone, Debug)]
 pub struct Train {
@@ -46,13 +46,20 @@ fn holds(element: &Element, end: u32, train: &Train, x: u32) -> bool {
 
 /// An element's speed for a train.
 fn speed_of(element: &Element, train: &Train) -> u32 {
-    let lowest = |names: &dyn Fn(&Class) -> bool| {
-        let named = element.entries.iter().filter(|entry: &&Entry| names(&entry.class));
-        named.map(|entry| entry.speed).min()
-    };
-    let by_cant = lowest(&|class| matches!(class, Class::Cant(cant) if *cant == train.cant));
-    let instead = lowest(&|class| matches!(class, Class::Instead(category) if train.belongs(*category)));
-    let lower = lowest(&|class| matches!(class, Class::Lower(category) if train.belongs(*category)));
+    let by_cant = figure_for(element, train.cant).and_then(|figure| lowest(element, |class| *class == Class::Cant(figure)));
+    let instead = lowest(element, |class| matches!(class, Class::Instead(category) if train.belongs(*category)));
+    let lower = lowest(element, |class| matches!(class, Class::Lower(category) if train.belongs(*category)));
     let speed = instead.or(by_cant).unwrap_or(element.speed);
     lower.map_or(speed, |lower| lower.min(speed))
+}
+
+/// The lowest speed of an element's entries of some classes.
+fn lowest(element: &Element, named: impl Fn(&Class) -> bool) -> Option<u32> {
+    element.entries.iter().filter(|entry| named(&entry.class)).map(|entry| entry.speed).min()
+}
+
+/// The cant deficiency whose entries count for a train: its own where an entry names it, else the next lower one that is named.
+fn figure_for(element: &Element, own: u32) -> Option<u32> {
+    let downwards = CANTS.iter().rev().skip_while(|figure| **figure > own);
+    downwards.copied().find(|figure| element.entries.iter().any(|entry| entry.class == Class::Cant(*figure)))
 }

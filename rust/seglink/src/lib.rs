@@ -2,6 +2,10 @@
 //!
 //! Packets and sheets are a segment's (packet number 6) or a journey's (4). The conversions take both, the questions a segment's alone.
 //!
+//! An element of the speed profile gives a train the lowest speed of its entries by cant deficiency (Q_DIFF 0): of those that name the
+//! train's own figure, or else the greatest figure below it; V_STATIC where there are none. The lowest entry of the train's categories
+//! with Q_DIFF 1 replaces that speed, those with Q_DIFF 2 lower it. The permitted speed is the lowest of the elements that hold.
+//!
 //! Any bytes may be handed over. An operation answers, or gives the one [`Refusal`] that the build definition names, with its place,
 //! and then a lent room keeps every byte it had.
 //!

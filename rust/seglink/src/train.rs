@@ -7,6 +7,8 @@ pub struct Train {
     /// Length in cm, 1 to 150,000.
     pub length: u32,
     /// Cant deficiency in mm: 80, 100, 130, 150, 165, 180, 210, 225, 245, 275 or 300.
+    ///
+    /// Where no entry of an element names it, those of the greatest figure below it count, and V_STATIC where there are none.
     pub cant: u32,
     /// Whether it is freight in P position.
     pub freight_p: bool,

@@ -1,9 +1,8 @@
 -- `ask_packet::element` meets its contract.
 use mathlib.Core.Path.{refl}
-use native.Mathlib.Omega.{arith}
 use denote.Ref.{now}
 use lib.Dec.{lit≤, lit<}
-use Rattle.ask_packet.proofs.Fields.{element-inside, element-at, entries-passed}
+use Rattle.ask_packet.proofs.Fields.{element-inside, element-at, static-small, entries-passed}
 use Rattle.elements.proofs.Reading.{element-read}
 use Rattle.ask_packet.specs.Asking.{Reads}
 use borrow.Author.Needs.{needs}
@@ -38,7 +37,7 @@ returns c =
     let a = c .before .before .args in
     let s = now (a .s) in
     let e = element-at s (c .before .before .pre) (c .read-window .ensures) in
-    (element-read (Reads s) (e .first) (e .second) (e .third) (entries-passed s _ _ _ refl) (omega arith) (a .start), refl)
+    (element-read (Reads s) (e .first) (e .second) (e .third) (entries-passed s _ _ _ refl) (static-small s (a .at) (c .read-window .ensures)) (a .start), refl)
 
 pub element-spec : {M : Type 1} → statement M
 element-spec =

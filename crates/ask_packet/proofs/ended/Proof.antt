@@ -50,12 +50,12 @@ loop-again : tie.Need-loop-again Inv-loop μ-loop
 loop-again c = entered-next (Reads (now (c .before .before .before .before .before .before .before .before .args .s))) (c .before .before .loop-test .taken) (c .before .before .before .loop .inv) (c .entry .ensures)
 
 lowered-requires : tie.Need-lowered-requires Inv-loop μ-loop
-lowered-requires c κs = tt
+lowered-requires c κs = c .before .before .before .before .before .before .pre .below
 
 returns-2 : tie.Need-returns-2 Inv-loop μ-loop
 returns-2 c =
     let b = c .before .before .before .before .before .before .before in
-    ended-read (Reads (now (b .args .s))) (sym (c .before .before .before .before .before .holds .ensures) ∙ not-false _ (c .before .before .before .before .if1 .left)) (c .before .before .loop .inv) (omega (arith, c .before .loop-test .left)) (c .lowered .ensures) (b .pre .below) (omega arith)
+    ended-read (Reads (now (b .args .s))) (sym (c .before .before .before .before .before .holds .ensures) ∙ not-false _ (c .before .before .before .before .if1 .left)) (c .before .before .loop .inv) (omega (arith, c .before .loop-test .left)) (c .lowered .ensures) (omega arith)
 
 pub ended-spec : {M : Type 1} → statement M
 ended-spec =

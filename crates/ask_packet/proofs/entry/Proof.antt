@@ -1,7 +1,7 @@
 -- `ask_packet::entry` meets its contract.
 use denote.Ref.{now}
 use lib.Dec.{lit≤, lit<}
-use Rattle.ask_packet.proofs.Fields.{entry-inside, entry-at}
+use Rattle.ask_packet.proofs.Fields.{entry-inside, entry-at, entry-kept}
 use Rattle.elements.proofs.Reading.{entry-read}
 use Rattle.ask_packet.specs.Asking.{Reads}
 use borrow.Author.Needs.{needs}
@@ -27,7 +27,10 @@ mul-with : tie.Need-mul-with
 mul-with c = search needs
 
 with-requires : tie.Need-with-requires
-with-requires c κs = search needs
+with-requires c κs =
+    let a = c .before .before .before .before .args in
+    let h = c .before .before .before .before .pre .1 in
+    entry-kept (now (a .s)) h (c .before .read-window .ensures) (c .class-number .ensures)
 
 returns : tie.Need-returns
 returns c =

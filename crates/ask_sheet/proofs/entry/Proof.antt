@@ -2,7 +2,7 @@
 use mathlib.Core.Path.{refl}
 use denote.Ref.{now}
 use Rattle.kinds.specs.Kinds.{qDiff}
-use Rattle.ask_sheet.proofs.Parts.{same-read, class-read, speed-read, entry-small}
+use Rattle.ask_sheet.proofs.Parts.{same-read, class-read, speed-read, entry-kept}
 use Rattle.elements.proofs.Reading.{entry-read}
 use Rattle.ask_sheet.specs.Asking.{Reads}
 use borrow.Author.Needs.{needs}
@@ -21,7 +21,7 @@ number-requires-3 c κs = search needs
 with-requires : tie.Need-with-requires
 with-requires c κs =
     let b = c .before .before .before .before in
-    entry-small (now (b .args .s)) (c .before .before .number .ensures) (c .before .number2 .ensures) (c .number3 .ensures) (b .pre)
+    entry-kept (now (b .args .s)) (c .before .before .number .ensures) (c .before .number2 .ensures) (c .number3 .ensures) (b .pre)
 
 returns : tie.Need-returns
 returns c =

@@ -1,4 +1,6 @@
 -- `speed::belongs_to` meets its contract.
+use mathlib.Core.Path.{refl}
+use Prim.Native.Nat.{_%_}
 use native.Mathlib.Omega.{arith}
 use borrow.Author.Needs.{needs}
 use Rattle.speed.proofs.Laws.{byte-most, belongs-bit}
@@ -26,14 +28,11 @@ mul-all-2 c = let t = c .before .before .before .args .train in omega (arith, by
 add-all-2 : tie.Need-add-all-2
 add-all-2 c = let t = c .before .before .before .args .train in omega (arith, byte-most (t .«freight_p»), byte-most (t .«freight_g»), byte-most (t .passenger))
 
-lesser-requires : tie.Need-lesser-requires
-lesser-requires c κs = search needs
-
 shr-result : tie.Need-shr-result
 shr-result c = search needs
 
 returns : tie.Need-returns
-returns c = let a = c .before .before .before .before .args in belongs-bit (a .train) (a .category) _ (c .lesser .ensures)
+returns c = let a = c .before .before .before .args in belongs-bit (a .train) (a .category) (a .category % 32) refl
 
 pub belongs-to-spec : {M : Type 1} → statement M
 belongs-to-spec =
@@ -46,6 +45,5 @@ belongs-to-spec =
     cast-all-3
     mul-all-2
     add-all-2
-    lesser-requires
     shr-result
     returns)

@@ -34,12 +34,53 @@ fn the_front_alone_counts_where_q_front_is_1() {
 fn each_membership_and_the_cant_reach_their_own_entry() {
     let entries = [(1, 0, 50), (1, 1, 60), (1, 2, 70), (0, 1, 110)];
     let fields = segment(1000, 0, &element(100, 0, &entries), &[]);
-    assert_eq!(permitted(&fields, SHUTTLE, 0), 100);
+    assert_eq!(permitted(&fields, Train { cant: 80, ..SHUTTLE }, 0), 100);
     assert_eq!(permitted(&fields, Train { cant: 100, ..SHUTTLE }, 0), 110);
     assert_eq!(permitted(&fields, Train { freight_p: true, ..SHUTTLE }, 0), 50);
     assert_eq!(permitted(&fields, Train { freight_g: true, ..SHUTTLE }, 0), 60);
     assert_eq!(permitted(&fields, Train { passenger: true, ..SHUTTLE }, 0), 70);
     assert_eq!(permitted(&fields, Train { freight_g: true, passenger: true, ..SHUTTLE }, 0), 60);
+}
+
+/// The speeds that a V_STATIC of 100 and entries give trains of no category, by cant deficiency.
+fn by_cant(entries: &[(u32, u32, u32)], speeds: &[(u32, u32)]) {
+    let fields = segment(1000, 0, &element(100, 0, entries), &[]);
+    for &(cant, speed) in speeds {
+        assert_eq!(permitted(&fields, Train { cant, ..SHUTTLE }, 0), speed, "{cant} mm, {entries:?}");
+    }
+}
+
+#[test]
+fn cant_deficiency_falls_to_the_next_lower_figure() {
+    // entries for 100 and 165
+    by_cant(&[(0, 1, 110), (0, 4, 130)], &[(80, 100), (100, 110), (130, 110), (150, 110), (165, 130), (300, 130)]);
+    by_cant(&[(0, 4, 60), (0, 1, 130)], &[(80, 100), (100, 130), (130, 130), (150, 130), (165, 60), (300, 60)]);
+}
+
+#[test]
+fn the_own_figure_comes_before_lower_ones() {
+    by_cant(&[(0, 2, 60), (0, 3, 120), (0, 0, 40)], &[(150, 120)]);
+    by_cant(&[(0, 2, 140), (0, 3, 70), (0, 0, 160)], &[(150, 70)]);
+}
+
+#[test]
+fn of_lower_figures_the_greatest_counts_and_of_its_entries_the_lowest() {
+    by_cant(&[(0, 0, 60), (0, 2, 120), (0, 2, 110), (0, 2, 130)], &[(150, 110), (100, 60)]);
+    by_cant(&[(0, 0, 120), (0, 2, 60), (0, 2, 75)], &[(150, 60), (100, 120)]);
+}
+
+#[test]
+fn v_static_stays_where_all_figures_are_above() {
+    by_cant(&[(0, 4, 130), (0, 10, 40)], &[(80, 100), (150, 100), (275, 130)]);
+}
+
+#[test]
+fn categories_replace_and_lower_a_lower_figure_s_speed() {
+    let fields = segment(1000, 0, &element(100, 0, &[(0, 1, 110), (1, 1, 140), (2, 2, 105)]), &[]);
+    assert_eq!(permitted(&fields, Train { freight_p: true, ..SHUTTLE }, 0), 110);
+    assert_eq!(permitted(&fields, Train { freight_g: true, ..SHUTTLE }, 0), 140);
+    assert_eq!(permitted(&fields, Train { passenger: true, ..SHUTTLE }, 0), 105);
+    assert_eq!(permitted(&fields, Train { freight_g: true, passenger: true, ..SHUTTLE }, 0), 105);
 }
 
 #[test]

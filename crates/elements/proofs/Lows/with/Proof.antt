@@ -5,51 +5,55 @@ use borrow.Author.Needs.{needs}
 use Rattle.elements.proofs.Lows.with.Statement.{statement}
 use Rattle.elements.proofs.Lows.with.Tie as tie
 
-names-requires : tie.Need-names-requires
-names-requires c κs = search needs
+distance-requires : tie.Need-distance-requires
+distance-requires c κs = search needs
+
+mul-far : tie.Need-mul-far
+mul-far c = search needs
+
+add-nearer : tie.Need-add-nearer
+add-nearer c = search needs
+
+nearer-requires : tie.Need-nearer-requires
+nearer-requires c κs = search needs
+
+belongs-to-requires : tie.Need-belongs-to-requires
+belongs-to-requires c κs = search needs
 
 counted-requires : tie.Need-counted-requires
 counted-requires c κs = search needs
 
-counted-requires-2 : tie.Need-counted-requires-2
-counted-requires-2 c κs = search needs
-
 lower-requires : tie.Need-lower-requires
 lower-requires c κs = search needs
 
-counted-requires-3 : tie.Need-counted-requires-3
-counted-requires-3 c κs = search needs
+counted-requires-2 : tie.Need-counted-requires-2
+counted-requires-2 c κs = search needs
 
 lower-requires-2 : tie.Need-lower-requires-2
 lower-requires-2 c κs = search needs
 
-counted-requires-4 : tie.Need-counted-requires-4
-counted-requires-4 c κs = search needs
-
-lower-requires-3 : tie.Need-lower-requires-3
-lower-requires-3 c κs = search needs
-
 returns : tie.Need-returns
 returns c =
-    let a = c .before .before .before .before .before .before .before .before .args in
+    let b = c .before .before .before .before .before .before .before in
+    let a = b .args in
     let t = a .train in
-    let n = c .before .before .before .before .before .before .counted .ensures in
-    let w = rw (c .before .before .before .before .before .before .before .names .ensures) at n in
-    entry-more t (a .self) _ (a .q-diff) (a .class) (a .v) (record { cant = omega arith; replacing = omega arith; lowering = omega arith }) (c .before .before .before .before .before .before .before .before .pre)
-    (low-with t 0 (a .q-diff) (a .class) (a .v) (a .self .cant) w (c .before .before .before .before .before .counted2 .ensures) (c .before .before .before .before .lower .ensures))
-    (low-with t 1 (a .q-diff) (a .class) (a .v) (a .self .replacing) w (c .before .before .before .counted3 .ensures) (c .before .before .lower2 .ensures))
-    (low-with t 2 (a .q-diff) (a .class) (a .v) (a .self .lowering) w (c .before .counted4 .ensures) (c .lower3 .ensures))
+    let m = c .before .before .before .before .belongs-to .ensures in
+    entry-more t (a .self) _ (a .q-diff) (a .class) (a .v) (b .pre) (omega arith) (omega arith)
+    (rw (c .before .before .before .before .before .before .distance .ensures) at (c .before .before .before .before .before .nearer .ensures))
+    (low-with t 1 (a .q-diff) (a .class) (a .v) (a .self .replacing) (omega arith) (b .pre) m (c .before .before .before .counted .ensures) (c .before .before .lower .ensures))
+    (low-with t 2 (a .q-diff) (a .class) (a .v) (a .self .lowering) (omega arith) (b .pre) m (c .before .counted2 .ensures) (c .lower2 .ensures))
 
 pub with-spec : {M : Type 1} → statement M
 with-spec =
     tie.close
     (tie.spec
-    names-requires
+    distance-requires
+    mul-far
+    add-nearer
+    nearer-requires
+    belongs-to-requires
     counted-requires
-    counted-requires-2
     lower-requires
-    counted-requires-3
+    counted-requires-2
     lower-requires-2
-    counted-requires-4
-    lower-requires-3
     returns)

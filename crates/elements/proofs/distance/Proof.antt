@@ -1,0 +1,27 @@
+-- `elements::distance` meets its contract.
+use mathlib.Core.Path.{refl}
+use borrow.Author.Needs.{needs}
+use Rattle.elements.proofs.distance.Statement.{statement}
+use Rattle.elements.proofs.distance.Tie as tie
+
+cast-result : tie.Need-cast-result
+cast-result c = search needs
+
+add-result : tie.Need-add-result
+add-result c = search needs
+
+mul-result : tie.Need-mul-result
+mul-result c = search needs
+
+add-result-2 : tie.Need-add-result-2
+add-result-2 c = search needs
+
+sub-result : tie.Need-sub-result
+sub-result c = search needs
+
+returns : tie.Need-returns
+returns c = refl
+
+pub distance-spec : {M : Type 1} → statement M
+distance-spec =
+    tie.close (tie.spec cast-result add-result mul-result add-result-2 sub-result returns)
