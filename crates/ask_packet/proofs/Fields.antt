@@ -57,7 +57,7 @@ module _ (s : List ℕ) where
     taken-allowed : k .allowed (fieldAt s at (k .width)) ≡ true
     taken-allowed =
         by-cases (k .allowed (fieldAt s at (k .width))) (λ d. d) λ d.
-        let q : Taken.Refused (k .refusal) ≡ takenAt (valueInPacket k (fieldAt s at (k .width))) (at + k .width) = rw d in
+        let q : Taken.Refused (k .refusal (fieldAt s at (k .width))) ≡ takenAt (valueInPacket k (fieldAt s at (k .width))) (at + k .width) = rw d in
         refused-apart (q ∙ bits-whole k s at (endOf s) taken-whole)
 
     taken-item : Taken.Is i to ≡ Taken.Is (item k at) (at + k .width)

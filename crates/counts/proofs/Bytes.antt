@@ -86,9 +86,9 @@ module _ (v : ℕ) where
   pub current-in : {r : ℕ} → (v ≡ 1023 → ⊥) → v ≤ 1000 → r ≡ length (groupsIn (v * 10 + 1)) → r ≡ bytesOf (valueInPacket mCurrent v)
   current-in e h q = bytes-some mCurrent v (rw (le-leb v 1000 h)) (rw (ne-eqb v 1023 e) q)
 
-pub class-refusal : (q : ℕ) → class q .refusal ≡ 4
-class-refusal zero = refl
-class-refusal (suc q) = refl
+pub class-refusal : (q v : ℕ) → class q .refusal v ≡ 4
+class-refusal zero v = refl
+class-refusal (suc q) v = refl
 
 pub speed-bytes : (v : ℕ) → v < 121 → cond (ltb v 26) 1 2 ≡ length (groupsIn (v * 5))
 unfolding groupsIn

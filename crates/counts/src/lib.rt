@@ -1,6 +1,6 @@
 // How many bytes a packet's value has in the sheet, by the kind of its field: 0 where the value is refused.
 ghost use mathlib.Core.Path.{_≡_};
-ghost use Prim.Native.Nat.{_<_};
+ghost use Prim.Native.Nat.{ℕ, _<_};
 ghost use lib.ListN.{length};
 ghost use Rattle.numbers.specs.Numbers.{groupsIn};
 ghost use Rattle.kinds.specs.Kinds.{digits, nidOperational, speed, ncCdDiff, class, dLocation, mVoltage, mostTraction, nidCTraction, mCurrent};
@@ -188,9 +188,9 @@ pub fn by(rule: Rule, v: u32) -> u32
     }
 }
 
-// The refusal of a value that is not allowed.
+// The refusal of a value that is not allowed, whatever it is.
 pub fn refusal(rule: Rule) -> u32
-    ensures { λ r. ⌜ r ≡ meaning rule .refusal ⌝ }
+    ensures { λ r. ⌜ ((v : ℕ) → r ≡ meaning rule .refusal v) ⌝ }
 {
     match rule {
         Rule::Range {

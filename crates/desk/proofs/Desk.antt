@@ -2,13 +2,14 @@
 -- Assumes nothing.
 use mathlib.Core.Path.{_≡_, refl}
 use mathlib.Core.List.{map}
+use Rattle.format.specs.Format.{times}
 use Rattle.bits.specs.Bits.{fieldAt}
 use Rattle.numbers.specs.Numbers.{numberOf, groupsIn}
 use Rattle.kinds.specs.Kinds.{digits}
 use Rattle.kinds.specs.Tables.{place}
 use Rattle.segment.specs.Segment.{entries, changes, lists, body, fields, sheetFields}
 use Rattle.segment.specs.Judgement.{fromPacket, fromSheet, toPacket, toSheet}
-use Rattle.journey.specs.Journey.{timingPoints, journeySegments, journeyBody}
+use Rattle.journey.specs.Journey.{journeyBody}
 use Rattle.link.specs.Link.{linkFields, fromEitherPacket, fromEitherSheet, toEitherPacket, toEitherSheet}
 use Rattle.convert.specs.Convert.{packetToSheet, sheetToPacket}
 use Rattle.question.specs.Question.{speedFromPacket, speedFromSheet}
@@ -16,5 +17,5 @@ use Rattle.altitude.specs.Altitude.{altitudeOf}
 use Rattle.desk.specs.Desk.{desk}
 
 pub desk-holds : map (λ c. c .said) desk ≡ map (λ c. c .due) desk
-unfolding fieldAt numberOf groupsIn digits place entries changes lists body fields sheetFields fromPacket fromSheet toPacket toSheet timingPoints journeySegments journeyBody linkFields fromEitherPacket fromEitherSheet toEitherPacket toEitherSheet packetToSheet sheetToPacket speedFromPacket speedFromSheet altitudeOf
+unfolding fieldAt numberOf groupsIn digits place entries changes lists body fields sheetFields fromPacket fromSheet toPacket toSheet times journeyBody linkFields fromEitherPacket fromEitherSheet toEitherPacket toEitherSheet packetToSheet sheetToPacket speedFromPacket speedFromSheet altitudeOf
 desk-holds = refl

@@ -58,7 +58,7 @@ when-some false a v e f = absurd (let z : _≡_ {A = ℕ} 0 1 = cc in omega arit
 
 -- ---- the same number in both
 
-pub same-lawful : (width largest refusal : ℕ) (ok : ℕ → Bool) → Narrow width → largest < 2 ^ width → ((v : ℕ) → ok v ≡ true → v ≤ largest)
+pub same-lawful : (width largest : ℕ) (refusal : ℕ → ℕ) (ok : ℕ → Bool) → Narrow width → largest < 2 ^ width → ((v : ℕ) → ok v ≡ true → v ≤ largest)
     → LawfulKind (same width largest refusal ok)
 same-lawful width largest refusal ok n h most = record {
   narrow = n;
@@ -73,18 +73,18 @@ same-lawful width largest refusal ok n h most = record {
 
 pub range-lawful : (width least largest refusal : ℕ) → Narrow width → largest < 2 ^ width → LawfulKind (range width least largest refusal)
 range-lawful width least largest refusal n h =
-    same-lawful width largest refusal (λ v. leb least v && leb v largest) n h
+    same-lawful width largest (λ _. refusal) (λ v. leb least v && leb v largest) n h
     λ v e. leb-true v largest (and-right (leb least v) (leb v largest) e)
 
 pub upTo-lawful : (width largest : ℕ) → Narrow width → largest < 2 ^ width → LawfulKind (upTo width largest)
 upTo-lawful width largest h m = range-lawful width 0 largest 4 h m
 
 pub operational-lawful : LawfulKind nidOperational
-operational-lawful = same-lawful 32 4294967295 4 (nidOperational .allowed) (narrow tt) (lit< tt) λ v e. omega (arith, digits-small 8 v e)
+operational-lawful = same-lawful 32 4294967295 (λ _. 4) (nidOperational .allowed) (narrow tt) (lit< tt) λ v e. omega (arith, digits-small 8 v e)
 
 pub location-lawful : (last lsp : ℕ) → lsp < 2 ^ 24 → LawfulKind (dLocation last lsp)
 location-lawful last lsp h =
-    same-lawful 24 16777215 5 (dLocation last lsp .allowed) (narrow tt) (lit< tt)
+    same-lawful 24 16777215 (λ _. 5) (dLocation last lsp .allowed) (narrow tt) (lit< tt)
     λ x e. omega (arith, ltb-true x lsp (and-right (ltb last x) (ltb x lsp) e))
 
 most-traction : (u : ℕ) → mostTraction u < 2 ^ 10

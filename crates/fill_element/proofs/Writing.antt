@@ -4,7 +4,7 @@ use mathlib.Core.Path.{_≡_, refl, sym, ap, ap₂, _∙_}
 use mathlib.Core.Bool.{Bool, true, false}
 use mathlib.Core.List.{List, [], _++_, append-assoc, append-nil}
 use mathlib.Core.Option.{Option, none, some}
-use Prim.Native.Nat.{ℕ, _+_, _*_, _^_, _≤_, _<_}
+use Prim.Native.Nat.{ℕ, _+_, _*_, _-_, _^_, _≤_, _<_}
 use native.Mathlib.Nat.{mod-eq-of-lt}
 use native.Mathlib.Omega.{arith}
 use lib.ListN.{length, drop, length-append, length-drop}
@@ -23,7 +23,7 @@ use Rattle.kinds.specs.Kind.{Kind, when}
 use Rattle.kinds.specs.Judged.{numberInSheet}
 use Rattle.fields.proofs.Lawful.{LawfulKind, value-small}
 use Rattle.lowering.specs.Lowered.{valueOr, lowered}
-use Rattle.format.specs.Format.{Format, field, Read, accepted, refused, read, write, answerOf}
+use Rattle.format.specs.Format.{Format, field, times, Read, accepted, refused, read, write, answerOf}
 use Rattle.format.specs.Media.{packet, sheet}
 use Rattle.format.specs.Places.{Is, Refused, takenAt, numberTaken}
 use Rattle.format.specs.Pass.{made}
@@ -33,7 +33,7 @@ use Rattle.format.proofs.Media.{bytes-drop}
 use Rattle.format.proofs.Places.{number-found, number-none}
 use Rattle.format.proofs.Passing.{pass-read, sheet-seen}
 use Rattle.format.proofs.Tasks.{made-record}
-use Rattle.format.proofs.Ways.{took-is, took-off, left-all, left-as, left-none, left-on, left-value, ahead-first, ahead-left, ahead-never}
+use Rattle.format.proofs.Ways.{took-is, took-off, left-all, left-as, left-none, left-on, left-value, times-more, times-none, ahead-first, ahead-left, ahead-never}
 use Rattle.fill_element.specs.declared.Spot.{Spot}
 use Rattle.fill_element.specs.Writing.{writer, Few, Ready, Puts, Wrote}
 
@@ -80,7 +80,7 @@ module _ (k : Kind) (part : ℕ → Format → Format) (s : List ℕ) (ok : Byte
   lower-some b e = go (k .lower b) refl
     where
       go : (o : Option ℕ) → k .lower b ≡ o → o ≡ some (valueOr (2 ^ k .width) o)
-      go none q = let z : Refused (k .refusal) ≡ takenAt (numberInSheet k b) (at + length (groupsIn b)) = rw q in never (z ∙ number-found k s at e)
+      go none q = let z : Refused (k .refusal b) ≡ takenAt (numberInSheet k b) (at + length (groupsIn b)) = rw q in never (z ∙ number-found k s at e)
       go (some u) q = refl
 
   -- what is accepted has a number here
@@ -192,6 +192,21 @@ module _ {s room : List ℕ} {u : Spot} where
 
       pub along-on : {end : List ℕ} {w : Spot} → Wrote q s mid v end w → Along p r s room u end w
       along-on o = record { bits = l .bits ++ o .bits; gone = gone-over q r (l .gone) (o .over); puts = puts-on (l .puts) (o .puts) }
+
+  -- a part so many times: one more, and none left
+  module _ {p : Format → Format} (part : Format → Format) {n : ℕ} {mid : List ℕ} {v : Spot} (l : Along p (times part n) s room u mid v) where
+    module _ (some : 0 < n) where
+      more : Along p (λ f. part (times part (n - 1) f)) s room u mid v
+      more = along-as (λ f. part (times part (n - 1) f)) (times-more part n some) l
+
+      pub times-next : Ready p s room u → Ready part s mid v
+      times-next h = along-next part (times part (n - 1)) more h
+
+      pub times-on : {end : List ℕ} {w : Spot} → Wrote part s mid v end w → Along p (times part (n - 1)) s room u end w
+      times-on o = along-on part (times part (n - 1)) more o
+
+    pub times-end : n ≤ 0 → Wrote p s room u mid v
+    times-end h = along-none (along-as (λ f. f) (times-none part n h) l)
 
   -- a part that is put in one piece
   pub wrote-once : {p : Format → Format} {to : ℕ} {b : List Bool} → Gone s p (λ f. f) (u .from) to b → {w v : ℕ} → b ≡ bitsOf w v → {end : List ℕ} {r : ℕ}

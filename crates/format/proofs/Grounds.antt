@@ -189,7 +189,7 @@ bits-stops k s r ok e =
     by-cases (k .allowed v)
     (λ a. let f : Is (record { sheet = k .raise v; packet = v }) ≡ Refused r = rw a at p in absurd (let z : _≡_ {A = ℕ} 0 1 = cc in omega arith))
     λ a.
-    let f : Refused (k .refusal) ≡ Refused r = rw a at p in
+    let f : Refused (k .refusal v) ≡ Refused r = rw a at p in
     let n : length (take w s) ≡ w = length-take-le w s (ltb-false (length s) w d) in
     let fits : v < 2 ^ w = rw n at (number-small (take w s)) in
     let bits : bitsOf w v ≡ take w s = rw n at (bits-number (take w s)) in
@@ -215,7 +215,7 @@ bits-faulting = record { stops = bits-stops; faults = bits-faults }
 
 -- groups
 
-lowered-none : {C : Type 0} (k : Kind) (a : ℕ) (o : Option ℕ) (r : ℕ) → fieldWith k a o ≡ Refused r → (o ≡ none → r ≡ k .refusal → C) → C
+lowered-none : {C : Type 0} (k : Kind) (a : ℕ) (o : Option ℕ) (r : ℕ) → fieldWith k a o ≡ Refused r → (o ≡ none → r ≡ k .refusal a → C) → C
 lowered-none k a none r e f = f refl (cc)
 lowered-none k a (some v) r e f = absurd (let z : _≡_ {A = ℕ} 0 1 = cc in omega arith)
 

@@ -43,7 +43,7 @@ from-packet : {C : Type 0} (k : Kind) (v : ℕ) (i : Item) → valueInPacket k v
 from-packet k v i e f =
     by-cases (k .allowed v)
     (λ a. let h : Is (record { sheet = k .raise v; packet = v }) ≡ Is i = rw a at e in f a (cc))
-    (λ a. let h : Refused (k .refusal) ≡ Is i = rw a at e in absurd (let z : _≡_ {A = ℕ} 0 1 = cc in omega arith))
+    (λ a. let h : Refused (k .refusal v) ≡ Is i = rw a at e in absurd (let z : _≡_ {A = ℕ} 0 1 = cc in omega arith))
 
 bits-again : (k : Kind) (i : Item) (s : List Bool) → InPacket k i → takeBits k (putBits k i ++ s) ≡ step i s
 bits-again k i s g =

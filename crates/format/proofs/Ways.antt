@@ -2,14 +2,27 @@
 -- Assumes nothing.
 use mathlib.Core.Path.{_≡_, refl, ap, _∙_}
 use mathlib.Core.List.{List}
-use Prim.Native.Nat.{ℕ}
+use Prim.Native.Nat.{ℕ, zero, suc, _-_, _≤_, _<_}
+use native.Mathlib.Omega.{arith}
 use Rattle.kinds.specs.declared.Item.{Item}
 use Rattle.kinds.specs.Kind.{Kind}
-use Rattle.format.specs.Format.{Format, field, Medium}
+use Rattle.format.specs.Format.{Format, field, times, Medium}
 use Rattle.format.specs.Places.{Taken}
 use Rattle.format.specs.Pass.{Task}
 use Rattle.format.specs.Ways.{Way, passing, Went, Got, Over, Took, Gave, Left, Ahead}
 use Rattle.format.proofs.Passing.{Seen, pass-field}
+
+-- ---- one more of the parts that are left, and none
+
+pub times-more : (part : Format → Format) (n : ℕ) → 0 < n → (f : Format) → times part n f ≡ part (times part (n - 1) f)
+unfolding times
+times-more part zero h f = absurd (omega arith)
+times-more part (suc n) h f = let e : suc n - 1 ≡ n = omega arith in rw e
+
+pub times-none : (part : Format → Format) (n : ℕ) → n ≤ 0 → (f : Format) → times part n f ≡ f
+unfolding times
+times-none part zero h f = refl
+times-none part (suc n) h f = absurd (omega arith)
 
 module _ {X B : Type 0} {w : Way X B} where
   -- ---- parts, one after another
@@ -72,11 +85,6 @@ module _ {X B : Type 0} {w : Way X B} where
   pub left-none : {p : Format → Format} {at to : ℕ} {x y : X} → Left w p (λ f. f) at x to y → Over w p at x (Went.on to y)
   left-none l = record { goes = l .same; stands = l .stands }
 
-  -- the part that is left, by another step
-
-  pub left-rest : {p q : Format → Format} {at to : ℕ} {x y : X} {r : Went X} → Left w p q at x to y → Over w q to y r → Over w p at x r
-  left-rest l o = record { goes = λ f. l .same f ∙ o .goes f; stands = o .stands }
-
   module _ {p : Format → Format} (q r : Format → Format) {at to : ℕ} {x y : X} (l : Left w p (λ f. q (r f)) at x to y) where
     pub left-on : {a : ℕ} {z : X} → Over w q to y (Went.on a z) → Left w p r at x a z
     left-on o = record { stands = o .stands; same = λ f. l .same f ∙ o .goes (r f) }
@@ -94,6 +102,22 @@ module _ {X B : Type 0} {w : Way X B} where
   -- the same part in other words
   pub left-as : {p q : Format → Format} (r : Format → Format) {at to : ℕ} {x y : X} → ((f : Format) → q f ≡ r f) → Left w p q at x to y → Left w p r at x to y
   left-as r {to = to} {y = y} e l = record { stands = l .stands; same = λ f. l .same f ∙ ap (λ (g : Format). w .run g to y) (e f) }
+
+  -- ---- a part so many times: one more, and none left
+
+  module _ {p : Format → Format} (part : Format → Format) {n at to : ℕ} {x y : X} (l : Left w p (times part n) at x to y) where
+    module _ (some : 0 < n) where
+      more : Left w p (λ f. part (times part (n - 1) f)) at x to y
+      more = left-as (λ f. part (times part (n - 1) f)) (times-more part n some) l
+
+      pub times-on : {a : ℕ} {z : X} → Over w part to y (Went.on a z) → Left w p (times part (n - 1)) at x a z
+      times-on o = left-on part (times part (n - 1)) more o
+
+      pub times-off : {e place : ℕ} → Over w part to y (Went.off e place) → Over w p at x (Went.off e place)
+      times-off o = left-off part (times part (n - 1)) more o
+
+    pub times-end : n ≤ 0 → Over w p at x (Went.on to y)
+    times-end h = left-none (left-as (λ f. f) (times-none part n h) l)
 
   -- ---- what was promised of the answer, carried on
 

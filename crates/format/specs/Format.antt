@@ -1,7 +1,7 @@
 -- Formats, and what it is to read and to write one in any medium.
 -- Assumes nothing.
 use mathlib.Core.List.{List, [], _∷_, _++_, map}
-use Prim.Native.Nat.{ℕ, _+_}
+use Prim.Native.Nat.{ℕ, zero, suc, _+_}
 use lib.ListN.{length}
 use Rattle.kinds.specs.declared.Item.{Item}
 use Rattle.kinds.specs.Kind.{Kind}
@@ -14,6 +14,11 @@ pub data Format : Type 0 where
 -- a field on whose value nothing depends, as in "NID_C 10, NID_SP 32"
 abbrev pub then : Kind → Format → Format
 then k f = field k (λ _. f)
+
+-- "then that many": a part n times, one after the other
+unfoldable pub times : (Format → Format) → ℕ → Format → Format
+times part zero f = f
+times part (suc n) f = part (times part n f)
 
 -- "A packet is judged": the values of the fields, or a refusal's number "with a place"
 pub data Read : Type 0 where

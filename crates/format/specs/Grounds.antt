@@ -38,7 +38,7 @@ pub data BitsFault (k : Kind) (bits : List Bool) (r : ℕ) : Type 0 where
   -- "6: a field doesn't fit in the body's remaining bits"
   unfitting : length bits < k .width → r ≡ 6 → BitsFault k bits r
   -- it fits, and its value is not allowed: refused as its kind says, "4: a field outside its range or set", 5 for a change's location
-  unallowed : (v : ℕ) (more : List Bool) → v < 2 ^ k .width → bits ≡ bitsOf (k .width) v ++ more → k .allowed v ≡ false → r ≡ k .refusal
+  unallowed : (v : ℕ) (more : List Bool) → v < 2 ^ k .width → bits ≡ bitsOf (k .width) v ++ more → k .allowed v ≡ false → r ≡ k .refusal v
       → BitsFault k bits r
 
 -- bytes that begin with the shortest form of a number "below 4,294,967,296"
@@ -52,7 +52,7 @@ pub data GroupsFault (k : Kind) (bytes : List ℕ) (r : ℕ) : Type 0 where
   -- "9: sheet ends too soon, .. or a number is not in its shortest form or not below 4,294,967,296"
   numberless : ((a : ℕ) → Begins bytes a → ⊥) → r ≡ 9 → GroupsFault k bytes r
   -- a number, and no value of the packet for it: refused as its kind says, with 2, 4 or 5
-  unallowed : (a : ℕ) → Begins bytes a → k .lower a ≡ none → r ≡ k .refusal → GroupsFault k bytes r
+  unallowed : (a : ℕ) → Begins bytes a → k .lower a ≡ none → r ≡ k .refusal a → GroupsFault k bytes r
 
 module _ {A : Type 0} (m : Medium A) (Good : Kind → Item → Type 0) (Fault : Kind → List A → ℕ → Type 0) where
   -- "field by field in order": a field at fault, after values that conform; its place, "the first bit of the field at fault", "the first byte of the number"

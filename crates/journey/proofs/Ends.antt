@@ -15,7 +15,7 @@ use Rattle.numbers.proofs.Counting.{count-most}
 use Rattle.kinds.specs.declared.Item.{Item}
 use Rattle.kinds.specs.Kind.{Kind}
 use Rattle.fields.proofs.Lawful.{narrow, range-lawful, upTo-lawful, operational-lawful}
-use Rattle.format.specs.Format.{Format, write}
+use Rattle.format.specs.Format.{Format, write, times}
 use Rattle.format.specs.Media.{packet, sheet}
 use Rattle.format.specs.Conforming.{Conforming, InSheet}
 use Rattle.format.proofs.Lawful.{Lawful}
@@ -23,7 +23,7 @@ use Rattle.format.proofs.Sized.{Measured, within, lawful}
 use Rattle.segment.specs.Segment.{header}
 use Rattle.rows.specs.Rows.{row, fits}
 use Rattle.rows.proofs.Measured.{no-row, first-fits, first-lawful, sum}
-use Rattle.journey.specs.Journey.{timingPoint, timingPoints, journeySegment, journeySegments, journeyBody, journeyFields, journeySheet}
+use Rattle.journey.specs.Journey.{timingPoint, journeySegment, journeyBody, journeyFields, journeySheet}
 use Rattle.journey.specs.Parts.{headerWidths, headerMost, segmentWidths, segmentMost, arrivalWidths, arrivalMost, stoppingWidths, stoppingMost}
 use Rattle.journey.proofs.Parts.{header-rows, segment-rows, point-rows, header-fits, segment-fits, arrival-fits, stopping-fits}
 use Rattle.journey.proofs.Tree.{StoppingCosts, fields-measured, sheet-measured}
@@ -107,10 +107,12 @@ module _ {f : Format} {add leave : ℕ} where
       stopping : (stop : ℕ) → sum bytesWeight stoppingWidths (stoppingMost stop) add + (944 * 51 + leave) ≤ 4068 * 15 + add + sum bitsWeight stoppingWidths (stoppingMost stop) leave
       stopping stop = by-cases (eqb stop 2) (λ e. rw e (omega arith)) (λ e. rw e (omega arith))
 
-points-weighed : {f : Format} {add leave : ℕ} → Weigh f add leave → (n : ℕ) → Weigh (timingPoints n f) (n * 264 + add) leave
-unfolding timingPoints
-points-weighed {add = add} {leave = leave} w zero = loosely (0 * 264 + add) leave w (omega arith)
-points-weighed {add = add} {leave = leave} w (suc n) = loosely (suc n * 264 + add) leave (point-weighed (points-weighed w n)) (omega arith)
+-- a part n times, where it adds so much
+times-weighed : (part : Format → Format) (each : ℕ) → ((f : Format) (add leave : ℕ) → Weigh f add leave → Weigh (part f) (each + add) leave)
+    → {f : Format} {add leave : ℕ} → Weigh f add leave → (n : ℕ) → Weigh (times part n f) (n * each + add) leave
+unfolding times
+times-weighed part each adds {add = add} {leave = leave} w zero = loosely (0 * each + add) leave w (omega arith)
+times-weighed part each adds {f} {add} {leave} w (suc n) = loosely (suc n * each + add) leave (adds (times part n f) (n * each + add) leave (times-weighed part each adds w n)) (omega arith)
 
 module _ (limit : ℕ) (few : limit ≤ 31) where
   -- 14 bytes at most for 69 bits, and up to 31 timing points
@@ -118,14 +120,9 @@ module _ (limit : ℕ) (few : limit ≤ 31) where
   unfolding groupsIn
   segment-weighed {f} {add} {leave} w =
       rw (segment-rows limit f) (loosely add leave (row-weighed (more (upTo-lawful 5 31 (narrow tt) (lit< tt)) λ n e.
-      loosely (31 * 264 + (4068 + add)) (944 * 5 + leave) (points-weighed (more (upTo-lawful 5 limit (narrow tt) (omega arith)) λ _ _. w) n)
+      loosely (31 * 264 + (4068 + add)) (944 * 5 + leave) (times-weighed timingPoint 264 (λ f a b w. point-weighed w) (more (upTo-lawful 5 limit (narrow tt) (omega arith)) λ _ _. w) n)
       (omega (arith, mul-le-mul-right 264 (leb-true n 31 (and-right (leb 0 n) (leb n 31) e)), count-most limit 31 few)))
       segmentWidths segmentMost segment-fits) (omega arith))
-
-  segments-weighed : {f : Format} {add leave : ℕ} → Weigh f add leave → (n : ℕ) → Weigh (journeySegments limit n f) add leave
-  unfolding journeySegments
-  segments-weighed w zero = w
-  segments-weighed w (suc n) = segment-weighed (segments-weighed w n)
 
   header-weighed : {f : Format} {add leave : ℕ} → Weigh f add leave → Weigh (header f) (69156 + add) (90624 + leave)
   unfolding groupsIn
@@ -136,7 +133,7 @@ module _ (limit : ℕ) (few : limit ≤ 31) where
   unfolding groupsIn journeySheet journeyFields journeyBody
   sheet-weighed =
       loosely 0 23132 (more (range-lawful 8 4 4 2 (narrow tt) (lit< tt)) λ _ _.
-      header-weighed (more (upTo-lawful 3 4 (narrow tt) (lit< tt)) λ _ _. more (upTo-lawful 8 255 (narrow tt) (lit< tt)) λ n _. segments-weighed empty n)) (omega arith)
+      header-weighed (more (upTo-lawful 3 4 (narrow tt) (lit< tt)) λ _ _. more (upTo-lawful 8 255 (narrow tt) (lit< tt)) λ n _. loosely 0 0 (times-weighed (journeySegment limit) 0 (λ f a b w. loosely (0 + a) b (segment-weighed w) (omega arith)) empty n) (omega arith))) (omega arith)
 
   -- a sheet whose packet's body has at most 65,535 bits
   pub sheet-most : {l : List Item} → Conforming InSheet (journeySheet limit) l → length (write packet (journeySheet limit) l) ≤ 104 + 65535

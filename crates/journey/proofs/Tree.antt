@@ -11,11 +11,11 @@ use Rattle.bits.proofs.Tests.{and-right}
 use Rattle.kinds.specs.Kind.{Kind, upTo}
 use Rattle.kinds.specs.Kinds.{nidOperational, nIter}
 use Rattle.fields.proofs.Lawful.{narrow, range-lawful, upTo-lawful, operational-lawful}
-use Rattle.format.specs.Format.{Format}
+use Rattle.format.specs.Format.{Format, times}
 use Rattle.format.proofs.Sized.{Measured, over, plus, within}
 use Rattle.rows.proofs.Measured.{sum, row-measured}
 use Rattle.journey_kinds.specs.Kinds.{journeyNumber, qJpStatus, nIterSp, qStopSkipPasses}
-use Rattle.journey.specs.Journey.{timingPoint, timingPoints, journeySegment, journeySegments, journeyBody, journeyFields, journeySheet}
+use Rattle.journey.specs.Journey.{timingPoint, journeySegment, journeyBody, journeyFields, journeySheet}
 use Rattle.journey.specs.Parts.{headerWidths, headerMost, segmentWidths, segmentMost, arrivalWidths, arrivalMost, stoppingWidths, stoppingMost}
 use Rattle.journey.proofs.Parts.{header-rows, segment-rows, point-rows, header-fits, segment-fits, arrival-fits, stopping-fits}
 
@@ -30,6 +30,13 @@ pub record StoppingCosts (lo hi : Kind → ℕ) : Type 0 where
   pub is-low : (stop a : ℕ) → low + a ≤ sum lo stoppingWidths (stoppingMost stop) a
   pub is-high : (stop b : ℕ) → sum hi stoppingWidths (stoppingMost stop) b ≤ high + b
 
+-- a part n times, where it adds at most so much
+times-measured : {lo hi : Kind → ℕ} (part : Format → Format) (high : ℕ) → ((f : Format) (a b : ℕ) → Measured lo hi f a b → Measured lo hi (part f) a (high + b))
+    → {f : Format} {a b : ℕ} → Measured lo hi f a b → (n : ℕ) → Measured lo hi (times part n f) a (n * high + b)
+unfolding times
+times-measured part high adds {a = a} {b = b} m zero = within a (0 * high + b) m (omega arith) (omega arith)
+times-measured part high adds {f} {a} {b} m (suc n) = within a (suc n * high + b) (adds (times part n f) a (n * high + b) (times-measured part high adds m n)) (omega arith) (omega arith)
+
 module _ {lo hi : Kind → ℕ} (c : StoppingCosts lo hi) where
   abbrev pub pointHigh : ℕ
   pointHigh = sum hi arrivalWidths arrivalMost (hi qStopSkipPasses + c .high)
@@ -41,11 +48,6 @@ module _ {lo hi : Kind → ℕ} (c : StoppingCosts lo hi) where
       within (c .low + a) (c .high + b) (row-measured m stoppingWidths (stoppingMost stop) (stopping-fits stop)) (c .is-low stop a) (c .is-high stop b))
       arrivalWidths arrivalMost arrival-fits) (omega arith) (omega arith))
 
-  points-measured : {f : Format} {a b : ℕ} → Measured lo hi f a b → (n : ℕ) → Measured lo hi (timingPoints n f) a (n * pointHigh + b)
-  unfolding timingPoints
-  points-measured {a = a} {b = b} m zero = within a (0 * pointHigh + b) m (omega arith) (omega arith)
-  points-measured {a = a} {b = b} m (suc n) = within a (suc n * pointHigh + b) (point-measured (points-measured m n)) (omega arith) (omega arith)
-
   module _ (limit : ℕ) (few : limit ≤ 31) where
     abbrev pub segmentHigh : ℕ
     segmentHigh = sum hi segmentWidths segmentMost (hi (nIter 31) + (31 * pointHigh + hi (nIter limit)))
@@ -54,15 +56,10 @@ module _ {lo hi : Kind → ℕ} (c : StoppingCosts lo hi) where
     segment-measured {f} {a} {b} m =
         rw (segment-rows limit f) (within a (segmentHigh + b)
         (row-measured (plus (upTo-lawful 5 31 (narrow tt) (lit< tt)) λ n e.
-        within a (31 * pointHigh + (hi (nIter limit) + b)) (points-measured (within a (hi (nIter limit) + b)
+        within a (31 * pointHigh + (hi (nIter limit) + b)) (times-measured timingPoint pointHigh (λ f a b m. point-measured m) (within a (hi (nIter limit) + b)
         (plus (upTo-lawful 5 limit (narrow tt) (omega arith)) λ _ _. m) (omega arith) (omega arith)) n)
         (omega arith) (omega (arith, mul-le-mul-right pointHigh (up-to 5 n 31 e))))
         segmentWidths segmentMost segment-fits) (omega arith) (omega arith))
-
-    segments-measured : {f : Format} {a b : ℕ} → Measured lo hi f a b → (n : ℕ) → Measured lo hi (journeySegments limit n f) a (n * segmentHigh + b)
-    unfolding journeySegments
-    segments-measured {a = a} {b = b} m zero = within a (0 * segmentHigh + b) m (omega arith) (omega arith)
-    segments-measured {a = a} {b = b} m (suc n) = within a (suc n * segmentHigh + b) (segment-measured (segments-measured m n)) (omega arith) (omega arith)
 
     abbrev pub bodyHigh : ℕ
     bodyHigh = hi qJpStatus + (hi nIterSp + 255 * segmentHigh)
@@ -74,7 +71,7 @@ module _ {lo hi : Kind → ℕ} (c : StoppingCosts lo hi) where
     unfolding journeyBody
     body-measured =
         plus (upTo-lawful 3 4 (narrow tt) (lit< tt)) λ _ _. plus (upTo-lawful 8 255 (narrow tt) (lit< tt)) λ n e.
-        within 0 (255 * segmentHigh) (segments-measured over n) (omega arith) (omega (arith, mul-le-mul-right segmentHigh (up-to 8 n 255 e)))
+        within 0 (255 * segmentHigh) (times-measured (journeySegment limit) segmentHigh (λ f a b m. segment-measured m) over n) (omega arith) (omega (arith, mul-le-mul-right segmentHigh (up-to 8 n 255 e)))
 
     pub fields-measured : Measured lo hi (journeyFields limit) (lo nidOperational + sum lo headerWidths headerMost bodyLow) (hi nidOperational + sum hi headerWidths headerMost bodyHigh)
     unfolding journeyFields

@@ -1,8 +1,8 @@
 -- The fields of a journey, in the order of document 02 and of 002's journey table, over the limit of temporary constraints.
 -- Assumes nothing.
-use Prim.Native.Nat.{ℕ, zero, suc}
+use Prim.Native.Nat.{ℕ}
 use Rattle.kinds.specs.Kinds.{nidC, nidSp, mSpVersion, nIter}
-use Rattle.format.specs.Format.{Format, end, field, then}
+use Rattle.format.specs.Format.{Format, end, field, then, times}
 use Rattle.segment.specs.Segment.{header}
 use Rattle.journey_kinds.specs.Kinds.{journeyNumber, qJpStatus, nIterSp, qSpDir, nidTp, tLatestArrivalDate, tLatestArrivalSeconds, tArrivalWindow, qTpAlignment, qStopSkipPasses, qTpInformation, qDayLightSaving, qOpeningDoorSide, qCentralisedOpening, qRelaxedCoupler, qTrainHold, tDepartureDate, tDepartureSeconds, tMinimumDwellTime, qAutomaticClosing}
 
@@ -18,24 +18,14 @@ timingPoint f =
     then nidTp (then tLatestArrivalDate (then tLatestArrivalSeconds (then tArrivalWindow (then qTpAlignment
     (field qStopSkipPasses λ stop. then qTpInformation (then qDayLightSaving (stoppingPoint stop f)))))))
 
--- n timing points
-unfoldable pub timingPoints : ℕ → Format → Format
-timingPoints zero f = f
-timingPoints (suc n) f = timingPoint (timingPoints n f)
-
 -- "NID_C 10, NID_SP 32, version 8 + 8, Q_SP_DIR 1, N_ITER 5 timing points, and a 5-bit count of temporary constraints"
 abbrev pub journeySegment : ℕ → Format → Format
 journeySegment limit f =
-    then nidC (then nidSp (then mSpVersion (then mSpVersion (then qSpDir (field (nIter 31) λ n. timingPoints n (then (nIter limit) f))))))
-
--- n segments
-unfoldable pub journeySegments : ℕ → ℕ → Format → Format
-journeySegments limit zero f = f
-journeySegments limit (suc n) f = journeySegment limit (journeySegments limit n f)
+    then nidC (then nidSp (then mSpVersion (then mSpVersion (then qSpDir (field (nIter 31) λ n. times timingPoint n (then (nIter limit) f))))))
 
 -- "Q_JP_Status 3 bits (0 to 4), N_ITER_SP 8, then per segment"
 unfoldable pub journeyBody : ℕ → Format
-journeyBody limit = then qJpStatus (field nIterSp λ n. journeySegments limit n end)
+journeyBody limit = then qJpStatus (field nIterSp λ n. times (journeySegment limit) n end)
 
 -- the header after L_PACKET_ATO, and the body
 unfoldable pub journeyFields : ℕ → Format

@@ -2,10 +2,10 @@
 -- Assumes nothing.
 use mathlib.Core.List.{List, [], _∷_}
 use Prim.Native.Nat.{ℕ}
-use Rattle.format.specs.Format.{Format, field, then}
+use Rattle.format.specs.Format.{Format, field, then, times}
 use Rattle.segment.specs.Segment.{header}
 use Rattle.journey_kinds.specs.Kinds.{qJpStatus, nIterSp, mostAt}
-use Rattle.journey.specs.Journey.{journeySegments, constraints}
+use Rattle.journey.specs.Journey.{journeySegment, constraints}
 
 -- NID_ENGINE to N_PACKET_COUNTER, after NID_OPERATIONAL
 abbrev pub headerWidths : List ℕ
@@ -38,7 +38,7 @@ stoppingMost stop =
 
 -- the body's fields, and all fields after L_PACKET_ATO, with whatever follows
 abbrev pub journeyBodyPart : Format → Format
-journeyBodyPart f = then qJpStatus (field nIterSp λ n. journeySegments constraints n f)
+journeyBodyPart f = then qJpStatus (field nIterSp λ n. times (journeySegment constraints) n f)
 
 abbrev pub journeyPart : Format → Format
 journeyPart f = header (journeyBodyPart f)

@@ -38,7 +38,7 @@ module _ (s : List ℕ) (stop : ℕ) where
       there : takenAt (valueInPacket k v) (at + w) ≡ bitsTaken k s at stop
       there = rw (ev, ← e) (bits-whole k s at stop (rw e room))
 
-      pub took-none : r ≡ 0 → Took k s stop at n (Next.Refused (k .refusal) at)
+      pub took-none : r ≡ 0 → Took k s stop at n (Next.Refused (k .refusal v) at)
       took-none z =
           by-cases (k .allowed v)
           (λ a. absurd (let f : bytesOf (valueInPacket k v) ≡ length (groupsIn (k .raise v)) = rw a in omega (arith, count-some (k .raise v))))

@@ -1,6 +1,7 @@
 // A journey's fields judged, with the bytes of their sheet counted. Nothing is written.
 ghost use Prim.Native.Nat.{_-_, _≤_};
-ghost use Rattle.journey.specs.Journey.{journeySegment, journeySegments, constraints};
+ghost use Rattle.format.specs.Format.{times};
+ghost use Rattle.journey.specs.Journey.{journeySegment, constraints};
 ghost use Rattle.journey.specs.Parts.{journeyBodyPart, journeyPart};
 ghost use Rattle.judge_field.specs.Judging.{Standing, Over, Gave};
 ghost use Rattle.judge_journey.specs.Head.{segmentHead};
@@ -75,7 +76,7 @@ fn segment(s: &[u8], stop: usize, at: usize, n: usize) -> Step
 // The segments of a journey.
 fn segments(s: &[u8], stop: usize, at: usize, n: usize, count: u32) -> Step
     requires { ⌜ Standing (now s) stop at n ⌝ }
-    ensures { λ r. ⌜ Over (journeySegments constraints count) (now (s .entry)) stop at n r ⌝ }
+    ensures { λ r. ⌜ Over (times (journeySegment constraints) count) (now (s .entry)) stop at n r ⌝ }
 {
     let mut to = at;
     let mut m = n;

@@ -1,6 +1,6 @@
 // The sheet of a journey judged part by part, with the bits of its packet counted. Nothing is written.
 ghost use Rattle.kinds.specs.Kinds.{nIter};
-ghost use Rattle.format.specs.Format.{then};
+ghost use Rattle.format.specs.Format.{then, times};
 ghost use Rattle.rows.specs.Rows as rows;
 ghost use Rattle.journey.specs.Journey as journey;
 ghost use Rattle.journey.specs.Parts as parts;
@@ -66,7 +66,7 @@ fn segment(s: &[u8], at: usize, n: u32) -> Step
 // The segments of a journey.
 fn segments(s: &[u8], at: usize, n: u32, count: u32) -> Step
     requires { ⌜ Standing (now s) at ⌝ }
-    ensures { λ r. ⌜ Over (journey.journeySegments journey.constraints count) (now (s .entry)) at n r ⌝ }
+    ensures { λ r. ⌜ Over (times (journey.journeySegment journey.constraints) count) (now (s .entry)) at n r ⌝ }
 {
     let mut to = at;
     let mut m = n;

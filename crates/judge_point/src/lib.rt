@@ -1,7 +1,8 @@
 // A journey's timing points judged, with the bytes of their sheet counted. Nothing is written.
 ghost use Prim.Native.Nat.{_-_, _≤_};
+ghost use Rattle.format.specs.Format.{times};
 ghost use Rattle.rows.specs.Rows.{row};
-ghost use Rattle.journey.specs.Journey.{timingPoint, timingPoints};
+ghost use Rattle.journey.specs.Journey.{timingPoint};
 ghost use Rattle.journey.specs.Parts.{arrivalWidths, arrivalMost, stoppingWidths, stoppingMost};
 ghost use Rattle.judge_field.specs.Judging.{Standing, Over};
 use journey_kinds::NidTp;
@@ -94,7 +95,7 @@ fn point(s: &[u8], stop: usize, at: usize, n: usize) -> Step
 // The timing points of a segment.
 pub fn points(s: &[u8], stop: usize, at: usize, n: usize, count: u32) -> Step
     requires { ⌜ Standing (now s) stop at n ⌝ }
-    ensures { λ r. ⌜ Over (timingPoints count) (now (s .entry)) stop at n r ⌝ }
+    ensures { λ r. ⌜ Over (times timingPoint count) (now (s .entry)) stop at n r ⌝ }
 {
     let mut to = at;
     let mut m = n;

@@ -9,11 +9,11 @@ use Rattle.kinds.specs.Kind.{Kind}
 
 -- "Back from the packet, speeds are times 5 and currents times 10": what a packet's value makes
 abbrev pub valueInPacket : Kind → ℕ → Field
-valueInPacket k v = cond (k .allowed v) (Is (record { sheet = k .raise v; packet = v })) (Refused (k .refusal))
+valueInPacket k v = cond (k .allowed v) (Is (record { sheet = k .raise v; packet = v })) (Refused (k .refusal v))
 
 -- "4: a field outside its range or set": a sheet's number with the packet's value, or the kind's refusal where there is none
 abbrev pub fieldWith : Kind → ℕ → Option ℕ → Field
-fieldWith k a none = Refused (k .refusal)
+fieldWith k a none = Refused (k .refusal a)
 fieldWith k a (some v) = Is (record { sheet = a; packet = v })
 
 -- "whole part of speed / 5", "whole part of amperes / 10": what a sheet's number makes

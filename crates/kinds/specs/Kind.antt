@@ -15,8 +15,8 @@ pub record Kind : Type 0 where
   pub highest : ℕ
   -- the values that a packet may have
   pub allowed : ℕ → Bool
-  -- the refusal's number where a value is not allowed
-  pub refusal : ℕ
+  -- the refusal's number where a value is not allowed, by the value
+  pub refusal : ℕ → ℕ
   -- from a sheet's number to the packet's value
   pub lower : ℕ → Option ℕ
   -- from a packet's value to the sheet's number
@@ -28,13 +28,13 @@ when true v = some v
 when false v = none
 
 -- "They equal the packet fields": the same number in the sheet and in the packet
-abbrev pub same : ℕ → ℕ → ℕ → (ℕ → Bool) → Kind
+abbrev pub same : ℕ → ℕ → (ℕ → ℕ) → (ℕ → Bool) → Kind
 same width largest refusal allowed =
     record { width = width; largest = largest; highest = largest; allowed = allowed; refusal = refusal; lower = λ a. when (allowed a) a; raise = λ v. v }
 
 -- from least to largest, as "1 to 16,777,215"
 abbrev pub range : ℕ → ℕ → ℕ → ℕ → Kind
-range width least largest refusal = same width largest refusal (λ v. leb least v && leb v largest)
+range width least largest refusal = same width largest (λ _. refusal) (λ v. leb least v && leb v largest)
 
 -- from 0 to largest, as "0 to 112"
 abbrev pub upTo : ℕ → ℕ → Kind

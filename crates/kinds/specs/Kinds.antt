@@ -28,7 +28,7 @@ digits (suc n) v = digit (v % 16) && digits n (v / 16)
 
 -- "NID_OPERATIONAL 32"
 abbrev pub nidOperational : Kind
-nidOperational = same 32 4294967295 4 (digits 8)
+nidOperational = same 32 4294967295 (λ _. 4) (digits 8)
 
 -- "NID_ENGINE 24"
 abbrev pub nidEngine : Kind
@@ -78,7 +78,7 @@ mSpAltitude = upTo 20 1048575
 
 -- "km/h, 0 to 604", "whole part of speed / 5"; "Back from the packet, speeds are times 5"
 abbrev pub speed : Kind
-speed = record { width = 7; largest = 120; highest = 604; allowed = λ v. leb v 120; refusal = 4; lower = λ a. when (leb a 604) (a / 5); raise = λ v. v * 5 }
+speed = record { width = 7; largest = 120; highest = 604; allowed = λ v. leb v 120; refusal = λ _. 4; lower = λ a. when (leb a 604) (a / 5); raise = λ v. v * 5 }
 
 -- "Q_FRONT 1"
 abbrev pub qFront : Kind
@@ -107,7 +107,7 @@ class (suc q) = ncDiff
 
 -- "a change's location that does not rise, is 0, or is at or past L_SP, however large" is refused with 5
 abbrev pub dLocation : ℕ → ℕ → Kind
-dLocation last lsp = same 24 16777215 5 (λ x. ltb last x && ltb x lsp)
+dLocation last lsp = same 24 16777215 (λ _. 5) (λ x. ltb last x && ltb x lsp)
 
 -- "M_VOLTAGE 4 (0 to 5)"
 abbrev pub mVoltage : Kind
@@ -129,7 +129,7 @@ mCurrent = record {
   largest = 1023;
   highest = 10010;
   allowed = λ v. leb v 1000 || eqb v 1023;
-  refusal = 4;
+  refusal = λ _. 4;
   lower = λ a. cond (eqb a 0) (some 1023) (when (leb (a - 1) 10009) ((a - 1) / 10));
   raise = λ v. cond (eqb v 1023) 0 (v * 10 + 1);
 }

@@ -33,7 +33,7 @@ entryOf width table = record {
   largest = length table - 1;
   highest = greatest table;
   allowed = λ v. ltb v (length table);
-  refusal = 4;
+  refusal = λ _. 4;
   lower = λ a. place 0 table a;
   raise = λ v. getD table v 0;
 }

@@ -11,7 +11,7 @@ use lib.ListN.{length}
 use Rattle.bits.specs.Bits.{Bytes}
 use Rattle.bits.proofs.Tests.{by-cases}
 use Rattle.kinds.specs.declared.Item.{Item}
-use Rattle.format.specs.Format.{Format, Read, accepted, refused, read}
+use Rattle.format.specs.Format.{Format, Read, accepted, refused, read, times}
 use Rattle.format.specs.Media.{sheet}
 use Rattle.format.specs.Grounds.{Every, atEnd, each, Among, first, later}
 use Rattle.format.proofs.Generic.{never}
@@ -20,7 +20,7 @@ use Rattle.segment.specs.Segment.{fields}
 use Rattle.segment.specs.Frame.{packetNumber, unframed}
 use Rattle.segment.specs.Grounds.{FieldRefusal, asValue, packetRefusals, sheetRefusals}
 use Rattle.segment.proofs.Grounds.{packet-grounds, packet-listed, numbers-refusals, numbers-listed, fields-refusals}
-use Rattle.journey.specs.Journey.{timingPoints, journeySegments, journeyBody}
+use Rattle.journey.specs.Journey.{timingPoint, journeySegment, journeyBody, constraints}
 use Rattle.link.specs.declared.Tree.{Tree}
 use Rattle.link.specs.declared.Tree.the-variants.{Segment, Journey}
 use Rattle.link.specs.Link.{treeNumber, treeFields, treeOf, linkFields, linkBits, fromEitherPacket, withinCount, fromEitherSheet}
@@ -82,28 +82,33 @@ module _ (s : List ℕ) (r place : ℕ) where
 
 -- ---- every field of a journey is refused with 4
 
-points-refusals : (n : ℕ) (f : Format) → Every FieldRefusal f → Every FieldRefusal (timingPoints n f)
-unfolding timingPoints
-points-refusals zero f e = e
-points-refusals (suc n) f e =
-    each (asValue refl) λ _. each (asValue refl) λ _. each (asValue refl) λ _. each (asValue refl) λ _. each (asValue refl) λ _.
-    each (asValue refl) λ stop. each (asValue refl) λ _. each (asValue refl) λ _.
-    each (asValue refl) λ _. each (asValue refl) λ _. each (asValue refl) λ _. each (asValue refl) λ _.
-    each (asValue refl) λ _. each (asValue refl) λ _. each (asValue refl) λ _. each (asValue refl) λ _. points-refusals n f e
+-- a part in front of any format
+abbrev Kept : (Format → Format) → Type 0
+Kept front = (f : Format) → Every FieldRefusal f → Every FieldRefusal (front f)
 
-segments-refusals : (limit n : ℕ) (f : Format) → Every FieldRefusal f → Every FieldRefusal (journeySegments limit n f)
-unfolding journeySegments
-segments-refusals limit zero f e = e
-segments-refusals limit (suc n) f e =
-    each (asValue refl) λ _. each (asValue refl) λ _. each (asValue refl) λ _. each (asValue refl) λ _. each (asValue refl) λ _.
-    each (asValue refl) λ m. points-refusals m _ (each (asValue refl) λ _. segments-refusals limit n f e)
+times-refusals : {part : Format → Format} → Kept part → (n : ℕ) → Kept (times part n)
+unfolding times
+times-refusals one zero f e = e
+times-refusals one (suc n) f e = one _ (times-refusals one n f e)
+
+point-refusals : Kept timingPoint
+point-refusals f e =
+    each (asValue λ _. refl) λ _. each (asValue λ _. refl) λ _. each (asValue λ _. refl) λ _. each (asValue λ _. refl) λ _. each (asValue λ _. refl) λ _.
+    each (asValue λ _. refl) λ stop. each (asValue λ _. refl) λ _. each (asValue λ _. refl) λ _.
+    each (asValue λ _. refl) λ _. each (asValue λ _. refl) λ _. each (asValue λ _. refl) λ _. each (asValue λ _. refl) λ _.
+    each (asValue λ _. refl) λ _. each (asValue λ _. refl) λ _. each (asValue λ _. refl) λ _. each (asValue λ _. refl) λ _. e
+
+segment-refusals : (limit : ℕ) → Kept (journeySegment limit)
+segment-refusals limit f e =
+    each (asValue λ _. refl) λ _. each (asValue λ _. refl) λ _. each (asValue λ _. refl) λ _. each (asValue λ _. refl) λ _. each (asValue λ _. refl) λ _.
+    each (asValue λ _. refl) λ m. times-refusals point-refusals m _ (each (asValue λ _. refl) λ _. e)
 
 pub tree-refusals : (t : Tree) → Every FieldRefusal (treeFields t)
 unfolding fields journeyBody
 tree-refusals Segment = fields-refusals 23
 tree-refusals Journey =
-    each (asValue refl) λ _. each (asValue refl) λ _. each (asValue refl) λ _. each (asValue refl) λ _. each (asValue refl) λ _.
-    each (asValue refl) λ _. each (asValue refl) λ n. segments-refusals 0 n _ atEnd
+    each (asValue λ _. refl) λ _. each (asValue λ _. refl) λ _. each (asValue λ _. refl) λ _. each (asValue λ _. refl) λ _. each (asValue λ _. refl) λ _.
+    each (asValue λ _. refl) λ _. each (asValue λ _. refl) λ n. times-refusals (segment-refusals constraints) n _ atEnd
 
 -- ---- the refusals are those listed
 
@@ -111,9 +116,9 @@ pub either-packet-listed : (s : List ℕ) (r place : ℕ) → EitherPacketGround
 either-packet-listed s r place (ofJourney n g) = packet-listed (treeNumber Journey) (tree-refusals Journey) s r place g
 either-packet-listed s r place (ofSegment n g) = packet-listed (treeNumber Segment) (tree-refusals Segment) s r place g
 
-pub link-refusals : Every (λ k. Among (k .refusal) sheetRefusals) linkFields
+link-refusals : Every (λ k. (v : ℕ) → Among (k .refusal v) sheetRefusals) linkFields
 unfolding linkFields
-link-refusals = each first λ n. numbers-refusals (tree-refusals (treeOf n))
+link-refusals = each (λ _. first) λ n. numbers-refusals (tree-refusals (treeOf n))
 
 among-more : {r : ℕ} {l : List ℕ} (m : List ℕ) → Among r l → Among r (l ++ m)
 among-more m first = first

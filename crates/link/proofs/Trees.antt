@@ -48,7 +48,7 @@ tree-lawful Journey = journey.fields-lawful constraints (lit≤ tt)
 
 number-lawful : LawfulKind linkNumber
 number-lawful =
-    same-lawful 8 6 2 (linkNumber .allowed) (narrow tt) (lit< tt)
+    same-lawful 8 6 (λ _. 2) (linkNumber .allowed) (narrow tt) (lit< tt)
     λ v e. or-cases (eqb v 4) (eqb v 6) e (λ d. let q = eqb-true v 4 d in omega arith) (λ d. let q = eqb-true v 6 d in omega arith)
 
 pub link-lawful : Lawful linkFields

@@ -36,7 +36,7 @@ treeOf n = cond (eqb n 4) Journey Segment
 
 -- "2 now means neither 4 nor 6"
 abbrev pub linkNumber : Kind
-linkNumber = same 8 6 2 (λ n. eqb n 4 || eqb n 6)
+linkNumber = same 8 6 (λ _. 2) (λ n. eqb n 4 || eqb n 6)
 
 -- one tree from the packet number on
 unfoldable pub linkFields : Format

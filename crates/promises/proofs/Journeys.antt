@@ -8,9 +8,10 @@ use lib.ListN.{length, replicate}
 use Rattle.numbers.specs.Numbers.{groupsIn}
 use Rattle.kinds.specs.declared.Item.{Item}
 use Rattle.kinds.specs.Kinds.{digits}
-use Rattle.segment.proofs.Ends.{item, times, conformed}
+use Rattle.format.specs.Format.{times}
+use Rattle.segment.proofs.Ends.{item, repeated, conformed}
 use Rattle.segment.proofs.Framing.{framed-length}
-use Rattle.journey.specs.Journey.{timingPoints, journeySegments, journeyBody}
+use Rattle.journey.specs.Journey.{journeyBody}
 use Rattle.link.specs.Link.{linkFields, linkBits, toEitherPacket, toEitherSheet}
 use Rattle.link.specs.Grounds.{EitherSheetValues}
 
@@ -30,16 +31,16 @@ segmentWith n = replicate 5 (item 0 0) ++ item n n ∷ replicate (16 * n) (item 
 
 -- 41 segments with 486 timing points
 abbrev largest : List Item
-largest = item 4 4 ∷ replicate 6 (item 0 0) ++ item 41 41 ∷ times 15 (segmentWith 31) ++ segmentWith 21 ++ times 25 (segmentWith 0)
+largest = item 4 4 ∷ replicate 6 (item 0 0) ++ item 41 41 ∷ repeated 15 (segmentWith 31) ++ segmentWith 21 ++ repeated 25 (segmentWith 0)
 
 pub smallest-journey : Reaches smallest 11 17 8
-unfolding groupsIn digits timingPoints journeySegments journeyBody linkFields toEitherPacket toEitherSheet
+unfolding groupsIn digits times journeyBody linkFields toEitherPacket toEitherSheet
 smallest-journey =
     let b : length (linkBits smallest) ≡ 96 + 11 = refl in
     record { values = record { good = conformed linkFields smallest refl; few = omega arith }; body = b; packetBytes = framed-length 4 (linkBits smallest) ∙ omega arith; sheetBytes = refl }
 
 pub largest-journey : Reaches largest 65534 8207 8071
-unfolding groupsIn digits timingPoints journeySegments journeyBody linkFields toEitherPacket toEitherSheet
+unfolding groupsIn digits times journeyBody linkFields toEitherPacket toEitherSheet
 largest-journey =
     let b : length (linkBits largest) ≡ 96 + 65534 = refl in
     record { values = record { good = conformed linkFields largest refl; few = omega arith }; body = b; packetBytes = framed-length 4 (linkBits largest) ∙ omega arith; sheetBytes = refl }

@@ -1,6 +1,6 @@
 -- "For 1, 2, 3, 8, 10 to 12, success .. it is 0": the refusals that have no place, of every operation.
 -- Assumes nothing.
-use mathlib.Core.Path.{_≡_, refl, sym, ap, _∙_}
+use mathlib.Core.Path.{_≡_, refl, sym, _∙_}
 use mathlib.Core.Bool.{true, false}
 use mathlib.Core.List.{List}
 use mathlib.Core.Logic.{_↔_}
@@ -17,8 +17,8 @@ use Rattle.format.specs.Grounds.{Front, here, past, Every, Among, BitsFault, Gr
 use Rattle.format.proofs.Grounds.{every-front}
 use Rattle.segment.specs.Segment.{sheetFields, wireChanges}
 use Rattle.segment.specs.Judgement.{segmentNumber}
-use Rattle.segment.specs.Grounds.{PacketGround, short, otherNumber, otherSize, inFields, inPadding, SheetGround, FieldRefusal, asValue, asLocation}
-use Rattle.segment.proofs.Grounds.{fields-refusals}
+use Rattle.segment.specs.Grounds.{PacketGround, short, otherNumber, otherSize, inFields, inPadding, SheetGround, FieldRefusal}
+use Rattle.segment.proofs.Grounds.{fields-refusals, listed}
 use Rattle.segment.proofs.Refusals.{among-positive}
 use Rattle.link.specs.declared.Tree.the-variants.{Segment, Journey}
 use Rattle.link.specs.Link.{treeNumber, treeOf, linkFields}
@@ -37,9 +37,8 @@ use Rattle.promises.proofs.DemandOne.{packet-to-sheet-refused, sheet-to
 placed : {C : Type 0} {r : ℕ} (n : ℕ) → r ≡ n → Among r placeless → member n placeless ≡ false → C
 placed n e a m = absurd (let z : true ≡ false = sym (among-member (rw e at a)) ∙ m in let y : _≡_ {A = ℕ} 0 1 = cc in omega arith)
 
-field-placed : {C : Type 0} {k : Kind} → FieldRefusal k → Among (k .refusal) placeless → C
-field-placed (asValue e) a = placed 4 e a refl
-field-placed (asLocation last lsp e) a = placed 5 (ap (λ (k : Kind). k .refusal) e) a refl
+field-placed : {C : Type 0} {k : Kind} → FieldRefusal k → (v : ℕ) → Among (k .refusal v) placeless → C
+field-placed f v a = listed f v (λ e. placed 4 e a refl) (λ e. placed 5 e a refl)
 
 -- ---- the grounds of a packet and of a sheet
 
@@ -51,7 +50,7 @@ packet-place n every s r place (inFields w (atField g)) a = go (g .fault) a
   where
     go : {bits : List _} → BitsFault (g .kind) bits r → Among r placeless → place ≡ 0
     go (BitsFault.unfitting h e) b = placed 6 e b refl
-    go (BitsFault.unallowed v more fits whole out e) b = field-placed (every-front every (g .front)) (rw e at b)
+    go (BitsFault.unallowed v more fits whole out e) b = field-placed (every-front every (g .front)) v (rw e at b)
 packet-place n every s r place (inFields w (leftOver g)) a = placed 13 (g .number) a refl
 packet-place n every s r place (inPadding w l v o e) a = placed 7 e a refl
 
@@ -62,7 +61,7 @@ numbers-place {k} {next} every s r place (atField g) a = go (g .front) (g .stand
   where
     fault : {j : Kind} {bytes : List ℕ} → FieldRefusal j → GroupsFault j bytes r → place ≡ 0
     fault f (GroupsFault.numberless n e) = placed 9 e a refl
-    fault f (GroupsFault.unallowed v b l e) = field-placed f (rw e at a)
+    fault f (GroupsFault.unallowed v b l e) = field-placed f v (rw e at a)
 
     go : {l : List Item} {j : Kind} {more : ℕ → Format} {bytes : List ℕ} → Front InSheet (field k next) l (field j more)
         → place ≡ 0 + length (write sheet (field k next) l) → GroupsFault j bytes r → place ≡ 0

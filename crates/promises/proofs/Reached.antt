@@ -2,13 +2,14 @@
 -- Assumes nothing.
 use mathlib.Core.Path.{_≡_, refl}
 use mathlib.Core.List.{[], map}
+use Rattle.format.specs.Format.{times}
 use Rattle.bits.specs.Bits.{fieldAt}
 use Rattle.numbers.specs.Numbers.{numberOf, groupsIn}
 use Rattle.kinds.specs.Kinds.{digits}
 use Rattle.kinds.specs.Tables.{place}
 use Rattle.segment.specs.Segment.{entries, changes, lists, body, fields, sheetFields}
 use Rattle.segment.specs.Judgement.{fromPacket, fromSheet, toPacket, toSheet}
-use Rattle.journey.specs.Journey.{timingPoints, journeySegments, journeyBody}
+use Rattle.journey.specs.Journey.{journeyBody}
 use Rattle.link.specs.Link.{linkFields, fromEitherPacket, fromEitherSheet, toEitherPacket, toEitherSheet}
 use Rattle.question.specs.Question.{speedFromPacket, speedFromSheet}
 use Rattle.altitude.specs.Altitude.{altitudeOf}
@@ -17,11 +18,11 @@ use Rattle.promises.specs.Refused.{packetToSheetRefusals, sheetToPacketR
 use Rattle.promises.specs.Samples.{refusedPackets, convertedPackets, convertedSheets, askedPackets, askedSheets}
 
 pub packet-to-sheet-reached : map (λ s. packetToSheet s [] .answer .refusal) convertedPackets ≡ packetToSheetRefusals
-unfolding fieldAt numberOf groupsIn digits place entries changes lists body fields sheetFields toPacket toSheet timingPoints journeySegments journeyBody linkFields fromEitherPacket toEitherSheet packetToSheet
+unfolding fieldAt numberOf groupsIn digits place entries changes lists body fields sheetFields toPacket toSheet times journeyBody linkFields fromEitherPacket toEitherSheet packetToSheet
 packet-to-sheet-reached = refl
 
 pub sheet-to-packet-reached : map (λ s. sheetToPacket s [] .answer .refusal) convertedSheets ≡ sheetToPacketRefusals
-unfolding fieldAt numberOf groupsIn digits place entries changes lists body fields sheetFields toPacket toSheet timingPoints journeySegments journeyBody linkFields fromEitherSheet toEitherPacket sheetToPacket
+unfolding fieldAt numberOf groupsIn digits place entries changes lists body fields sheetFields toPacket toSheet times journeyBody linkFields fromEitherSheet toEitherPacket sheetToPacket
 sheet-to-packet-reached = refl
 
 pub speed-from-packet-reached : map (λ q. speedFromPacket (q .bytes) (q .of) (q .x) .refusal) askedPackets ≡ speedFromPacketRefusals

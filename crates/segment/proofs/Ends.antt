@@ -141,20 +141,20 @@ changed start x (suc n) = item x x ∷ start ++ changed start (suc x) n
 abbrev parted : List Item → ℕ → List Item
 parted start n = start ++ item n n ∷ changed start 2097152 n
 
-abbrev pub times : ℕ → List Item → List Item
-times zero l = []
-times (suc n) l = l ++ times n l
+abbrev pub repeated : ℕ → List Item → List Item
+repeated zero l = []
+repeated (suc n) l = l ++ repeated n l
 
 abbrev largest : ℕ → List Item
 largest limit =
     item 6 6 ∷ item 4294967295 4294967295 ∷ item 16777215 16777215 ∷ item 32767 32767 ∷ item 86399 86399 ∷ item 255 255
     ∷ item 1023 1023 ∷ item 4294967295 4294967295 ∷ item 255 255 ∷ item 255 255 ∷ item 16777215 16777215 ∷ item 16777215 16777215
     ∷ item 112 112 ∷ item 1048575 1048575
-    ∷ parted (item 604 120 ∷ item 1 1 ∷ item 31 31 ∷ times 31 (item 0 0 ∷ item 300 10 ∷ item 604 120 ∷ [])) 31
+    ∷ parted (item 604 120 ∷ item 1 1 ∷ item 31 31 ∷ repeated 31 (item 0 0 ∷ item 300 10 ∷ item 604 120 ∷ [])) 31
     ++ parted (item 25000 1 ∷ item 1023 1023 ∷ []) limit ++ parted (item 10010 1000 ∷ []) limit
 
 abbrev smallest : List Item
-smallest = item 6 6 ∷ times 9 (item 0 0 ∷ []) ++ item 1 1 ∷ times 10 (item 0 0 ∷ []) ++ item 0 1023 ∷ item 0 0 ∷ []
+smallest = item 6 6 ∷ repeated 9 (item 0 0 ∷ []) ++ item 1 1 ∷ repeated 10 (item 0 0 ∷ []) ++ item 0 1023 ∷ item 0 0 ∷ []
 
 -- conforming, as a test that antt computes
 abbrev pub matches : Option ℕ → ℕ → Bool

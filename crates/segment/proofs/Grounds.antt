@@ -8,7 +8,7 @@ use mathlib.Core.Logic.{_↔_}
 use Prim.Native.Nat.{ℕ, zero, suc, _+_, _/_, _≤_}
 use native.Mathlib.Omega.{arith}
 use borrow.Author.Tests.{eqb-true, eqb-false, eq-eqb, ne-eqb, ltb-true, ltb-false, lt-ltb, le-ltb}
-use lib.Dec.{eqb, ltb}
+use lib.Dec.{eqb, ltb, leb}
 use lib.ListN.{length}
 use Rattle.bits.specs.Bits.{Bytes, fill}
 use Rattle.bits.proofs.Tests.{by-cases}
@@ -24,7 +24,7 @@ use Rattle.format.proofs.Grounds.{every-front, every-map, packet-written, packe
 use Rattle.segment.specs.Segment.{entries, profile, voltage, current, changes, part, lists, body, fields, sheetFields}
 use Rattle.segment.specs.Frame.{packetNumber, bodyBits, fieldBits, padding, firstOne, padded, unframed}
 use Rattle.segment.specs.Judgement.{fromSheet}
-use Rattle.segment.specs.Grounds.{WellFramed, FirstOne, PacketGround, short, otherNumber, otherSize, inFields, inPadding, SheetGround, FieldRefusal, asValue, asLocation, packetRefusals, sheetRefusals}
+use Rattle.segment.specs.Grounds.{WellFramed, FirstOne, PacketGround, short, otherNumber, otherSize, inFields, inPadding, SheetGround, FieldRefusal, asValue, asEnd, asLocation, packetRefusals, sheetRefusals}
 
 -- ---- the first padding bit that is 1
 
@@ -105,23 +105,23 @@ sheet-grounds limit s r place ok = sheet-ground (sheetFields limit) 0 s r place 
 abbrev Kept : (Format → Format) → Type 0
 Kept front = (f : Format) → Every FieldRefusal f → Every FieldRefusal (front f)
 
-class-refusal : (q : ℕ) → class q .refusal ≡ 4
-class-refusal zero = refl
-class-refusal (suc q) = refl
+class-refusal : (q v : ℕ) → class q .refusal v ≡ 4
+class-refusal zero v = refl
+class-refusal (suc q) v = refl
 
 entries-refusals : (n : ℕ) → Kept (entries n)
 unfolding entries
 entries-refusals zero f e = e
-entries-refusals (suc n) f e = each (asValue refl) λ q. each (asValue (class-refusal q)) λ _. each (asValue refl) λ _. entries-refusals n f e
+entries-refusals (suc n) f e = each (asValue λ _. refl) λ q. each (asValue (class-refusal q)) λ _. each (asValue λ _. refl) λ _. entries-refusals n f e
 
 profile-refusals : Kept profile
-profile-refusals f e = each (asValue refl) λ _. each (asValue refl) λ _. each (asValue refl) λ n. entries-refusals n f e
+profile-refusals f e = each (asValue λ _. refl) λ _. each (asValue λ _. refl) λ _. each (asValue λ _. refl) λ n. entries-refusals n f e
 
 voltage-refusals : Kept voltage
-voltage-refusals f e = each (asValue refl) λ u. each (asValue refl) λ _. e
+voltage-refusals f e = each (asValue λ _. refl) λ u. each (asValue λ _. refl) λ _. e
 
 current-refusals : Kept current
-current-refusals f e = each (asValue refl) λ _. e
+current-refusals f e = each (asValue λ _. refl) λ _. e
 
 changes-refusals : {start : Format → Format} → Kept start → (lsp last n : ℕ) → Kept (changes start lsp last n)
 unfolding changes
@@ -129,26 +129,27 @@ changes-refusals start lsp last zero f e = e
 changes-refusals start lsp last (suc n) f e = each (asLocation last lsp refl) λ x. start _ (changes-refusals start lsp x n f e)
 
 part-refusals : {start : Format → Format} → Kept start → (limit lsp : ℕ) → Kept (part start limit lsp)
-part-refusals start limit lsp f e = start _ (each (asValue refl) λ n. changes-refusals start lsp 0 n f e)
+part-refusals start limit lsp f e = start _ (each (asValue λ _. refl) λ n. changes-refusals start lsp 0 n f e)
 
 pub fields-refusals : (limit : ℕ) → Every FieldRefusal (fields limit)
 unfolding fields body lists
 fields-refusals limit =
-    each (asValue refl) λ _. each (asValue refl) λ _. each (asValue refl) λ _. each (asValue refl) λ _. each (asValue refl) λ _.
-    each (asValue refl) λ _. each (asValue refl) λ _. each (asValue refl) λ _. each (asValue refl) λ _.
-    each (asValue refl) λ lsp. each (asValue refl) λ _. each (asValue refl) λ _. each (asValue refl) λ _.
+    each (asValue λ _. refl) λ _. each (asValue λ _. refl) λ _. each (asValue λ _. refl) λ _. each (asValue λ _. refl) λ _. each (asValue λ _. refl) λ _.
+    each (asValue λ _. refl) λ _. each (asValue λ _. refl) λ _. each (asValue λ _. refl) λ _. each (asValue λ _. refl) λ _.
+    each (asValue λ _. refl) λ lsp. each (asValue λ _. refl) λ _. each (asValue λ _. refl) λ _. each (asValue λ _. refl) λ _.
     part-refusals profile-refusals 31 lsp _ (part-refusals voltage-refusals limit lsp _ (part-refusals current-refusals limit lsp _ atEnd))
 
 -- ---- the refusals are those listed
 
-listed : {C : Type 0} {k : Kind} → FieldRefusal k → (k .refusal ≡ 4 → C) → (k .refusal ≡ 5 → C) → C
-listed (asValue e) value location = value e
-listed (asLocation last lsp e) value location = location (ap (λ (k : Kind). k .refusal) e)
+pub listed : {C : Type 0} {k : Kind} → FieldRefusal k → (v : ℕ) → (k .refusal v ≡ 4 → C) → (k .refusal v ≡ 5 → C) → C
+listed (asValue e) v value location = value (e v)
+listed (asLocation last lsp e) v value location = location (ap (λ (k : Kind). k .refusal v) e)
+listed {k = k} (asEnd e) v value location = by-cases (leb v (k .largest)) (λ d. location (e v ∙ rw d)) (λ d. value (e v ∙ rw d))
 
 bits-listed : {k : Kind} {bits : List Bool} {r : ℕ} → FieldRefusal k → BitsFault k bits r → Among r packetRefusals
 bits-listed f (BitsFault.unfitting h e) = rw e (later (later (later (later (later first)))))
 bits-listed f (BitsFault.unallowed v more fits whole a e) =
-    listed f (λ q. rw (e, q) (later (later (later first)))) (λ q. rw (e, q) (later (later (later (later first)))))
+    listed f v (λ q. rw (e, q) (later (later (later first)))) (λ q. rw (e, q) (later (later (later (later first)))))
 
 pub packet-listed : (n : ℕ) {f : Format} → Every FieldRefusal f → (s : List ℕ) (r place : ℕ) → PacketGround n f s r place → Among r packetRefusals
 packet-listed n every s r place (short h e p) = rw e first
@@ -159,19 +160,19 @@ packet-listed n every s r place (inFields w (leftOver a)) = rw (a .number) (late
 packet-listed n every s r place (inPadding w l a o e) = rw e (later (later (later (later (later (later first))))))
 
 -- the refusals of a sheet's fields after the packet number, whose own is 2
-pub numbers-refusals : {f : Format} → Every FieldRefusal f → Every (λ k. Among (k .refusal) sheetRefusals) f
-numbers-refusals e = every-map (λ k f. listed f (λ q. rw q (later first)) (λ q. rw q (later (later first)))) e
+pub numbers-refusals : {f : Format} → Every FieldRefusal f → Every (λ k. (v : ℕ) → Among (k .refusal v) sheetRefusals) f
+numbers-refusals e = every-map (λ k f v. listed f v (λ q. rw q (later first)) (λ q. rw q (later (later first)))) e
 
-sheet-refusals : (limit : ℕ) → Every (λ k. Among (k .refusal) sheetRefusals) (sheetFields limit)
+sheet-refusals : (limit : ℕ) → Every (λ k. (v : ℕ) → Among (k .refusal v) sheetRefusals) (sheetFields limit)
 unfolding sheetFields
-sheet-refusals limit = each first λ _. numbers-refusals (fields-refusals limit)
+sheet-refusals limit = each (λ _. first) λ _. numbers-refusals (fields-refusals limit)
 
-groups-listed : {k : Kind} {bytes : List ℕ} {r : ℕ} → Among (k .refusal) sheetRefusals → GroupsFault k bytes r → Among r sheetRefusals
+groups-listed : {k : Kind} {bytes : List ℕ} {r : ℕ} → ((v : ℕ) → Among (k .refusal v) sheetRefusals) → GroupsFault k bytes r → Among r sheetRefusals
 groups-listed f (GroupsFault.numberless n e) = rw e (later (later (later first)))
-groups-listed f (GroupsFault.unallowed a b l e) = rw e f
+groups-listed f (GroupsFault.unallowed a b l e) = rw e (f a)
 
 -- of any tree
-pub numbers-listed : {f : Format} → Every (λ k. Among (k .refusal) sheetRefusals) f → (at : ℕ) (s : List ℕ) (r place : ℕ) → Ground sheet InSheet GroupsFault f at s r place
+pub numbers-listed : {f : Format} → Every (λ k. (v : ℕ) → Among (k .refusal v) sheetRefusals) f → (at : ℕ) (s : List ℕ) (r place : ℕ) → Ground sheet InSheet GroupsFault f at s r place
     → Among r sheetRefusals
 numbers-listed every at s r place (atField a) = groups-listed (every-front every (a .front)) (a .fault)
 numbers-listed every at s r place (leftOver a) = rw (a .number) (later (later (later first)))

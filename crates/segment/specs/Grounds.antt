@@ -1,9 +1,10 @@
 -- The ground of each refusal of a packet and of a sheet, in the document's order, for any packet number and tree. No reader is run.
 -- Assumes nothing.
 use mathlib.Core.Path.{_≡_}
-use mathlib.Core.Bool.{Bool, true}
+use mathlib.Core.Bool.{Bool, true, cond}
 use mathlib.Core.List.{List, [], _∷_, _++_}
 use Prim.Native.Nat.{ℕ, _+_, _/_, _≤_, _<_}
+use lib.Dec.{leb}
 use lib.ListN.{length}
 use Rattle.bits.specs.Bits.{fill}
 use Rattle.kinds.specs.declared.Item.{Item}
@@ -51,9 +52,10 @@ pub data PacketGround (n : ℕ) (f : Format) (s : List ℕ) (r place : ℕ) : Ty
 abbrev pub SheetGround : ℕ → List ℕ → ℕ → ℕ → Type 0
 SheetGround limit s r place = Ground sheet InSheet GroupsFault (sheetFields limit) 0 s r place
 
--- "4: a field outside its range or set", "5: a change's location ..; 4 is not given for locations of changes"
+-- "4: a field outside its range or set", "5: a change's location ..; 4 is not given for locations of changes", "5 .. for a start that is not below the end (4 where the end is no 24-bit number)"
 pub data FieldRefusal (k : Kind) : Type 0 where
-  asValue : k .refusal ≡ 4 → FieldRefusal k
+  asValue : ((v : ℕ) → k .refusal v ≡ 4) → FieldRefusal k
+  asEnd : ((v : ℕ) → k .refusal v ≡ cond (leb v (k .largest)) 5 4) → FieldRefusal k
   asLocation : (last lsp : ℕ) → k ≡ dLocation last lsp → FieldRefusal k
 
 -- "A packet is judged 1, 2, 3, then .. 6 before 4 or 5 .., then 7", "13 is new": its refusals

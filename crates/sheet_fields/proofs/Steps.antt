@@ -59,7 +59,7 @@ module _ (s : List ℕ) {at : ℕ} (h : Standing s at) {a : Found} (e : a ≡ fo
         omega (arith, c .groups, h .inside, length-drop at s, simp length-append at l)
 
     -- a number that is none of the kind's
-    pub took-out : k .lower (a .value) ≡ none → Took k s at n (Next.Refused (k .refusal) at)
+    pub took-out : k .lower (a .value) ≡ none → Took k s at n (Next.Refused (k .refusal (a .value)) at)
     took-out o =
         took-off (sheet-seen s) judging (λ at n. Standing s at) k tt (rw o at (number-found k s at (found-value (drop at s) a e z .value)))
 
@@ -75,7 +75,7 @@ module _ (s : List ℕ) {at : ℕ} (h : Standing s at) {a : Found} (e : a ≡ fo
 
     -- the same from the one number that lowering makes
     module _ {v : ℕ} (l : v ≡ lowered k (a .value)) where
-      pub low-out : LawfulKind k → v ≡ 2 ^ k .width → Took k s at n (Next.Refused (k .refusal) at)
+      pub low-out : LawfulKind k → v ≡ 2 ^ k .width → Took k s at n (Next.Refused (k .refusal (a .value)) at)
       low-out w o = took-out (lowered-none k (a .value) v w l (omega arith))
 
       pub low-in : {to m : ℕ} → (v ≡ 2 ^ k .width → ⊥) → to ≡ at + a .count → m ≡ (n + k .width) % 2 ^ 32 → Took k s at n (Next.Is v to m)
@@ -90,7 +90,7 @@ module _ (s : List ℕ) {k : Kind} {at n : ℕ} where
   plain-on t = value-on (λ v f. f) t (over-none (t .stands))
 
 -- the same from the value that a number lowers to
-pub low-over : (s : List ℕ) {at : ℕ} → Standing s at → {a : Found} → a ≡ found (numberIn (drop at s)) → (k : Kind) (n : ℕ) → LawfulKind k → k .refusal ≡ 4
+pub low-over : (s : List ℕ) {at : ℕ} → Standing s at → {a : Found} → a ≡ found (numberIn (drop at s)) → (k : Kind) (n : ℕ) → LawfulKind k → ((b : ℕ) → k .refusal b ≡ 4)
     → {v : ℕ} → v ≡ lowered k (a .value) → {width : ℕ} → k .width ≡ width → {r : Step} → Lowers at n (a .count) v (2 ^ width) width r → Over (then k) s at n r
 low-over s {at} h {a} e k n w f {v} l {width} d t =
     by-cases (eqb (a .count) 0)
@@ -98,7 +98,7 @@ low-over s {at} h {a} e k n w f {v} l {width} d t =
     (λ b.
     let z : a .count ≡ 0 → ⊥ = eqb-false (a .count) 0 b in
     by-cases (eqb v (2 ^ width))
-    (λ c. let o : v ≡ 2 ^ width = eqb-true v (2 ^ width) c in rw (t .out z o) (subst (λ (m : ℕ). Over (then k) s at n (Refused m at)) f (plain-off s (low-out s h e k n z l w (rw d o)))))
+    (λ c. let o : v ≡ 2 ^ width = eqb-true v (2 ^ width) c in rw (t .out z o) (subst (λ (m : ℕ). Over (then k) s at n (Refused m at)) (f (a .value)) (plain-off s (low-out s h e k n z l w (rw d o)))))
     (λ c. let o : v ≡ 2 ^ width → ⊥ = eqb-false v (2 ^ width) c in rw (t .on z o) (plain-on s (low-in s h e k n z l (rw d o) refl (rw d)))))
 
 -- ---- ranges, and locations
@@ -125,9 +125,9 @@ module _ (last lsp v : ℕ) where
 
 -- ---- classes
 
-pub class-refusal : (q : ℕ) → class q .refusal ≡ 4
-class-refusal zero = refl
-class-refusal (suc q) = refl
+pub class-refusal : (q v : ℕ) → class q .refusal v ≡ 4
+class-refusal zero v = refl
+class-refusal (suc q) v = refl
 
 -- ---- the digits of NID_OPERATIONAL
 

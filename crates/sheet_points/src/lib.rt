@@ -1,4 +1,5 @@
 // The timing points of a journey's sheet judged, number by number.
+ghost use Rattle.format.specs.Format.{times};
 ghost use Rattle.rows.specs.Rows as rows;
 ghost use Rattle.journey.specs.Journey as journey;
 ghost use Rattle.journey.specs.Parts as parts;
@@ -58,7 +59,7 @@ fn point(s: &[u8], at: usize, n: u32) -> Step
 // The timing points of a segment.
 pub fn points(s: &[u8], at: usize, n: u32, count: u32) -> Step
     requires { ⌜ Standing (now s) at ⌝ }
-    ensures { λ r. ⌜ Over (journey.timingPoints count) (now (s .entry)) at n r ⌝ }
+    ensures { λ r. ⌜ Over (times journey.timingPoint count) (now (s .entry)) at n r ⌝ }
 {
     let mut to = at;
     let mut m = n;

@@ -26,7 +26,7 @@ pub when-is : (b : Bool) (a v : ℕ) → when b a ≡ some v → v ≡ a
 when-is true a v e = let q : a ≡ v = cc in sym q
 when-is false a v e = absurd (let z : _≡_ {A = ℕ} 0 1 = cc in omega arith)
 
-pub same-is : {width largest refusal : ℕ} {ok : ℕ → Bool} (i : Item) → InSheet (same width largest refusal ok) i → i .packet ≡ i .sheet
+pub same-is : {width largest : ℕ} {refusal : ℕ → ℕ} {ok : ℕ → Bool} (i : Item) → InSheet (same width largest refusal ok) i → i .packet ≡ i .sheet
 same-is {ok = ok} i g = when-is (ok (i .sheet)) (i .sheet) (i .packet) (g .lowered)
 
 class-is : (q : ℕ) (i : Item) → InSheet (class q) i → class q .raise (i .packet) ≡ i .sheet

@@ -16,14 +16,14 @@ use Rattle.numbers.specs.Groups.{Put}
 use Rattle.kinds.specs.declared.Item.{Item}
 use Rattle.kinds.specs.Kind.{Kind}
 use Rattle.kinds.specs.Judged.{valueInPacket}
-use Rattle.format.specs.Format.{Format, end, field, FieldStep, step, stop, Medium}
+use Rattle.format.specs.Format.{Format, end, field, times, FieldStep, step, stop, Medium}
 use Rattle.format.specs.Places.{Taken, Placed, takenAt, bitsTaken}
 use Rattle.format.specs.Pass.{ofStep, pass}
 use Rattle.format.specs.Ways.{Got, Took, Left, Ahead}
 use Rattle.format.specs.Tasks.{Told}
 use Rattle.format.proofs.Places.{bits-short, bits-whole}
 use Rattle.format.proofs.Passing.{packet-seen}
-use Rattle.format.proofs.Ways.{over-on, took-is, took-off, left-all, left-none, left-as, left-on, left-value, ahead-first, ahead-value, ahead-left, ahead-never}
+use Rattle.format.proofs.Ways.{over-on, took-is, took-off, left-all, left-none, left-as, left-on, left-value, times-more, times-none, ahead-first, ahead-value, ahead-left, ahead-never}
 use Rattle.write_element.specs.Writing.{writing, putting, Reads, writer, Fits, PartWritable, Wrote}
 
 -- ---- a pass that writes never goes back, and its room stays as long as it is
@@ -89,7 +89,7 @@ module _ (s : List ℕ) (stop : ℕ) where
         }
 
     not-there : k .width ≤ stop - at → k .allowed value ≡ false → Puts k s stop at p (k .width) value
-    not-there l e = let q : Taken.Refused (k .refusal) ≡ takenAt (valueInPacket k value) (at + k .width) = rw e in never (q ∙ bits-whole k s at stop l)
+    not-there l e = let q : Taken.Refused (k .refusal value) ≡ takenAt (valueInPacket k value) (at + k .width) = rw e in never (q ∙ bits-whole k s at stop l)
 
     field-puts : Puts k s stop at p (k .width) (fieldAt s at (k .width))
     field-puts =
@@ -122,6 +122,21 @@ module _ (s : List ℕ) (stop : ℕ) where
 
       pub along-on : {a : ℕ} {z : Put} → Wrote q s stop to y a z → Along p r at x a z
       along-on o = record { left = left-on q r (l .left) (o .over); long = o .long ∙ l .long }
+
+  -- a part so many times: one more, and none left
+  module _ {p : Format → Format} (part : Format → Format) {n at to : ℕ} {x y : Put} (l : Along p (times part n) at x to y) where
+    module _ (some : 0 < n) where
+      more : Along p (λ f. part (times part (n - 1) f)) at x to y
+      more = along-as (λ f. part (times part (n - 1) f)) (times-more part n some) l
+
+      pub times-next : PartWritable p s stop at x → PartWritable part s stop to y
+      times-next h = along-next part (times part (n - 1)) more h
+
+      pub times-on : {a : ℕ} {z : Put} → Wrote part s stop to y a z → Along p (times part (n - 1)) at x a z
+      times-on o = along-on part (times part (n - 1)) more o
+
+    pub times-end : n ≤ 0 → Wrote p s stop at x to y
+    times-end h = along-none (along-as (λ f. f) (times-none part n h) l)
 
   pub wrote-on : (p q : Format → Format) {at to a : ℕ} {x y z : Put} → Wrote p s stop at x to y → Wrote q s stop to y a z → Wrote (λ f. p (q f)) s stop at x a z
   wrote-on p q o w = record { over = over-on (o .over) (w .over); long = w .long ∙ o .long }

@@ -3,10 +3,10 @@
 use mathlib.Core.List.{List}
 use Prim.Native.Nat.{ℕ}
 use Rattle.kinds.specs.Kinds.{nIter}
-use Rattle.format.specs.Format.{Format, field, then}
+use Rattle.format.specs.Format.{Format, field, then, times}
 use Rattle.rows.specs.Rows.{row}
 use Rattle.journey_kinds.specs.Kinds.{qJpStatus, nIterSp}
-use Rattle.journey.specs.Journey.{timingPoints, journeySegment, journeySegments, constraints}
+use Rattle.journey.specs.Journey.{timingPoint, journeySegment, constraints}
 use Rattle.journey.specs.Parts.{segmentWidths, segmentMost, journeyBodyPart}
 use Rattle.journey.proofs.Parts.{segment-rows}
 use Rattle.fill_element.specs.declared.Spot.{Spot}
@@ -25,7 +25,7 @@ abbrev last : Format → Format
 last f = then (nIter constraints) f
 
 abbrev rest : Format → Format
-rest f = field (nIter 31) λ n. timingPoints n (last f)
+rest f = field (nIter 31) λ n. times timingPoint n (last f)
 
 module _ {s room : List ℕ} {p : Spot} (h : Ready (journeySegment constraints) s room p) where
   segment-all : Along (journeySegment constraints) (λ f. names (rest f)) s room p room p
@@ -36,18 +36,18 @@ module _ {s room : List ℕ} {p : Spot} (h : Ready (journeySegment constraints) 
 
   module _ {mid : List ℕ} {q : Spot} (a : Wrote names s room p mid q) where
     pub segment-count : Offers (nIter 31) s mid q
-    segment-count = along-offers (nIter 31) (λ n f. timingPoints n (last f)) (along-on names rest segment-all a) h
+    segment-count = along-offers (nIter 31) (λ n f. times timingPoint n (last f)) (along-on names rest segment-all a) h
 
     module _ {end : List ℕ} {r : Given} (g : Gives (nIter 31) s mid q end r) where
-      after-count : Along (journeySegment constraints) (λ f. timingPoints (r .value) (last f)) s room p end (r .next)
-      after-count = along-gives (nIter 31) (λ n f. timingPoints n (last f)) (along-on names rest segment-all a) g
+      after-count : Along (journeySegment constraints) (λ f. times timingPoint (r .value) (last f)) s room p end (r .next)
+      after-count = along-gives (nIter 31) (λ n f. times timingPoint n (last f)) (along-on names rest segment-all a) g
 
-      pub segment-points : Ready (timingPoints (r .value)) s end (r .next)
-      segment-points = along-next (timingPoints (r .value)) last after-count h
+      pub segment-points : Ready (times timingPoint (r .value)) s end (r .next)
+      segment-points = along-next (times timingPoint (r .value)) last after-count h
 
-      module _ {far : List ℕ} {t : Spot} (w : Wrote (timingPoints (r .value)) s end (r .next) far t) where
+      module _ {far : List ℕ} {t : Spot} (w : Wrote (times timingPoint (r .value)) s end (r .next) far t) where
         after-points : Along (journeySegment constraints) last s room p far t
-        after-points = along-on (timingPoints (r .value)) last after-count w
+        after-points = along-on (times timingPoint (r .value)) last after-count w
 
         pub segment-last : Offers (nIter constraints) s far t
         segment-last = along-offers (nIter constraints) (λ n f. f) after-points h
@@ -58,7 +58,7 @@ module _ {s room : List ℕ} {p : Spot} (h : Ready (journeySegment constraints) 
 -- ---- the body
 
 abbrev counted : Format → Format
-counted f = field nIterSp λ n. journeySegments constraints n f
+counted f = field nIterSp λ n. times (journeySegment constraints) n f
 
 module _ {s room : List ℕ} {p : Spot} (h : Ready journeyBodyPart s room p) where
   pub body-status : Offers qJpStatus s room p
@@ -69,14 +69,14 @@ module _ {s room : List ℕ} {p : Spot} (h : Ready journeyBodyPart s room p) whe
     after-status = along-gives qJpStatus (λ n. counted) (along-all h) a
 
     pub body-count : Offers nIterSp s mid (q .next)
-    body-count = along-offers nIterSp (journeySegments constraints) after-status h
+    body-count = along-offers nIterSp (times (journeySegment constraints)) after-status h
 
     module _ {end : List ℕ} {r : Given} (g : Gives nIterSp s mid (q .next) end r) where
-      after-segments : Along journeyBodyPart (journeySegments constraints (r .value)) s room p end (r .next)
-      after-segments = along-gives nIterSp (journeySegments constraints) after-status g
+      after-segments : Along journeyBodyPart (times (journeySegment constraints) (r .value)) s room p end (r .next)
+      after-segments = along-gives nIterSp (times (journeySegment constraints)) after-status g
 
-      pub body-segments : Ready (journeySegments constraints (r .value)) s end (r .next)
-      body-segments = along-next (journeySegments constraints (r .value)) (λ f. f) after-segments h
+      pub body-segments : Ready (times (journeySegment constraints) (r .value)) s end (r .next)
+      body-segments = along-next (times (journeySegment constraints) (r .value)) (λ f. f) after-segments h
 
-      pub body-wrote : {far : List ℕ} {t : Spot} → Wrote (journeySegments constraints (r .value)) s end (r .next) far t → Wrote journeyBodyPart s room p far t
-      body-wrote w = along-none (along-on (journeySegments constraints (r .value)) (λ f. f) after-segments w)
+      pub body-wrote : {far : List ℕ} {t : Spot} → Wrote (times (journeySegment constraints) (r .value)) s end (r .next) far t → Wrote journeyBodyPart s room p far t
+      body-wrote w = along-none (along-on (times (journeySegment constraints) (r .value)) (λ f. f) after-segments w)

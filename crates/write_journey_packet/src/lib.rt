@@ -1,4 +1,5 @@
 // The body of an accepted journey sheet's packet, written part by part. What was accepted is not judged again.
+ghost use Rattle.format.specs.Format.{times};
 ghost use Rattle.fill_element.specs.Writing.{Ready, Wrote};
 ghost use Rattle.journey.specs.Journey as tree;
 ghost use Rattle.journey.specs.Journey.{constraints};
@@ -21,8 +22,8 @@ const VERSION: u32 = MSpVersion::WIDTH + MSpVersion::WIDTH + QSpDir::WIDTH;
 
 // The timing points of a segment.
 fn points(sheet: &[u8], room: &mut [u8], from: Spot, count: u32) -> Spot
-    requires { ⌜ Ready (tree.timingPoints count) (now sheet) (now room) from ⌝ }
-    ensures { λ r. ⌜ Wrote (tree.timingPoints count) (now (sheet .entry)) (now (room .entry)) from (now (room .exit)) r ⌝ }
+    requires { ⌜ Ready (times tree.timingPoint count) (now sheet) (now room) from ⌝ }
+    ensures { λ r. ⌜ Wrote (times tree.timingPoint count) (now (sheet .entry)) (now (room .entry)) from (now (room .exit)) r ⌝ }
 {
     let mut p = from;
     let mut left = count;
@@ -67,8 +68,8 @@ fn segment(sheet: &[u8], room: &mut [u8], p: Spot) -> Spot
 
 // The segments of the journey.
 fn segments(sheet: &[u8], room: &mut [u8], from: Spot, count: u32) -> Spot
-    requires { ⌜ Ready (tree.journeySegments constraints count) (now sheet) (now room) from ⌝ }
-    ensures { λ r. ⌜ Wrote (tree.journeySegments constraints count) (now (sheet .entry)) (now (room .entry)) from (now (room .exit)) r ⌝ }
+    requires { ⌜ Ready (times (tree.journeySegment constraints) count) (now sheet) (now room) from ⌝ }
+    ensures { λ r. ⌜ Wrote (times (tree.journeySegment constraints) count) (now (sheet .entry)) (now (room .entry)) from (now (room .exit)) r ⌝ }
 {
     let mut p = from;
     let mut rest = count;

@@ -8,10 +8,10 @@ use lib.Seq.{sets}
 use Rattle.bits.specs.Bits.{fieldAt}
 use Rattle.numbers.specs.Groups.{Put}
 use Rattle.kinds.specs.Kinds.{nidOperational}
-use Rattle.format.specs.Format.{Format, end, field, then}
+use Rattle.format.specs.Format.{Format, end, field, then, times}
 use Rattle.rows.specs.Rows.{row}
 use Rattle.journey_kinds.specs.Kinds.{qJpStatus, nIterSp}
-use Rattle.journey.specs.Journey.{journeyBody, journeyFields, journeySegments, constraints}
+use Rattle.journey.specs.Journey.{journeyBody, journeyFields, journeySegment, constraints}
 use Rattle.journey.specs.Parts.{headerWidths, headerMost, journeyBodyPart, journeyPart}
 use Rattle.journey.proofs.Parts.{header-rows, header-fits}
 use Rattle.write_element.specs.Writing.{filled, PartWritable, Wrote}
@@ -28,28 +28,28 @@ parts = refl
 
 module _ (s : List ℕ) (stop : ℕ) {p : Put} (h : PartWritable journeyPart s stop 24 p) where
   abbrev counted : ℕ → Format → Format
-  counted u f = field nIterSp λ n. journeySegments constraints n f
+  counted u f = field nIterSp λ n. times (journeySegment constraints) n f
 
-  head-rowing : (n : ℕ) → n ≡ fieldAt s 123 8 → Rowing s stop 24 p journeyPart (journeySegments constraints n) headWidths
+  head-rowing : (n : ℕ) → n ≡ fieldAt s 123 8 → Rowing s stop 24 p journeyPart (times (journeySegment constraints) n) headWidths
   head-rowing n e =
       let start = rowing-as s stop 24 p (λ f. then nidOperational (row headerWidths headerMost (journeyBodyPart f))) (λ f. header-rows (journeyBodyPart f)) (rowing-none s stop 24 p h) in
       let train = rowing-field s stop 24 p [] h nidOperational (λ u f. row headerWidths headerMost (journeyBodyPart f)) 32 refl (λ v. refl) start _ refl in
       let header = rowing-row s stop 24 p (32 ∷ []) h journeyBodyPart headerWidths headerMost header-fits train in
       let status = rowing-field s stop 24 p (32 ∷ headerWidths) h qJpStatus counted 3 refl (λ v. refl) header _ refl in
-      rowing-field s stop 24 p (32 ∷ headerWidths ++ 3 ∷ []) h nIterSp (journeySegments constraints) 8 refl (λ v. refl) status n e
+      rowing-field s stop 24 p (32 ∷ headerWidths ++ 3 ∷ []) h nIterSp (times (journeySegment constraints)) 8 refl (λ v. refl) status n e
 
   pub head-row : Row s 24 headWidths p
   head-row = rowing-here s stop 24 p (head-rowing _ refl)
 
   module _ {q : Put} (c : q ≡ copied s 24 headWidths p) {n : ℕ} (e : n ≡ fieldAt s 123 8) where
-    at-segments : Along s stop journeyPart (journeySegments constraints n) 24 p 131 q
+    at-segments : Along s stop journeyPart (times (journeySegment constraints) n) 24 p 131 q
     at-segments = rw c (head-rowing n e .along)
 
-    pub segments-writable : PartWritable (journeySegments constraints n) s stop 131 q
+    pub segments-writable : PartWritable (times (journeySegment constraints) n) s stop 131 q
     segments-writable = along-here s stop at-segments h
 
-    pub journey-wrote : {to : ℕ} {r : Put} → Wrote (journeySegments constraints n) s stop 131 q to r → Wrote journeyPart s stop 24 p to r
-    journey-wrote o = along-none s stop (along-on s stop (journeySegments constraints n) (λ f. f) at-segments o)
+    pub journey-wrote : {to : ℕ} {r : Put} → Wrote (times (journeySegment constraints) n) s stop 131 q to r → Wrote journeyPart s stop 24 p to r
+    journey-wrote o = along-none s stop (along-on s stop (times (journeySegment constraints) n) (λ f. f) at-segments o)
 
 module _ (s : List ℕ) (stop : ℕ) (room : List ℕ) (start : ℕ) (h : JourneyWritable s stop room start × (8 ≤ length s)) where
   pub journey-writable : PartWritable journeyPart s stop 24 (filled room start)

@@ -1,8 +1,8 @@
--- A segment of an accepted journey, part after part; and one more of those that are left.
+-- A segment of an accepted journey, part after part.
 -- Assumes nothing.
 use mathlib.Core.Path.{_≡_, refl}
 use mathlib.Core.List.{List, []}
-use Prim.Native.Nat.{ℕ, zero, suc, _+_, _*_, _-_, _≤_, _<_}
+use Prim.Native.Nat.{ℕ, _+_, _*_, _≤_, _<_}
 use native.Mathlib.Nat.{le-refl}
 use native.Mathlib.Omega.{arith}
 use lib.Dec.{lit<, lit≤}
@@ -12,22 +12,20 @@ use Rattle.bits.proofs.Fields.{field-small}
 use Rattle.numbers.specs.Numbers.{groupsIn}
 use Rattle.numbers.specs.Groups.{Put}
 use Rattle.kinds.specs.Kinds.{nIter}
-use Rattle.format.specs.Format.{Format, field, then}
+use Rattle.format.specs.Format.{Format, field, then, times}
 use Rattle.rows.specs.Rows.{row}
-use Rattle.journey.specs.Journey.{timingPoints, journeySegment, journeySegments}
+use Rattle.journey.specs.Journey.{timingPoint, journeySegment}
 use Rattle.journey.specs.Parts.{segmentWidths, segmentMost}
 use Rattle.journey.proofs.Parts.{segment-rows, segment-fits}
 use Rattle.write_element.specs.Writing.{putting, PartWritable, Wrote}
-use Rattle.write_element.proofs.Writing.{Along, along-as, along-here, along-next, along-on, along-none, along-put, field-here, field-read}
+use Rattle.write_element.proofs.Writing.{Along, along-here, along-next, along-on, along-none, along-put, field-here, field-read}
 use Rattle.write_row.specs.Row.{Row, copied}
 use Rattle.write_row.proofs.Tree.{Rowing, rowing-none, rowing-as, rowing-row, rowing-field, rowing-here}
 use Rattle.write_journey_rows.specs.Widths.{startWidths}
 
--- ---- a segment
-
 module _ (s : List ℕ) (stop limit : ℕ) {at : ℕ} {p : Put} (h : PartWritable (journeySegment limit) s stop at p) where
   abbrev listed : ℕ → Format → Format
-  listed n f = timingPoints n (then (nIter limit) f)
+  listed n f = times timingPoint n (then (nIter limit) f)
 
   start-rowing : (n : ℕ) → n ≡ fieldAt s (at + 59) 5 → Rowing s stop at p (journeySegment limit) (listed n) startWidths
   start-rowing n e =
@@ -42,12 +40,12 @@ module _ (s : List ℕ) (stop limit : ℕ) {at : ℕ} {p : Put} (h : PartWritabl
     at-points : Along s stop (journeySegment limit) (listed n) at p (at + 64) q
     at-points = rw c (start-rowing n e .along)
 
-    pub points-writable : PartWritable (timingPoints n) s stop (at + 64) q
-    points-writable = along-next s stop (timingPoints n) (then (nIter limit)) at-points h
+    pub points-writable : PartWritable (times timingPoint n) s stop (at + 64) q
+    points-writable = along-next s stop (times timingPoint n) (then (nIter limit)) at-points h
 
-    module _ {to : ℕ} {r : Put} (w : Wrote (timingPoints n) s stop (at + 64) q to r) where
+    module _ {to : ℕ} {r : Put} (w : Wrote (times timingPoint n) s stop (at + 64) q to r) where
       at-last : Along s stop (journeySegment limit) (then (nIter limit)) at p to r
-      at-last = along-on s stop (timingPoints n) (then (nIter limit)) at-points w
+      at-last = along-on s stop (times timingPoint n) (then (nIter limit)) at-points w
 
       last : PartWritable (then (nIter limit)) s stop to r
       last = along-here s stop at-last h
@@ -61,25 +59,3 @@ module _ (s : List ℕ) (stop limit : ℕ) {at : ℕ} {p : Put} (h : PartWritabl
 
         pub segment-wrote : {t : Put} → t ≡ putting r v → Wrote (journeySegment limit) s stop at p (to + 5) t
         segment-wrote g = along-none s stop (along-put s stop (nIter limit) (λ v f. f) 5 refl at-last h v d (to + 5) refl g)
-
--- ---- one more segment of those that are left
-
-segments-more : (limit n : ℕ) → 0 < n → (f : Format) → journeySegments limit n f ≡ journeySegment limit (journeySegments limit (n - 1) f)
-unfolding journeySegments
-segments-more limit zero h f = absurd (omega arith)
-segments-more limit (suc n) h f = let e : suc n - 1 ≡ n = omega arith in rw e
-
-pub segments-none : (limit n : ℕ) → n ≤ 0 → (f : Format) → journeySegments limit n f ≡ f
-unfolding journeySegments
-segments-none limit zero h f = refl
-segments-none limit (suc n) h f = absurd (omega arith)
-
-module _ (s : List ℕ) (stop limit : ℕ) {o : Format → Format} {at to n : ℕ} {x y : Put} (l : 0 < n) (a : Along s stop o (journeySegments limit n) at x to y) where
-  next : Along s stop o (λ f. journeySegment limit (journeySegments limit (n - 1) f)) at x to y
-  next = along-as s stop (λ f. journeySegment limit (journeySegments limit (n - 1) f)) (segments-more limit n l) a
-
-  pub segment-writable : PartWritable o s stop at x → PartWritable (journeySegment limit) s stop to y
-  segment-writable h = along-next s stop (journeySegment limit) (journeySegments limit (n - 1)) next h
-
-  pub segments-step : {b : ℕ} {z : Put} → Wrote (journeySegment limit) s stop to y b z → Along s stop o (journeySegments limit (n - 1)) at x b z
-  segments-step w = along-on s stop (journeySegment limit) (journeySegments limit (n - 1)) next w

@@ -1,34 +1,21 @@
--- A timing point of an accepted journey, and one more of the parts that repeat.
+-- A timing point of an accepted journey, and one more of those that are left.
 -- Assumes nothing.
 use mathlib.Core.Path.{_≡_, refl}
 use mathlib.Core.List.{List, [], _∷_, _++_}
-use Prim.Native.Nat.{ℕ, zero, suc, _+_, _-_, _≤_, _<_}
-use native.Mathlib.Omega.{arith}
+use Prim.Native.Nat.{ℕ, _+_, _-_, _<_}
 use Rattle.bits.specs.Bits.{fieldAt}
 use Rattle.numbers.specs.Groups.{Put}
-use Rattle.format.specs.Format.{Format, field}
+use Rattle.format.specs.Format.{Format, field, times}
 use Rattle.rows.specs.Rows.{row}
 use Rattle.journey_kinds.specs.Kinds.{qStopSkipPasses}
-use Rattle.journey.specs.Journey.{timingPoint, timingPoints}
+use Rattle.journey.specs.Journey.{timingPoint}
 use Rattle.journey.specs.Parts.{arrivalWidths, arrivalMost, stoppingWidths, stoppingMost}
 use Rattle.journey.proofs.Parts.{point-rows, arrival-fits, stopping-fits}
 use Rattle.write_element.specs.Writing.{PartWritable, Wrote}
-use Rattle.write_element.proofs.Writing.{Along, along-as, along-next, along-on, along-none}
+use Rattle.write_element.proofs.Writing.{Along, along-none, times-next, times-on}
 use Rattle.write_row.specs.Row.{Row, copied}
 use Rattle.write_row.proofs.Tree.{Rowing, rowing-none, rowing-row, rowing-field, rowing-as, rowing-here}
 use Rattle.write_journey_rows.specs.Widths.{pointWidths}
-
--- ---- one more
-
-pub points-more : (n : ℕ) → 0 < n → (f : Format) → timingPoints n f ≡ timingPoint (timingPoints (n - 1) f)
-unfolding timingPoints
-points-more zero h f = absurd (omega arith)
-points-more (suc n) h f = let e : suc n - 1 ≡ n = omega arith in rw e
-
-pub points-none : (n : ℕ) → n ≤ 0 → (f : Format) → timingPoints n f ≡ f
-unfolding timingPoints
-points-none zero h f = refl
-points-none (suc n) h f = absurd (omega arith)
 
 -- ---- a timing point is a row
 
@@ -52,15 +39,12 @@ module _ (s : List ℕ) (stop : ℕ) {at : ℕ} {p : Put} (h : PartWritable timi
 
 -- ---- one more timing point of those that are left
 
-module _ (s : List ℕ) (stop : ℕ) {o : Format → Format} {at to n : ℕ} {x y : Put} (l : 0 < n) (a : Along s stop o (timingPoints n) at x to y) (h : PartWritable o s stop at x) where
-  next : Along s stop o (λ f. timingPoint (timingPoints (n - 1) f)) at x to y
-  next = along-as s stop (λ f. timingPoint (timingPoints (n - 1) f)) (points-more n l) a
-
+module _ (s : List ℕ) (stop : ℕ) {o : Format → Format} {at to n : ℕ} {x y : Put} (l : 0 < n) (a : Along s stop o (times timingPoint n) at x to y) (h : PartWritable o s stop at x) where
   here : PartWritable timingPoint s stop to y
-  here = along-next s stop timingPoint (timingPoints (n - 1)) next h
+  here = times-next s stop timingPoint a l h
 
   pub points-row : Row s to pointWidths y
   points-row = rowing-here s stop to y (point-rowing s stop here)
 
-  pub points-step : {z : Put} → z ≡ copied s to pointWidths y → Along s stop o (timingPoints (n - 1)) at x (to + 129) z
-  points-step e = rw e (along-on s stop timingPoint (timingPoints (n - 1)) next (point-wrote s stop here))
+  pub points-step : {z : Put} → z ≡ copied s to pointWidths y → Along s stop o (times timingPoint (n - 1)) at x (to + 129) z
+  points-step e = rw e (times-on s stop timingPoint a l (point-wrote s stop here))

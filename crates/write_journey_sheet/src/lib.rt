@@ -3,7 +3,8 @@ ghost use mathlib.Core.Path.{_≡_};
 ghost use Prim.Native.Nat.{_+_, _*_, _≤_};
 ghost use lib.ListN.{length};
 ghost use lib.Seq.{sets};
-ghost use Rattle.journey.specs.Journey.{timingPoints, journeySegment, journeySegments, constraints};
+ghost use Rattle.format.specs.Format.{times};
+ghost use Rattle.journey.specs.Journey.{timingPoint, journeySegment, constraints};
 ghost use Rattle.write_element.specs.Writing.{filled, PartWritable, Wrote};
 ghost use Rattle.write_journey_sheet.specs.Sheet.{journeyOf, JourneyWritable};
 use kinds::body::NIter;
@@ -21,8 +22,8 @@ const START: usize = 64;
 
 // The timing points of a segment.
 fn points(packet: &[u8], stop: usize, at: usize, count: u32, room: &mut [u8], n: usize) -> usize
-    requires { ⌜ PartWritable (timingPoints count) (now packet) stop at (filled (now room) n) ⌝ }
-    ensures { λ r. ⌜ Wrote (timingPoints count) (now (packet .entry)) stop at (filled (now (room .entry)) n) (at + 129 * count) (filled (now (room .exit)) r) ⌝ }
+    requires { ⌜ PartWritable (times timingPoint count) (now packet) stop at (filled (now room) n) ⌝ }
+    ensures { λ r. ⌜ Wrote (times timingPoint count) (now (packet .entry)) stop at (filled (now (room .entry)) n) (at + 129 * count) (filled (now (room .exit)) r) ⌝ }
 {
     let mut to = at;
     let mut m = n;
@@ -54,8 +55,8 @@ fn segment(packet: &[u8], stop: usize, at: usize, room: &mut [u8], n: usize) -> 
 
 // The segments of a journey.
 fn segments(packet: &[u8], stop: usize, at: usize, count: u32, room: &mut [u8], n: usize) -> Spot
-    requires { ⌜ PartWritable (journeySegments constraints count) (now packet) stop at (filled (now room) n) ⌝ }
-    ensures { λ r. ⌜ Wrote (journeySegments constraints count) (now (packet .entry)) stop at (filled (now (room .entry)) n) (r .at) (filled (now (room .exit)) (r .n)) ⌝ }
+    requires { ⌜ PartWritable (times (journeySegment constraints) count) (now packet) stop at (filled (now room) n) ⌝ }
+    ensures { λ r. ⌜ Wrote (times (journeySegment constraints) count) (now (packet .entry)) stop at (filled (now (room .entry)) n) (r .at) (filled (now (room .exit)) (r .n)) ⌝ }
 {
     let mut to = at;
     let mut m = n;

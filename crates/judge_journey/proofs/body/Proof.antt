@@ -1,7 +1,8 @@
 -- `judge_journey::body` meets its contract.
 use lib.Dec.{lit≤}
+use Rattle.format.specs.Format.{times}
 use Rattle.format.proofs.Ways.{over-on, over-off, value-on, value-off}
-use Rattle.journey.specs.Journey.{journeySegments, constraints}
+use Rattle.journey.specs.Journey.{journeySegment, constraints}
 use borrow.Author.Needs.{needs}
 use Rattle.judge_journey.proofs.body.Statement.{statement}
 use Rattle.judge_journey.proofs.body.Tie as tie
@@ -39,12 +40,12 @@ returns c = over-off (rw (c .before .r .given .1, c .before .before .before .bef
 returns-2 : tie.Need-returns-2
 returns-2 c =
     over-on (rw (c .before .before .before .before .before .before .at2 .given .1, c .before .before .before .before .before .before .before .before .before .rule .ensures .kind) at (c .before .before .before .before .before .before .before .before .plain .ensures))
-    (value-off (journeySegments constraints) (rw (c .before .r2 .given .1, c .before .before .before .before .rule2 .ensures .kind) at (c .before .before .before .field .ensures)))
+    (value-off (times (journeySegment constraints)) (rw (c .before .r2 .given .1, c .before .before .before .before .rule2 .ensures .kind) at (c .before .before .before .field .ensures)))
 
 returns-3 : tie.Need-returns-3
 returns-3 c =
     over-on (rw (c .before .before .before .before .before .before .before .at2 .given .1, c .before .before .before .before .before .before .before .before .before .before .rule .ensures .kind) at (c .before .before .before .before .before .before .before .before .before .plain .ensures))
-    (value-on (journeySegments constraints) (rw (c .before .before .count .given .1, c .before .before .before .before .before .rule2 .ensures .kind) at (c .before .before .before .before .field .ensures)) (c .segments .ensures))
+    (value-on (times (journeySegment constraints)) (rw (c .before .before .count .given .1, c .before .before .before .before .before .rule2 .ensures .kind) at (c .before .before .before .before .field .ensures)) (c .segments .ensures))
 
 pub body-spec : {M : Type 1} → statement M
 body-spec =

@@ -1,8 +1,8 @@
 -- `judge_journey_sheet::body` meets its contract.
-use Rattle.format.specs.Format.{field}
+use Rattle.format.specs.Format.{field, times}
 use Rattle.format.proofs.Ways.{value-on, value-off}
 use Rattle.journey_kinds.specs.Kinds.{nIterSp}
-use Rattle.journey.specs.Journey.{journeySegments, constraints}
+use Rattle.journey.specs.Journey.{journeySegment, constraints}
 use borrow.Author.Needs.{needs}
 use Rattle.judge_journey_sheet.proofs.body.Statement.{statement}
 use Rattle.judge_journey_sheet.proofs.body.Tie as tie
@@ -29,13 +29,13 @@ segments-requires : tie.Need-segments-requires
 segments-requires c κs = (rw (c .before .count .given .1) at (c .before .before .before .ranged2 .ensures)) .stands
 
 returns : tie.Need-returns
-returns c = value-off (λ v f. field nIterSp (λ n. journeySegments constraints n f)) (rw (c .before .r .given .1) at (c .before .before .before .ranged .ensures))
+returns c = value-off (λ v f. field nIterSp (λ n. times (journeySegment constraints) n f)) (rw (c .before .r .given .1) at (c .before .before .before .ranged .ensures))
 
 returns-2 : tie.Need-returns-2
-returns-2 c = value-on (λ v f. field nIterSp (λ n. journeySegments constraints n f)) (rw (c .before .before .before .before .before .at2 .given .1) at (c .before .before .before .before .before .before .before .ranged .ensures)) (value-off (journeySegments constraints) (rw (c .before .r2 .given .1) at (c .before .before .before .ranged2 .ensures)))
+returns-2 c = value-on (λ v f. field nIterSp (λ n. times (journeySegment constraints) n f)) (rw (c .before .before .before .before .before .at2 .given .1) at (c .before .before .before .before .before .before .before .ranged .ensures)) (value-off (times (journeySegment constraints)) (rw (c .before .r2 .given .1) at (c .before .before .before .ranged2 .ensures)))
 
 returns-3 : tie.Need-returns-3
-returns-3 c = value-on (λ v f. field nIterSp (λ n. journeySegments constraints n f)) (rw (c .before .before .before .before .before .before .at2 .given .1) at (c .before .before .before .before .before .before .before .before .ranged .ensures)) (value-on (journeySegments constraints) (rw (c .before .before .count .given .1) at (c .before .before .before .before .ranged2 .ensures)) (c .segments .ensures))
+returns-3 c = value-on (λ v f. field nIterSp (λ n. times (journeySegment constraints) n f)) (rw (c .before .before .before .before .before .before .at2 .given .1) at (c .before .before .before .before .before .before .before .before .ranged .ensures)) (value-on (times (journeySegment constraints)) (rw (c .before .before .count .given .1) at (c .before .before .before .before .ranged2 .ensures)) (c .segments .ensures))
 
 pub body-spec : {M : Type 1} → statement M
 body-spec =

@@ -1,16 +1,16 @@
 -- `judge_point::points` meets its contract.
 use native.Mathlib.Omega.{arith}
 use Rattle.format.specs.Ways.{Left}
-use Rattle.format.proofs.Ways.{left-all}
-use Rattle.journey.specs.Journey.{timingPoints}
+use Rattle.format.specs.Format.{times}
+use Rattle.format.proofs.Ways.{left-all, times-on, times-off, times-end}
+use Rattle.journey.specs.Journey.{timingPoint}
 use Rattle.judge_field.specs.Judging.{judge}
-use Rattle.judge_point.proofs.Looping.{points-off, points-on, points-end}
 use borrow.Author.Needs.{needs}
 use Rattle.judge_point.proofs.points.Statement.{statement}
 use Rattle.judge_point.proofs.points.Tie as tie
 
 abbrev Inv-loop : tie.InvT-loop
-Inv-loop s stop at n count to₀ m₀ left₀ to m left = Left (judge s stop) (timingPoints count) (timingPoints left) at n to m
+Inv-loop s stop at n count to₀ m₀ left₀ to m left = Left (judge s stop) (times timingPoint count) (times timingPoint left) at n to m
 
 abbrev μ-loop : tie.MeasureT-loop
 μ-loop s stop at n count to₀ m₀ left₀ to m left = left
@@ -28,7 +28,7 @@ returns : tie.Need-returns Inv-loop μ-loop
 returns c =
     let p = c .before .before .before in
     let l = p .before .before .loop in
-    points-off (l .left) (l .inv) (omega arith) (rw (c .before .r .given .1) at (p .point .ensures))
+    times-off timingPoint (l .inv) (omega arith) (rw (c .before .r .given .1) at (p .point .ensures))
 
 enum-known-a : tie.Need-enum-known-a Inv-loop μ-loop
 enum-known-a c = search needs
@@ -43,10 +43,10 @@ loop-again : tie.Need-loop-again Inv-loop μ-loop
 loop-again c =
     let p = c .before .before .before in
     let l = p .before .before .loop in
-    points-on (l .left) (l .inv) (omega arith) (rw (c .before .a .given .1) at (p .point .ensures))
+    times-on timingPoint (l .inv) (omega arith) (rw (c .before .a .given .1) at (p .point .ensures))
 
 returns-2 : tie.Need-returns-2 Inv-loop μ-loop
-returns-2 c = let l = c .before .loop in points-end (l .left) (l .inv) (omega arith)
+returns-2 c = let l = c .before .loop in times-end timingPoint (l .inv) (omega arith)
 
 pub points-spec : {M : Type 1} → statement M
 points-spec =

@@ -20,7 +20,7 @@ lowered-requires c κs = search needs
 returns : tie.Need-returns
 returns c =
     let a = c .before .before .before .before .args in
-    low-over (now (a .s)) (c .before .before .before .before .pre) (c .before .before .found-at .ensures) mCurrent (a .n) current-lawful refl (c .before .current-steps .ensures) refl (c .lowered .ensures)
+    low-over (now (a .s)) (c .before .before .before .before .pre) (c .before .before .found-at .ensures) mCurrent (a .n) current-lawful (λ _. refl) (c .before .current-steps .ensures) refl (c .lowered .ensures)
 
 pub current-spec : {M : Type 1} → statement M
 current-spec =

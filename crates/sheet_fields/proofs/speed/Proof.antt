@@ -20,7 +20,7 @@ lowered-requires c κs = search needs
 returns : tie.Need-returns
 returns c =
     let a = c .before .before .before .before .args in
-    low-over (now (a .s)) (c .before .before .before .before .pre) (c .before .before .found-at .ensures) speed (a .n) speed-lawful refl (c .before .speed-steps .ensures) refl (c .lowered .ensures)
+    low-over (now (a .s)) (c .before .before .before .before .pre) (c .before .before .found-at .ensures) speed (a .n) speed-lawful (λ _. refl) (c .before .speed-steps .ensures) refl (c .lowered .ensures)
 
 pub speed-spec : {M : Type 1} → statement M
 speed-spec = tie.close (tie.spec found-at-requires speed-steps-requires lowered-requires returns)

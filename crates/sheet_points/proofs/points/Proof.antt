@@ -1,17 +1,16 @@
 -- `sheet_points::points` meets its contract.
-use Prim.Native.Nat.{_-_}
 use Rattle.format.specs.Ways.{Left}
-use Rattle.format.proofs.Ways.{left-all, left-none, left-as, left-on, left-off}
+use Rattle.format.specs.Format.{times}
+use Rattle.format.proofs.Ways.{left-all, times-on, times-off, times-end}
 use Rattle.sheet_fields.specs.Judging.{judge}
-use Rattle.journey.specs.Journey.{timingPoint, timingPoints}
-use Rattle.sheet_points.proofs.Parts.{points-more, points-none}
+use Rattle.journey.specs.Journey.{timingPoint}
 use native.Mathlib.Omega.{arith}
 use borrow.Author.Needs.{needs}
 use Rattle.sheet_points.proofs.points.Statement.{statement}
 use Rattle.sheet_points.proofs.points.Tie as tie
 
 abbrev Inv-loop : tie.InvT-loop
-Inv-loop s at n count to₀ m₀ left₀ to m left = Left (judge s) (timingPoints count) (timingPoints left) at n to m
+Inv-loop s at n count to₀ m₀ left₀ to m left = Left (judge s) (times timingPoint count) (times timingPoint left) at n to m
 
 abbrev μ-loop : tie.MeasureT-loop
 μ-loop s at n count to₀ m₀ left₀ to m left = left
@@ -28,8 +27,7 @@ enum-known-r c = search needs
 returns : tie.Need-returns Inv-loop μ-loop
 returns c =
     let l = c .before .before .before .before .before .loop in
-    let more = left-as (λ f. timingPoint (timingPoints (l .left - 1) f)) (points-more (l .left) (omega arith)) (l .inv) in
-    left-off timingPoint (timingPoints (l .left - 1)) more (rw (c .before .r .given .1) at (c .before .before .before .point .ensures))
+    times-off timingPoint (l .inv) (omega arith) (rw (c .before .r .given .1) at (c .before .before .before .point .ensures))
 
 enum-known-a : tie.Need-enum-known-a Inv-loop μ-loop
 enum-known-a c = search needs
@@ -43,11 +41,10 @@ loop-less c = omega arith
 loop-again : tie.Need-loop-again Inv-loop μ-loop
 loop-again c =
     let l = c .before .before .before .before .before .loop in
-    let more = left-as (λ f. timingPoint (timingPoints (l .left - 1) f)) (points-more (l .left) (omega arith)) (l .inv) in
-    left-on timingPoint (timingPoints (l .left - 1)) more (rw (c .before .a .given .1) at (c .before .before .before .point .ensures))
+    times-on timingPoint (l .inv) (omega arith) (rw (c .before .a .given .1) at (c .before .before .before .point .ensures))
 
 returns-2 : tie.Need-returns-2 Inv-loop μ-loop
-returns-2 c = let l = c .before .loop in left-none (left-as (λ f. f) (points-none (l .left) (omega arith)) (l .inv))
+returns-2 c = let l = c .before .loop in times-end timingPoint (l .inv) (omega arith)
 
 pub points-spec : {M : Type 1} → statement M
 points-spec =

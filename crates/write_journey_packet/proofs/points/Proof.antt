@@ -1,14 +1,13 @@
 -- `write_journey_packet::points` meets its contract. The loop's invariant: what is left of the points, after those that are put.
-use Prim.Native.Nat.{_-_}
-use Rattle.journey.specs.Journey.{timingPoint, timingPoints}
-use Rattle.fill_element.proofs.Writing.{Along, along-all, along-as, along-next, along-on, along-none}
-use Rattle.write_journey_packet.proofs.Parts.{points-more, points-none}
+use Rattle.format.specs.Format.{times}
+use Rattle.journey.specs.Journey.{timingPoint}
+use Rattle.fill_element.proofs.Writing.{Along, along-all, times-next, times-on, times-end}
 use native.Mathlib.Omega.{arith}
 use Rattle.write_journey_packet.proofs.points.Statement.{statement}
 use Rattle.write_journey_packet.proofs.points.Tie as tie
 
 abbrev Inv-loop : tie.InvT-loop
-Inv-loop sheet room₀ count p₀ left₀ room p left = Along (timingPoints count) (timingPoints left) sheet room₀ p₀ room p
+Inv-loop sheet room₀ count p₀ left₀ room p left = Along (times timingPoint count) (times timingPoint left) sheet room₀ p₀ room p
 
 abbrev μ-loop : tie.MeasureT-loop
 μ-loop sheet room₀ count p₀ left₀ room p left = left
@@ -19,8 +18,7 @@ loop-holds c = along-all (c .before .before .pre)
 point-requires : tie.Need-point-requires Inv-loop μ-loop
 point-requires c κs =
     let l = c .before .before .loop in
-    let more = along-as (λ f. timingPoint (timingPoints (l .left - 1) f)) (points-more (l .left) (omega arith)) (l .inv) in
-    along-next timingPoint (timingPoints (l .left - 1)) more (c .before .before .before .before .before .pre)
+    times-next timingPoint (l .inv) (omega arith) (c .before .before .before .before .before .pre)
 
 sub-left : tie.Need-sub-left Inv-loop μ-loop
 sub-left c = omega arith
@@ -31,8 +29,7 @@ loop-less c = omega arith
 loop-again : tie.Need-loop-again Inv-loop μ-loop
 loop-again c =
     let l = c .before .before .before .before .before .loop in
-    let more = along-as (λ f. timingPoint (timingPoints (l .left - 1) f)) (points-more (l .left) (omega arith)) (l .inv) in
-    along-on timingPoint (timingPoints (l .left - 1)) more (c .before .before .point .ensures)
+    times-on timingPoint (l .inv) (omega arith) (c .before .before .point .ensures)
 
 same-length : tie.Need-same-length Inv-loop μ-loop
 same-length c = c .before .loop .inv .puts .long
@@ -40,7 +37,7 @@ same-length c = c .before .loop .inv .puts .long
 returns : tie.Need-returns Inv-loop μ-loop
 returns c =
     let l = c .before .loop in
-    along-none (along-as (λ f. f) (points-none (l .left) (omega arith)) (l .inv))
+    times-end timingPoint (l .inv) (omega arith)
 
 pub points-spec : {M : Type 1} → statement M
 points-spec =

@@ -1,17 +1,18 @@
 -- `write_journey_sheet::points` meets its contract.
 use mathlib.Core.Path.{_≡_, refl}
 use Prim.Native.Nat.{_+_, _*_}
-use Rattle.journey.specs.Journey.{timingPoints}
+use Rattle.format.specs.Format.{times}
+use Rattle.journey.specs.Journey.{timingPoint}
 use Rattle.write_element.specs.Writing.{filled}
-use Rattle.write_element.proofs.Writing.{Along, along-all, along-as, along-none}
-use Rattle.write_journey_sheet.proofs.Timing.{points-none, points-row, points-step}
+use Rattle.write_element.proofs.Writing.{Along, along-all, times-end}
+use Rattle.write_journey_sheet.proofs.Timing.{points-row, points-step}
 use native.Mathlib.Omega.{arith}
 use Rattle.write_journey_sheet.proofs.points.Statement.{statement}
 use Rattle.write_journey_sheet.proofs.points.Tie as tie
 
 abbrev Inv-loop : tie.InvT-loop
 Inv-loop packet stop at count room₀ n to₀ m₀ left₀ room to m left =
-    Along packet stop (timingPoints count) (timingPoints left) at (filled room₀ n) to (filled room m) × (to + 129 * left ≡ at + 129 * count)
+    Along packet stop (times timingPoint count) (times timingPoint left) at (filled room₀ n) to (filled room m) × (to + 129 * left ≡ at + 129 * count)
 
 abbrev μ-loop : tie.MeasureT-loop
 μ-loop packet stop at count room₀ n to₀ m₀ left₀ room to m left = left
@@ -45,7 +46,7 @@ returns c =
     let a = c .before .before .before .before .args in
     let l = c .before .loop in
     let e : a .at + 129 * a .count ≡ l .to = omega (arith, l .inv .1, c .loop-test .left) in
-    rw e (along-none _ _ (along-as _ _ (λ f. f) (points-none (l .left) (omega arith)) (l .inv .0)))
+    rw e (times-end _ _ timingPoint (l .inv .0) (omega arith))
 
 pub points-spec : {M : Type 1} → statement M
 points-spec =
