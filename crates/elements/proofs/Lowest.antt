@@ -8,12 +8,14 @@ use mir.Val.{boolByte}
 use native.Mathlib.Omega.{arith}
 use borrow.Author.Tests.{eqb-true, eqb-false, eq-eqb, ne-eqb, leb-true, leb-false, le-leb, lt-leb, ltb-true, ltb-false, lt-ltb, le-ltb}
 use lib.Dec.{eqb, ltb, leb, lit≤}
+use lib.ListN.{getD}
 use Rattle.bits.proofs.Tests.{by-cases}
+use Rattle.speed.proofs.Laws.{belongs-listed}
 use Rattle.speed.specs.declared.Train.{Train}
-use Rattle.speed.specs.Speed.{Entry, Element, belongs, notAbove, greatestFigure, greatestSpeeds, namedSpeeds, instead, elementSpeed, holds}
+use Rattle.speed.specs.Speed.{Entry, Element, belongs, memberships, notAbove, greatestFigure, greatestSpeeds, namedSpeeds, instead, elementSpeed, holds}
 use Rattle.elements.specs.declared.Lows.{Lows}
 use Rattle.elements.specs.declared.Open.{Open}
-use Rattle.elements.specs.Elements.{none, insteadFrom, lowestFrom, counted, distance, folded, counts, noFigure, foldedEntry, cantFrom, cantOf, noLows, Kept, speedFrom, speedOf, Worked, OneMore, elementWith}
+use Rattle.elements.specs.Elements.{none, insteadFrom, lowestFrom, counted, Distant, folded, counts, noFigure, foldedEntry, cantFrom, cantOf, noLows, Kept, speedFrom, speedOf, Worked, OneMore, elementWith}
 
 -- ---- one speed more
 
@@ -91,21 +93,17 @@ module _ (v : ℕ) (a b c : Entry) (l : List Entry) (greater : c .class ≡ max 
       let z : eqb (c .class) f ≡ false = ne-eqb (c .class) f (λ e. omega arith) in
       rw (p, q, z))))
 
-module _ (t : Train) (best v q class w : ℕ) (es : List Entry) (k : Kept q class w) (small : t .cant < 4294967296) (low : class < 4294967296) where
+module _ (t : Train) (best v q class w far : ℕ) (es : List Entry) (k : Kept q class w) (small : t .cant < 4294967296) (d : Distant t q class far) where
   abbrev here : Entry
   here = record { qDiff = q; class = class; vDiff = w }
 
   abbrev more : ℕ
-  more = min best (folded t q class w)
-
-  -- so far below, where it counts
-  near : q ≡ 0 → class ≤ t .cant → distance t q class ≡ t .cant - class
-  near e h = omega arith
+  more = min best (folded far w)
 
   counted-more : q ≡ 0 → class ≤ t .cant → cantFrom t more v es
       ≡ instead v (greatestSpeeds (cond (counts t best) (foldedEntry t best ∷ here ∷ notAbove t es) (here ∷ notAbove t es)))
   counted-more e h =
-      let d = near e h in
+      let n = d .below e h in
       let some : counts t more ≡ true = le-leb (more / 1024) (t .cant) (omega arith) in
       by-cases (counts t best)
       (λ z. let g = leb-true (best / 1024) (t .cant) z in
@@ -120,7 +118,7 @@ module _ (t : Train) (best v q class w : ℕ) (es : List Entry) (k : Kept q clas
       rw (z, some, a, b))
 
   -- further than all that count, where it does not
-  none-more : 4294967296 ≤ distance t q class → cantFrom t more v es ≡ cantFrom t best v es
+  none-more : 4294967296 ≤ far → cantFrom t more v es ≡ cantFrom t best v es
   none-more h =
       by-cases (counts t best)
       (λ z. let e : more ≡ best = omega (arith, leb-true (best / 1024) (t .cant) z) in rw e)
@@ -130,23 +128,22 @@ module _ (t : Train) (best v q class w : ℕ) (es : List Entry) (k : Kept q clas
   pub figure-more : cantFrom t more v es ≡ cantFrom t best v (here ∷ es)
   figure-more =
       by-cases (eqb q 0)
-      (λ d. let e = eqb-true q 0 d in
-      by-cases (leb class (t .cant))
-      (λ g. rw (d, g) (counted-more e (leb-true class (t .cant) g)))
-      (λ g. let h = leb-false class (t .cant) g in rw (d, g) (none-more (omega arith))))
-      (λ d. let e = eqb-false q 0 d in let f = k .few in rw d (none-more (omega arith)))
+      (λ z. by-cases (leb class (t .cant))
+      (λ g. rw (z, g) (counted-more (eqb-true q 0 z) (leb-true class (t .cant) g)))
+      (λ g. rw (z, g) (none-more (d .above (leb-false class (t .cant) g)))))
+      (λ z. let e = eqb-false q 0 z in rw z (none-more (d .other (omega arith))))
 
 -- ---- one entry more
 
--- the lows after it, as the code works them out: whether a train belongs to a category was asked of its class, a category where Q_DIFF is not 0
-pub low-with : (t : Train) (p q class w low : ℕ) {s so : ℕ} {m : Bool} → 0 < p → Kept q class w → (class < 3 → m ≡ belongs t class) → so ≡ counted (eqb q p && m) w → s ≡ min low so
+-- the lows after it, as the code works them out: the membership was looked up by the class, a category where Q_DIFF is not 0
+pub low-with : (t : Train) (p q class w low : ℕ) {s so : ℕ} {m : Bool} → 0 < p → Kept q class w → m ≡ getD (memberships t) (class % 32) false → so ≡ counted (eqb q p && m) w → s ≡ min low so
     → s ≡ min low (counted (eqb q p && belongs t class) w)
 low-with t p q class w low {m = m} h k a b c =
     c ∙ ap (min low)
-    (b ∙ by-cases (eqb q p) (λ d. let e : q ≡ p = eqb-true q p d in rw (d, a (k .category (omega arith)))) (λ d. rw d))
+    (b ∙ by-cases (eqb q p) (λ d. let e : q ≡ p = eqb-true q p d in rw (d, a ∙ belongs-listed t class (k .category (omega arith)))) (λ d. rw d))
 
-module _ (t : Train) (lows after : Lows) (q class w : ℕ) (k : Kept q class w) (small : t .cant < 4294967296) (low : class < 4294967296)
-    (a : after .cant ≡ min (lows .cant) (folded t q class w))
+module _ (t : Train) (lows after : Lows) (q class w far : ℕ) (k : Kept q class w) (small : t .cant < 4294967296) (d : Distant t q class far)
+    (a : after .cant ≡ min (lows .cant) (folded far w))
     (b : after .replacing ≡ min (lows .replacing) (counted (eqb q 1 && belongs t class) w))
     (c : after .lowering ≡ min (lows .lowering) (counted (eqb q 2 && belongs t class) w)) where
   pub entry-more : OneMore t lows q class w after
@@ -158,7 +155,7 @@ module _ (t : Train) (lows after : Lows) (q class w : ℕ) (k : Kept q class w) 
             a,
             b,
             c,
-            figure-more t (lows .cant) v q class w es k small low,
+            figure-more t (lows .cant) v q class w far es k small d,
             instead-more (lows .replacing) _ w (namedSpeeds t 1 es) (k .speed) (eqb q 1 && belongs t class),
             lowest-more (lows .lowering) _ w (namedSpeeds t 2 es) (k .speed) (eqb q 2 && belongs t class),
           )

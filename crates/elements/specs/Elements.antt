@@ -3,7 +3,7 @@
 use mathlib.Core.Path.{_≡_}
 use mathlib.Core.Bool.{Bool, cond}
 use mathlib.Core.List.{List, [], _∷_}
-use Prim.Native.Nat.{ℕ, _+_, _-_, _*_, _/_, _%_, _<_, min}
+use Prim.Native.Nat.{ℕ, _+_, _-_, _*_, _/_, _%_, _≤_, _<_, min}
 use lib.Dec.{ltb, leb}
 use Rattle.speed.specs.declared.Train.{Train}
 use Rattle.speed.specs.Speed.{Entry, Element, notAbove, greatestSpeeds, namedSpeeds, lowest, instead, entriesOf}
@@ -26,13 +26,16 @@ lowestFrom low v l = lowest (cond (ltb low none) (min v low) v) l
 abbrev pub counted : Bool → ℕ → ℕ
 counted so v = cond so v (v + none)
 
--- how far a figure lies below the train's, in 54 bits, whose upper ones are not 0 where it lies above or the entry has no figure
-abbrev pub distance : Train → ℕ → ℕ → ℕ
-distance t q class = (18014398509481984 + t .cant - (class + q * 4294967296)) % 18014398509481984
+-- how far an entry's figure lies below the train's; further than any cant deficiency where it has no figure, or one that lies above
+pub record Distant (t : Train) (q class far : ℕ) : Type 0 where
+  pub below : q ≡ 0 → class ≤ t .cant → far ≡ t .cant - class
+  pub above : t .cant < class → 4294967296 ≤ far
+  pub other : 0 < q → 4294967296 ≤ far
+  pub fits : far < 18014398509481984
 
 -- an entry as one number: the lower, the nearer its figure, and where that is the same, the lower its speed
-abbrev pub folded : Train → ℕ → ℕ → ℕ → ℕ
-folded t q class v = distance t q class * 1024 + v
+abbrev pub folded : ℕ → ℕ → ℕ
+folded far v = far * 1024 + v
 
 -- it counts, if its figure lies no further below the train's than that is; this one never does
 abbrev pub counts : Train → ℕ → Bool

@@ -4,7 +4,7 @@ ghost use mathlib.Core.Bool.{_&&_};
 ghost use mathlib.Core.List.{[]};
 ghost use Prim.Native.Nat.{min, _<_};
 ghost use Rattle.speed.specs.Speed.{holds};
-ghost use Rattle.elements.specs.Elements.{none, counted, distance, cantOf, noLows, insteadFrom, Kept, Worked, OneMore, elementWith};
+ghost use Rattle.elements.specs.Elements.{none, counted, Distant, cantOf, noLows, insteadFrom, Kept, Worked, OneMore, elementWith};
 use speed::Train;
 
 // Stands for no speed, as every number from it on. Speeds are below it, so that the lowest of it and another is the other, and no flag goes along.
@@ -82,10 +82,10 @@ fn counted(so: bool, member: bool, v: u32) -> u32
     v + NONE * (1 - so as u32 * member as u32)
 }
 
-// How far an entry's figure lies below the train's, by a difference that falls below 0 where it does not count.
+// How far an entry's figure lies below the train's, by a difference that wraps where it does not count.
 fn distance(train: Train, q_diff: u32, class: u32) -> u64
     requires { ⌜ «q_diff» < 4 ⌝ }
-    ensures { λ r. ⌜ r ≡ distance train «q_diff» class ⌝ }
+    ensures { λ r. ⌜ Distant train «q_diff» class r ⌝ }
 {
     (DISTANCES + train.cant as u64 - (class as u64 + q_diff as u64 * Q_DIFF)) % DISTANCES
 }

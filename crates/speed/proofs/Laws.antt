@@ -9,13 +9,15 @@ use mir.Val.{boolByte}
 use native.Mathlib.Omega.{arith}
 use borrow.Author.Tests.{le-leb, lt-leb, lt-ltb, ltb-false, ltb-true}
 use lib.Dec.{eqb, ltb, leb}
+use lib.ListN.{getD}
+use native.Mathlib.Nat.{pow-le-pow-right, div-eq-of-lt}
 use Rattle.bits.proofs.Tests.{by-cases}
 use Rattle.kinds.specs.Kinds.{class}
 use Rattle.kinds.specs.Tables.{cantFigures, place}
 use Rattle.fields.proofs.Lookup.{place-small}
 use Rattle.lowering.specs.Lowered.{valueOr, lowered}
 use Rattle.speed.specs.declared.Train.{Train}
-use Rattle.speed.specs.Speed.{found, figure, validTrain, belongs, Entry, Element, isNotAbove, notAbove, greatestFigure, isOf, figureSpeeds, cantSpeeds, namedSpeeds, lowest, instead, elementSpeed, endBefore, holds, heldSpeeds, permitted, inFives, entryInFives, elementInFives}
+use Rattle.speed.specs.Speed.{found, figure, validTrain, belongs, memberships, Entry, Element, isNotAbove, notAbove, greatestFigure, isOf, figureSpeeds, cantSpeeds, namedSpeeds, lowest, instead, elementSpeed, endBefore, holds, heldSpeeds, permitted, inFives, entryInFives, elementInFives}
 
 -- ---- somewhere an element holds
 
@@ -117,11 +119,22 @@ categories-bits false true false = (refl, refl, refl)
 categories-bits false false true = (refl, refl, refl)
 categories-bits false false false = (refl, refl, refl)
 
-pub belongs-bit : (t : Train) (c m : ℕ) → m ≡ c % 32 → c < 3 → eqb (categories t / 2 ^ m % 2) 1 ≡ belongs t c
-belongs-bit t zero m e h = let z : m ≡ 0 = omega arith in rw z (categories-bits (t .«freight_p») (t .«freight_g») (t .passenger) .0)
-belongs-bit t (suc zero) m e h = let z : m ≡ 1 = omega arith in rw z (categories-bits (t .«freight_p») (t .«freight_g») (t .passenger) .1)
-belongs-bit t (suc (suc zero)) m e h = let z : m ≡ 2 = omega arith in rw z (categories-bits (t .«freight_p») (t .«freight_g») (t .passenger) .2)
-belongs-bit t (suc (suc (suc c))) m e h = absurd (omega arith)
+-- no bit of them stands from the fourth on
+pub belongs-bit : (t : Train) (m : ℕ) → eqb (categories t / 2 ^ m % 2) 1 ≡ getD (memberships t) m false
+belongs-bit t zero = categories-bits (t .«freight_p») (t .«freight_g») (t .passenger) .0
+belongs-bit t (suc zero) = categories-bits (t .«freight_p») (t .«freight_g») (t .passenger) .1
+belongs-bit t (suc (suc zero)) = categories-bits (t .«freight_p») (t .«freight_g») (t .passenger) .2
+belongs-bit t (suc (suc (suc k))) =
+    let large : 2 ^ 3 ≤ 2 ^ suc (suc (suc k)) = pow-le-pow-right (omega arith) {i = 3} {j = suc (suc (suc k))} (omega arith) in
+    let none : categories t / 2 ^ suc (suc (suc k)) ≡ 0 = div-eq-of-lt (omega (arith, large, byte-most (t .«freight_p»), byte-most (t .«freight_g»), byte-most (t .passenger))) in
+    rw none
+
+-- of a category
+pub belongs-listed : (t : Train) (c : ℕ) → c < 3 → getD (memberships t) (c % 32) false ≡ belongs t c
+belongs-listed t zero h = refl
+belongs-listed t (suc zero) h = refl
+belongs-listed t (suc (suc zero)) h = refl
+belongs-listed t (suc (suc (suc c))) h = absurd (omega arith)
 
 -- a cant deficiency that has a place is one of the figures
 pub figure-place : (a v : ℕ) → v ≡ lowered (class 0) a → ltb v 16 ≡ figure a

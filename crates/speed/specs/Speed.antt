@@ -30,6 +30,10 @@ belongs t zero = t .«freight_p»
 belongs t (suc zero) = t .«freight_g»
 belongs t (suc (suc c)) = t .passenger
 
+-- the three in the order of the categories, as the code looks them up
+abbrev pub memberships : Train → List Bool
+memberships t = t .«freight_p» ∷ t .«freight_g» ∷ t .passenger ∷ []
+
 -- ---- "An element's speed for a train"
 
 -- "Q_DIFF 2 (0 to 2), class 4, V_DIFF 7": a specific entry, by its sheet's numbers

@@ -1,7 +1,9 @@
 // A train, and what of a segment's speed profile is meant for it.
 ghost use mathlib.Core.Path.{_≡_};
-ghost use Prim.Native.Nat.{_<_};
-ghost use Rattle.speed.specs.Speed.{validTrain, figure, belongs};
+ghost use mathlib.Core.Bool.{false};
+ghost use Prim.Native.Nat.{_%_};
+ghost use lib.ListN.{getD};
+ghost use Rattle.speed.specs.Speed.{validTrain, figure, memberships};
 use fields::tables;
 
 #[repr(C)]
@@ -40,9 +42,9 @@ pub fn valid(train: Train) -> bool
     is_figure(train.cant)
 }
 
-// Whether a train belongs to a category: its bit among the train's three, with no branch on it. Of another number it says nothing.
+// Whether a train belongs to a category: its bit among the train's three, with no branch on it. A shift takes its count modulo 32.
 pub fn belongs_to(train: Train, category: u32) -> bool
-    ensures { λ r. ⌜ (category < 3 → r ≡ belongs train category) ⌝ }
+    ensures { λ r. ⌜ r ≡ getD (memberships train) (category % 32) false ⌝ }
 {
     let all = train.freight_p as u32 + 2 * train.freight_g as u32 + 4 * train.passenger as u32;
     (all >> (category % 32)) % 2 == 1

@@ -1,5 +1,5 @@
 -- `elements::distance` meets its contract.
-use mathlib.Core.Path.{refl}
+use native.Mathlib.Omega.{arith}
 use borrow.Author.Needs.{needs}
 use Rattle.elements.proofs.distance.Statement.{statement}
 use Rattle.elements.proofs.distance.Tie as tie
@@ -20,7 +20,8 @@ sub-result : tie.Need-sub-result
 sub-result c = search needs
 
 returns : tie.Need-returns
-returns c = refl
+returns c =
+    record { below = λ e h. omega arith; above = λ h. omega arith; other = λ h. omega arith; fits = omega arith }
 
 pub distance-spec : {M : Type 1} → statement M
 distance-spec =

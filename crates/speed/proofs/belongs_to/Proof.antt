@@ -1,5 +1,4 @@
 -- `speed::belongs_to` meets its contract.
-use mathlib.Core.Path.{refl}
 use Prim.Native.Nat.{_%_}
 use native.Mathlib.Omega.{arith}
 use borrow.Author.Needs.{needs}
@@ -32,7 +31,7 @@ shr-result : tie.Need-shr-result
 shr-result c = search needs
 
 returns : tie.Need-returns
-returns c = let a = c .before .before .before .args in belongs-bit (a .train) (a .category) (a .category % 32) refl
+returns c = let a = c .before .before .before .args in belongs-bit (a .train) (a .category % 32)
 
 pub belongs-to-spec : {M : Type 1} → statement M
 belongs-to-spec =

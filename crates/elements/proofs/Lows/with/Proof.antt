@@ -38,8 +38,8 @@ returns c =
     let a = b .args in
     let t = a .train in
     let m = c .before .before .before .before .belongs-to .ensures in
-    entry-more t (a .self) _ (a .q-diff) (a .class) (a .v) (b .pre) (omega arith) (omega arith)
-    (rw (c .before .before .before .before .before .before .distance .ensures) at (c .before .before .before .before .before .nearer .ensures))
+    entry-more t (a .self) _ (a .q-diff) (a .class) (a .v) _ (b .pre) (omega arith) (c .before .before .before .before .before .before .distance .ensures)
+    (c .before .before .before .before .before .nearer .ensures)
     (low-with t 1 (a .q-diff) (a .class) (a .v) (a .self .replacing) (omega arith) (b .pre) m (c .before .before .before .counted .ensures) (c .before .before .lower .ensures))
     (low-with t 2 (a .q-diff) (a .class) (a .v) (a .self .lowering) (omega arith) (b .pre) m (c .before .counted2 .ensures) (c .lower2 .ensures))
 
