@@ -12,8 +12,9 @@ use Rattle.numbers.specs.declared.Number.{Number}
 use Rattle.numbers.specs.declared.Number.the-variants.{Value, Bad}
 use Rattle.numbers.specs.Numbers.{numberIn, groupsIn}
 use Rattle.bits.proofs.Tests.{by-cases}
-use Rattle.numbers.specs.Groups.{counted}
-use Rattle.numbers.proofs.Reading.{number-only, number-end}
+use Rattle.numbers.specs.declared.Found.{Found}
+use Rattle.numbers.specs.Groups.{counted, found}
+use Rattle.numbers.proofs.Reading.{found-counted, number-only, number-end}
 use Rattle.numbers.proofs.Counting.{last-group, more-groups}
 use Rattle.kinds.specs.declared.Item.{Item}
 use Rattle.kinds.specs.Kind.{Kind}
@@ -154,5 +155,8 @@ module _ (s : List ℕ) (k : Kind) {at to a : ℕ} (n : NumberAt s at to a) wher
   field-any = field-read (valueOr (k .lower a)) (λ u d. sym (ap valueOr d))
 
 -- past the end there is none
+pub found-is-counted : (s : List ℕ) (at : ℕ) {f : Found} → f ≡ found (numberIn (drop at s)) → f .value + 4294967296 * f .count ≡ countedAt s at
+found-is-counted s at e = rw e (found-counted (numberIn (drop at s)))
+
 pub none-past : (s : List ℕ) (at : ℕ) → length s ≤ at → countedAt s at ≡ 0
 none-past s at h = sym (ap counted (number-end s at 5 h))

@@ -15,9 +15,6 @@ use elements::Next;
 use elements::Open;
 use speed::Train;
 
-// What is counted for each group of a number.
-const GROUP: u64 = 4294967296;
-
 // The byte after the packet number, the field L_SP, and the field after the last before the speed profile.
 const FIRST: usize = 1;
 
@@ -47,10 +44,10 @@ pub struct Start {
 fn number(s: &[u8], at: usize) -> Taken
     ensures { λ r. ⌜ NumberAt (now (s .entry)) at (r .next) (r .value) ⌝ }
 {
-    let counted = numbers::counted_at(s, at);
+    let found = numbers::found_at(s, at);
     Taken {
-        value: (counted % GROUP) as u32,
-        next: at + (counted / GROUP) as usize,
+        value: found.value,
+        next: at + found.count as usize,
     }
 }
 

@@ -5,27 +5,30 @@ use borrow.Author.Tests.{ltb-true, ltb-false}
 use lib.Dec.{ltb}
 use lib.ListN.{length}
 use Rattle.bits.proofs.Tests.{by-cases}
-use Rattle.ask_sheet.proofs.Numbers.{none-past}
+use Rattle.ask_sheet.proofs.Numbers.{found-is-counted, none-past}
 use borrow.Author.Needs.{needs}
 use Rattle.ask_sheet.proofs.number.Statement.{statement}
 use Rattle.ask_sheet.proofs.number.Tie as tie
 
-counted-at-requires : tie.Need-counted-at-requires
-counted-at-requires c κs = search needs
+found-at-requires : tie.Need-found-at-requires
+found-at-requires c κs = search needs
 
-cast-t5 : tie.Need-cast-t5
-cast-t5 c = search needs
+cast-t4 : tie.Need-cast-t4
+cast-t4 c = search needs
 
-add-t8 : tie.Need-add-t8
-add-t8 c =
-    let a = c .before .before .args in
+add-t5 : tie.Need-add-t5
+add-t5 c =
+    let a = c .before .before .before .args in
     let s = now (a .s) in
     by-cases (ltb (a .at) (length s))
     (λ d. omega (arith, ltb-true (a .at) (length s) d))
-    (λ d. omega (arith, none-past s (a .at) (ltb-false (a .at) (length s) d), c .counted-at .ensures))
+    (λ d. omega (arith, none-past s (a .at) (ltb-false (a .at) (length s) d), found-is-counted s (a .at) (c .before .found-at .ensures)))
 
 returns : tie.Need-returns
-returns c = search needs
+returns c =
+    let a = c .before .before .before .args in
+    let e = found-is-counted (now (a .s)) (a .at) (c .before .found-at .ensures) in
+    record { next = omega (arith, e); value = omega (arith, e) }
 
 pub number-spec : {M : Type 1} → statement M
-number-spec = tie.close (tie.spec counted-at-requires cast-t5 add-t8 returns)
+number-spec = tie.close (tie.spec found-at-requires cast-t4 add-t5 returns)
