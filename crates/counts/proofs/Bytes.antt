@@ -75,6 +75,17 @@ module _ (last lsp v : ℕ) where
   pub location-in : last < v → v < lsp → (ltb last v && ltb v lsp) ≡ true
   location-in h l = rw (lt-ltb last v h, lt-ltb v lsp l)
 
+-- the end of a temporary constraint
+module _ (start most v : ℕ) where
+  pub after-low : v ≤ start → (ltb start v && leb v most) ≡ false
+  after-low h = rw (le-ltb start v h)
+
+  pub after-high : most < v → (ltb start v && leb v most) ≡ false
+  after-high h = rw (lt-leb v most h) (and-false (ltb start v))
+
+  pub after-in : start < v → v ≤ most → (ltb start v && leb v most) ≡ true
+  after-in h l = rw (lt-ltb start v h, le-leb v most l)
+
 module _ (v : ℕ) where
   pub current-none : v ≡ 1023 → 1 ≡ bytesOf (valueInPacket mCurrent v)
   unfolding groupsIn

@@ -1,9 +1,9 @@
 // How many bytes a packet's value has in the sheet, by the kind of its field: 0 where the value is refused.
 ghost use mathlib.Core.Path.{_≡_};
-ghost use Prim.Native.Nat.{ℕ, _<_};
+ghost use Prim.Native.Nat.{_<_};
 ghost use lib.ListN.{length};
 ghost use Rattle.numbers.specs.Numbers.{groupsIn};
-ghost use Rattle.kinds.specs.Kinds.{digits, nidOperational, speed, ncCdDiff, class, dLocation, mVoltage, mostTraction, nidCTraction, mCurrent};
+ghost use Rattle.kinds.specs.Kinds.{digits, nidOperational, speed, ncCdDiff, class, dLocation, mVoltage, mostTraction, nidCTraction, mCurrent, dEndAfter, noCurrent};
 ghost use Rattle.kinds.specs.Judged.{valueInPacket};
 ghost use Rattle.kinds.specs.Rules.{meaning};
 ghost use Rattle.counts.specs.Counts.{bytesOf, BytesIn, mostClass};
@@ -151,6 +151,29 @@ pub fn current(v: u32) -> u32
     grouping::groups(v * body::MCurrent::STEP + 1)
 }
 
+// The end of a temporary constraint, after its start.
+pub fn after(start: u32, v: u32) -> u32
+    ensures { λ r. ⌜ r ≡ bytesOf (valueInPacket (dEndAfter start) v) ⌝ }
+{
+    if v <= start {
+        return 0;
+    }
+    if body::DLocation::LARGEST < v {
+        return 0;
+    }
+    grouping::groups(v)
+}
+
+// No current, which the sheet has as 0.
+pub fn no_current(v: u32) -> u32
+    ensures { λ r. ⌜ r ≡ bytesOf (valueInPacket noCurrent v) ⌝ }
+{
+    if v == body::MCurrent::NO_LIMIT {
+        return 1;
+    }
+    0
+}
+
 // Whether each of the eight digits is 0 to 9 or F: where the top bit of one is set, its other bits are 0, 1 or 7.
 pub fn digits_good(v: u32) -> bool
     ensures { λ r. ⌜ r ≡ digits 8 v ⌝ }
@@ -185,12 +208,24 @@ pub fn by(rule: Rule, v: u32) -> u32
         Rule::Current => current(v),
         Rule::Cant => cant(v),
         Rule::Volts => volts(v),
+        Rule::After { start } => after(start, v),
+        Rule::NoCurrent => no_current(v),
     }
 }
 
-// The refusal of a value that is not allowed, whatever it is.
-pub fn refusal(rule: Rule) -> u32
-    ensures { λ r. ⌜ ((v : ℕ) → r ≡ meaning rule .refusal v) ⌝ }
+// 5 for an end that is not after its start, and 4 for one of more than 24 bits.
+fn after_refusal(v: u32) -> u32
+    ensures { λ r. ⌜ r ≡ dEndAfter 0 .refusal v ⌝ }
+{
+    if body::DLocation::LARGEST < v {
+        return OUT_OF_RANGE;
+    }
+    LOCATION
+}
+
+// The refusal of a value that is not allowed.
+pub fn refusal(rule: Rule, v: u32) -> u32
+    ensures { λ r. ⌜ r ≡ meaning rule .refusal v ⌝ }
 {
     match rule {
         Rule::Range {
@@ -205,5 +240,7 @@ pub fn refusal(rule: Rule) -> u32
         Rule::Current => OUT_OF_RANGE,
         Rule::Cant => OUT_OF_RANGE,
         Rule::Volts => OUT_OF_RANGE,
+        Rule::After { start: _ } => after_refusal(v),
+        Rule::NoCurrent => OUT_OF_RANGE,
     }
 }

@@ -14,7 +14,7 @@ use lib.Pow.{pow-mono}
 use Rattle.bits.proofs.Tests.{by-cases, and-right, or-cases, and-left}
 use Rattle.kinds.specs.Kind.{Kind, when, same, range, upTo}
 use Rattle.kinds.specs.Tables.{cantFigures, volts, entryOf, greatest}
-use Rattle.kinds.specs.Kinds.{nidOperational, speed, class, dLocation, mVoltage, mostTraction, nidCTraction, mCurrent}
+use Rattle.kinds.specs.Kinds.{nidOperational, speed, class, dLocation, mVoltage, mostTraction, nidCTraction, mCurrent, dEndAfter, noCurrent}
 use Rattle.fields.proofs.Digits.{digits-small}
 use Rattle.fields.proofs.Lookup.{distinct, place-small, place-top, place-again, cants-distinct, volts-distinct, place-stands}
 
@@ -87,6 +87,11 @@ location-lawful last lsp h =
     same-lawful 24 16777215 (λ _. 5) (dLocation last lsp .allowed) (narrow tt) (lit< tt)
     λ x e. omega (arith, ltb-true x lsp (and-right (ltb last x) (ltb x lsp) e))
 
+pub after-lawful : (start : ℕ) → LawfulKind (dEndAfter start)
+after-lawful start =
+    same-lawful 24 16777215 (dEndAfter start .refusal) (dEndAfter start .allowed) (narrow tt) (lit< tt)
+    λ v e. leb-true v 16777215 (and-right (ltb start v) (leb v 16777215) e)
+
 most-traction : (u : ℕ) → mostTraction u < 2 ^ 10
 most-traction zero = lit< tt
 most-traction (suc u) = lit< tt
@@ -133,6 +138,18 @@ current-lawful = record {
       rw (ne-eqb v 1023 n, ne-eqb (v * 10 + 1) 0 (λ z. omega arith), d, le-leb (v * 10) 10009 (omega arith), mul-div-cancel v (lit< tt)));
   into = current-into;
   stays = λ _ n _ _ _. absurd (n refl);
+}
+
+pub none-lawful : LawfulKind noCurrent
+none-lawful = record {
+  narrow = narrow tt;
+  holds = lit< tt;
+  short = lit< tt;
+  most = λ v e. omega (arith, eqb-true v 1023 e);
+  top = λ a v e. when-some (eqb a 0) 1023 v e λ t q. omega (arith, eqb-true a 0 t);
+  back = λ v e. let q : v ≡ 1023 = eqb-true v 1023 e in rw q;
+  into = λ a v e. when-some (eqb a 0) 1023 v e λ t q. rw (← q);
+  stays = λ _ _ a v e. when-some (eqb a 0) 1023 v e λ t q. sym (eqb-true a 0 t);
 }
 
 -- ---- tables

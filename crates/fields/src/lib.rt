@@ -25,5 +25,7 @@ pub fn width(rule: Rule) -> u32
         Rule::Current => MCurrent::WIDTH,
         Rule::Cant => kinds::body::NcCdDiff::WIDTH,
         Rule::Volts => kinds::body::MVoltage::WIDTH,
+        Rule::After { start: _ } => kinds::body::DLocation::WIDTH,
+        Rule::NoCurrent => MCurrent::WIDTH,
     }
 }

@@ -14,7 +14,7 @@ use Rattle.numbers.specs.Numbers.{groupsIn}
 use Rattle.numbers.proofs.Counting.{count-most}
 use Rattle.kinds.specs.declared.Item.{Item}
 use Rattle.kinds.specs.Kind.{Kind}
-use Rattle.fields.proofs.Lawful.{narrow, range-lawful, upTo-lawful, operational-lawful}
+use Rattle.fields.proofs.Lawful.{narrow, range-lawful, upTo-lawful, operational-lawful, none-lawful}
 use Rattle.format.specs.Format.{Format, write, times}
 use Rattle.format.specs.Media.{packet, sheet}
 use Rattle.format.specs.Conforming.{Conforming, InSheet}
@@ -23,10 +23,10 @@ use Rattle.format.proofs.Sized.{Measured, within, lawful}
 use Rattle.segment.specs.Segment.{header}
 use Rattle.rows.specs.Rows.{row, fits}
 use Rattle.rows.proofs.Measured.{no-row, first-fits, first-lawful, sum}
-use Rattle.journey.specs.Journey.{timingPoint, journeySegment, journeyBody, journeyFields, journeySheet}
+use Rattle.journey.specs.Journey.{timingPoint, temporaryConstraint, journeySegment, journeyBody, journeyFields, journeySheet}
 use Rattle.journey.specs.Parts.{headerWidths, headerMost, segmentWidths, segmentMost, arrivalWidths, arrivalMost, stoppingWidths, stoppingMost}
 use Rattle.journey.proofs.Parts.{header-rows, segment-rows, point-rows, header-fits, segment-fits, arrival-fits, stopping-fits}
-use Rattle.journey.proofs.Tree.{StoppingCosts, fields-measured, sheet-measured}
+use Rattle.journey.proofs.Tree.{Costs, end-width, level-width, constraint-groups, start-lawful, end-lawful, front-lawful, level-lawful, adhesion-lawful, fields-measured, sheet-measured}
 use Rattle.journey.proofs.Weighed.{Weighed, empty, more, looser, weighs}
 
 abbrev pub bits : Kind → ℕ
@@ -38,16 +38,25 @@ one k = 1
 abbrev groups : Kind → ℕ
 groups k = length (groupsIn (k .highest))
 
-pub bit-costs : StoppingCosts bits bits
-bit-costs = record { low = 51; high = 51; is-low = λ stop a. omega arith; is-high = λ stop b. omega arith }
+pub bit-costs : Costs bits bits
+bit-costs = record {
+  low = 51;
+  high = 51;
+  is-low = λ stop a. omega arith;
+  is-high = λ stop b. omega arith;
+  constrained = 69;
+  is-constrained = λ type range start. omega (arith, end-width range start, level-width type);
+}
 
-group-costs : StoppingCosts one groups
+group-costs : Costs one groups
 unfolding groupsIn
 group-costs = record {
   low = 10;
   high = 15;
   is-low = λ stop a. omega arith;
   is-high = λ stop b. by-cases (eqb stop 2) (λ e. rw e (omega arith)) (λ e. rw e (omega arith));
+  constrained = 13;
+  is-constrained = λ type range start. let g = constraint-groups type range start in omega (arith, g .first, g .rest);
 }
 
 module _ (limit : ℕ) (few : limit ≤ 31) where
@@ -58,19 +67,19 @@ module _ (limit : ℕ) (few : limit ≤ 31) where
   sheet-lawful = lawful (sheet-measured bit-costs limit few)
 
   -- the 96 bits of the header after L_PACKET_ATO, and the body's
-  pub fields-bits : Measured bits bits (journeyFields limit) (96 + 11) (96 + 1037351)
+  pub fields-bits : Measured bits bits (journeyFields limit) (96 + 11) (96 + 1614416)
   unfolding bit-costs
-  fields-bits = within (96 + 11) (96 + 1037351) (fields-measured bit-costs limit few) (lit≤ tt) (lit≤ tt)
+  fields-bits = within (96 + 11) (96 + 1614416) (fields-measured bit-costs limit few) (lit≤ tt) (lit≤ tt)
 
   -- with the packet number's 8, as a sheet is judged
-  pub sheet-bits : Measured bits bits (journeySheet limit) (104 + 11) (104 + 1037351)
+  pub sheet-bits : Measured bits bits (journeySheet limit) (104 + 11) (104 + 1614416)
   unfolding bit-costs
-  sheet-bits = within (104 + 11) (104 + 1037351) (sheet-measured bit-costs limit few) (lit≤ tt) (lit≤ tt)
+  sheet-bits = within (104 + 11) (104 + 1614416) (sheet-measured bit-costs limit few) (lit≤ tt) (lit≤ tt)
 
   -- the packet number, the header's five, Q_JP_Status and N_ITER_SP have a byte each at least
-  pub sheet-groups : Measured one groups (journeySheet limit) 8 240743
+  pub sheet-groups : Measured one groups (journeySheet limit) 8 359318
   unfolding groupsIn group-costs
-  sheet-groups = within 8 240743 (sheet-measured group-costs limit few) (lit≤ tt) (omega (arith, count-most limit 31 few))
+  sheet-groups = within 8 359318 (sheet-measured group-costs limit few) (lit≤ tt) (omega (arith, count-most limit 31 few))
 
 -- ---- 4,068 bytes weigh no more than 944 bits: a segment full of timing points has 944 bytes in its sheet for 4,068 bits
 
@@ -114,13 +123,24 @@ unfolding times
 times-weighed part each adds {add = add} {leave = leave} w zero = loosely (0 * each + add) leave w (omega arith)
 times-weighed part each adds {f} {add} {leave} w (suc n) = loosely (suc n * each + add) leave (adds (times part n f) (n * each + add) leave (times-weighed part each adds w n)) (omega arith)
 
+-- 15 bytes at most for 73 bits
+constraint-weighed : {f : Format} {add leave : ℕ} → Weigh f add leave → Weigh (temporaryConstraint f) add leave
+unfolding groupsIn
+constraint-weighed {f} {add} {leave} w =
+    loosely add leave (more (upTo-lawful 2 3 (narrow tt) (lit< tt)) λ type _. more (upTo-lawful 2 3 (narrow tt) (lit< tt)) λ range _.
+    loosely (4068 * 13 + add) (944 * 69 + leave) (more (start-lawful range) λ start _.
+    loosely (4068 * 9 + add) (944 * 45 + leave)
+    (more (end-lawful range start) λ _ _. more (front-lawful type) λ _ _. more (level-lawful type) λ _ _. more (adhesion-lawful type) λ _ _. more none-lawful λ _ _. w)
+    (omega (arith, constraint-groups type range start .rest, end-width range start, level-width type)))
+    (omega (arith, constraint-groups type range 0 .first))) (omega arith)
+
 module _ (limit : ℕ) (few : limit ≤ 31) where
-  -- 14 bytes at most for 69 bits, and up to 31 timing points
+  -- 14 bytes at most for 69 bits, up to 31 timing points, and constraints
   segment-weighed : {f : Format} {add leave : ℕ} → Weigh f add leave → Weigh (journeySegment limit f) add leave
   unfolding groupsIn
   segment-weighed {f} {add} {leave} w =
       rw (segment-rows limit f) (loosely add leave (row-weighed (more (upTo-lawful 5 31 (narrow tt) (lit< tt)) λ n e.
-      loosely (31 * 264 + (4068 + add)) (944 * 5 + leave) (times-weighed timingPoint 264 (λ f a b w. point-weighed w) (more (upTo-lawful 5 limit (narrow tt) (omega arith)) λ _ _. w) n)
+      loosely (31 * 264 + (4068 + add)) (944 * 5 + leave) (times-weighed timingPoint 264 (λ f a b w. point-weighed w) (more (upTo-lawful 5 limit (narrow tt) (omega arith)) λ k _. loosely add leave (times-weighed temporaryConstraint 0 (λ f a b w. loosely (0 + a) b (constraint-weighed w) (omega arith)) w k) (omega arith)) n)
       (omega (arith, mul-le-mul-right 264 (leb-true n 31 (and-right (leb 0 n) (leb n 31) e)), count-most limit 31 few)))
       segmentWidths segmentMost segment-fits) (omega arith))
 

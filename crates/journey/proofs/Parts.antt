@@ -10,14 +10,14 @@ use Rattle.format.specs.Format.{Format, field, then, times}
 use Rattle.segment.specs.Segment.{header}
 use Rattle.rows.specs.Rows.{row, fits}
 use Rattle.journey_kinds.specs.Kinds.{qStopSkipPasses}
-use Rattle.journey.specs.Journey.{timingPoint, journeySegment}
+use Rattle.journey.specs.Journey.{timingPoint, temporaryConstraint, journeySegment}
 use Rattle.journey.specs.Parts.{headerWidths, headerMost, segmentWidths, segmentMost, arrivalWidths, arrivalMost, stoppingWidths, stoppingMost}
 
 pub header-rows : (f : Format) → header f ≡ then nidOperational (row headerWidths headerMost f)
 unfolding row
 header-rows f = refl
 
-pub segment-rows : (limit : ℕ) (f : Format) → journeySegment limit f ≡ row segmentWidths segmentMost (field (nIter 31) λ n. times timingPoint n (then (nIter limit) f))
+pub segment-rows : (limit : ℕ) (f : Format) → journeySegment limit f ≡ row segmentWidths segmentMost (field (nIter 31) λ n. times timingPoint n (field (nIter limit) λ m. times temporaryConstraint m f))
 unfolding row
 segment-rows limit f = refl
 

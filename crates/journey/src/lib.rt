@@ -26,8 +26,8 @@ use kinds::header::NidEngine;
 use kinds::header::TTimestampDate;
 use kinds::header::TTimestampSeconds;
 
-// "a 5-bit count of temporary constraints that must be 0 for now".
-pub const CONSTRAINTS: u32 = 0;
+// "up to 31 constraints per segment".
+pub const CONSTRAINTS: u32 = 31;
 
 // NID_ENGINE to N_PACKET_COUNTER: their widths, and their largest values.
 pub fn header_widths() -> [u32; 4]

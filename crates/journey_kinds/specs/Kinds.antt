@@ -1,9 +1,10 @@
 -- The field kinds of a journey, in the order of the packet.
 -- Assumes nothing.
-use mathlib.Core.Bool.{cond}
+use mathlib.Core.Bool.{Bool, cond, _||_}
 use Prim.Native.Nat.{ℕ}
 use lib.Dec.{eqb}
 use Rattle.kinds.specs.Kind.{Kind, range, upTo}
+use Rattle.kinds.specs.Kinds.{speed, dEndAfter}
 
 -- "packet number 4", refused with 2
 abbrev pub journeyNumber : Kind
@@ -76,3 +77,35 @@ tMinimumDwellTime stop = upTo 10 (mostAt stop 1023)
 
 abbrev pub qAutomaticClosing : ℕ → Kind
 qAutomaticClosing stop = upTo 1 (mostAt stop 1)
+
+-- ---- "each Q_TC_Type 2, Q_TC_Range 2, start 24, end 24, Q_FRONT 1, V_Speed_Level 7 (0 to 120), adhesion 3 (0 to 5), current 10"
+
+-- "Document 002's fifth type, traction current, does not fit two bits and is refused"
+abbrev pub qTcType : Kind
+qTcType = upTo 2 3
+
+abbrev pub qTcRange : Kind
+qTcRange = upTo 2 3
+
+-- "unused locations are 0", "A field the type does not use is 0": the largest value, by whether it is used
+abbrev pub mostWhere : Bool → ℕ → ℕ
+mostWhere used most = cond used most 0
+
+-- "A range of starts uses the start only, .. both uses both"
+abbrev pub dTcStartLocation : ℕ → Kind
+dTcStartLocation range = upTo 24 (mostWhere (eqb range 0 || eqb range 2) 16777215)
+
+-- "ends the end only, both uses both with start below end, whole segment neither"
+abbrev pub dTcEndLocation : ℕ → ℕ → Kind
+dTcEndLocation range start = cond (eqb range 2) (dEndAfter start) (upTo 24 (mostWhere (eqb range 1) 16777215))
+
+-- "Type 0 uses Q_FRONT and speed, 1 adhesion; 2 and 3 (driving modes) use none"
+abbrev pub qTcFront : ℕ → Kind
+qTcFront type = upTo 1 (mostWhere (eqb type 0) 1)
+
+-- "Speed and current in the sheet follow the segment rules"; an unused speed is the number 0 itself
+abbrev pub vSpeedLevel : ℕ → Kind
+vSpeedLevel type = cond (eqb type 0) speed (upTo 7 0)
+
+abbrev pub qLowAdhesionRate : ℕ → Kind
+qLowAdhesionRate type = upTo 3 (mostWhere (eqb type 1) 5)

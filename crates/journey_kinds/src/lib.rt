@@ -1,9 +1,11 @@
 // The field kinds of a journey, in the order of a packet's body: a type each, with its width and its largest value, and the rule that judges its values.
+ghost use mathlib.Core.Bool.{_||_};
 ghost use mathlib.Core.Path.{_≡_};
+ghost use lib.Dec.{eqb};
 ghost use Rattle.kinds.specs.Kind.{upTo};
 ghost use Rattle.kinds.specs.Rules.{Keeps, meaning};
 ghost use Rattle.journey_kinds.specs.Kinds as kind;
-ghost use Rattle.journey_kinds.specs.Kinds.{mostAt};
+ghost use Rattle.journey_kinds.specs.Kinds.{mostAt, mostWhere};
 use kinds::Rule;
 use kinds::up_to;
 
@@ -290,5 +292,166 @@ impl QAutomaticClosing {
         ensures { λ r. ⌜ meaning r ≡ kind.qAutomaticClosing stop ⌝ }
     {
         at_stop(stop, Self::WIDTH, Self::LARGEST)
+    }
+}
+
+// ---- a temporary constraint
+
+pub struct QTcType;
+
+impl QTcType {
+    pub const WIDTH: u32 = 2;
+
+    pub const LARGEST: u32 = 3;
+
+    // An additional speed restriction, and a low adhesion.
+    pub const SPEED: u32 = 0;
+
+    pub const ADHESION: u32 = 1;
+
+    pub fn rule() -> Rule
+        ensures { λ r. do ⌜ Keeps kind.qTcType (← ⟦QTcType::WIDTH⟧ .entry) (← ⟦QTcType::LARGEST⟧ .entry) r ⌝ }
+    {
+        up_to(Self::WIDTH, Self::LARGEST)
+    }
+}
+
+pub struct QTcRange;
+
+impl QTcRange {
+    pub const WIDTH: u32 = 2;
+
+    pub const LARGEST: u32 = 3;
+
+    pub const STARTS: u32 = 0;
+
+    pub const ENDS: u32 = 1;
+
+    pub const BOTH: u32 = 2;
+
+    pub fn rule() -> Rule
+        ensures { λ r. do ⌜ Keeps kind.qTcRange (← ⟦QTcRange::WIDTH⟧ .entry) (← ⟦QTcRange::LARGEST⟧ .entry) r ⌝ }
+    {
+        up_to(Self::WIDTH, Self::LARGEST)
+    }
+}
+
+pub struct DTcStartLocation;
+
+impl DTcStartLocation {
+    pub const WIDTH: u32 = 24;
+
+    pub const LARGEST: u32 = 16777215;
+
+    // The largest start of a range.
+    pub fn most(range: u32) -> u32
+        ensures { λ r. ⌜ r ≡ mostWhere (eqb range 0 || eqb range 2) 16777215 ⌝ }
+    {
+        if range == QTcRange::STARTS {
+            return Self::LARGEST;
+        }
+        if range == QTcRange::BOTH {
+            return Self::LARGEST;
+        }
+        0
+    }
+
+    pub fn rule(range: u32) -> Rule
+        ensures { λ r. ⌜ meaning r ≡ kind.dTcStartLocation range ⌝ }
+    {
+        up_to(Self::WIDTH, Self::most(range))
+    }
+}
+
+pub struct DTcEndLocation;
+
+impl DTcEndLocation {
+    pub const WIDTH: u32 = 24;
+
+    pub const LARGEST: u32 = 16777215;
+
+    // The largest end of a range that is not both.
+    pub fn most(range: u32) -> u32
+        ensures { λ r. ⌜ r ≡ mostWhere (eqb range 1) 16777215 ⌝ }
+    {
+        if range == QTcRange::ENDS {
+            return Self::LARGEST;
+        }
+        0
+    }
+
+    pub fn rule(range: u32, start: u32) -> Rule
+        ensures { λ r. ⌜ meaning r ≡ kind.dTcEndLocation range start ⌝ }
+    {
+        if range == QTcRange::BOTH {
+            return Rule::After { start };
+        }
+        up_to(Self::WIDTH, Self::most(range))
+    }
+}
+
+// Q_FRONT of a constraint.
+pub struct QTcFront;
+
+impl QTcFront {
+    pub const WIDTH: u32 = 1;
+
+    pub const LARGEST: u32 = 1;
+
+    // The largest of a type.
+    pub fn most(of: u32) -> u32
+        ensures { λ r. ⌜ r ≡ mostWhere (eqb of 0) 1 ⌝ }
+    {
+        if of == QTcType::SPEED {
+            return Self::LARGEST;
+        }
+        0
+    }
+
+    pub fn rule(of: u32) -> Rule
+        ensures { λ r. ⌜ meaning r ≡ kind.qTcFront of ⌝ }
+    {
+        up_to(Self::WIDTH, Self::most(of))
+    }
+}
+
+pub struct VSpeedLevel;
+
+impl VSpeedLevel {
+    pub const WIDTH: u32 = 7;
+
+    pub const LARGEST: u32 = 120;
+
+    pub fn rule(of: u32) -> Rule
+        ensures { λ r. ⌜ meaning r ≡ kind.vSpeedLevel of ⌝ }
+    {
+        if of == QTcType::SPEED {
+            return Rule::Speed;
+        }
+        up_to(Self::WIDTH, 0)
+    }
+}
+
+pub struct QLowAdhesionRate;
+
+impl QLowAdhesionRate {
+    pub const WIDTH: u32 = 3;
+
+    pub const LARGEST: u32 = 5;
+
+    // The largest of a type.
+    pub fn most(of: u32) -> u32
+        ensures { λ r. ⌜ r ≡ mostWhere (eqb of 1) 5 ⌝ }
+    {
+        if of == QTcType::ADHESION {
+            return Self::LARGEST;
+        }
+        0
+    }
+
+    pub fn rule(of: u32) -> Rule
+        ensures { λ r. ⌜ meaning r ≡ kind.qLowAdhesionRate of ⌝ }
+    {
+        up_to(Self::WIDTH, Self::most(of))
     }
 }

@@ -34,7 +34,7 @@ pub fn field(s: &[u8], stop: usize, at: usize, n: usize, rule: Rule) -> Next
     let v = bits::read_window(s, at, width);
     let bytes = counts::by(rule, v);
     if bytes == 0 {
-        return Next::Refused(counts::refusal(rule), at as u32);
+        return Next::Refused(counts::refusal(rule, v), at as u32);
     }
     Next::Is(v, at + width as usize, n + bytes as usize)
 }

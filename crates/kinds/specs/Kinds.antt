@@ -133,3 +133,13 @@ mCurrent = record {
   lower = λ a. cond (eqb a 0) (some 1023) (when (leb (a - 1) 10009) ((a - 1) / 10));
   raise = λ v. cond (eqb v 1023) 0 (v * 10 + 1);
 }
+
+-- ---- "Yard speed restrictions", of a journey's segment
+
+-- "both uses both with start below end", "5, at the end field, for start not below end" and 4 where the end is no number of 24 bits
+abbrev pub dEndAfter : ℕ → Kind
+dEndAfter start = same 24 16777215 (λ v. cond (leb v 16777215) 5 4) (λ v. ltb start v && leb v 16777215)
+
+-- "A field the type does not use is 0 in packet and sheet, current 1,023 and 0"
+abbrev pub noCurrent : Kind
+noCurrent = record { width = 10; largest = 1023; highest = 0; allowed = λ v. eqb v 1023; refusal = λ _. 4; lower = λ a. when (eqb a 0) 1023; raise = λ _. 0 }

@@ -3,9 +3,9 @@
 use mathlib.Core.Path.{_≡_}
 use Prim.Native.Nat.{ℕ}
 use Rattle.kinds.specs.declared.Rule.{Rule}
-use Rattle.kinds.specs.declared.Rule.the-variants.{Range, Location, Operational, Speed, Current, Cant, Volts}
+use Rattle.kinds.specs.declared.Rule.the-variants.{Range, Location, Operational, Speed, Current, Cant, Volts, After, NoCurrent}
 use Rattle.kinds.specs.Kind.{Kind, range}
-use Rattle.kinds.specs.Kinds.{nidOperational, speed, ncCdDiff, dLocation, mVoltage, mCurrent}
+use Rattle.kinds.specs.Kinds.{nidOperational, speed, ncCdDiff, dLocation, mVoltage, mCurrent, dEndAfter, noCurrent}
 
 abbrev pub meaning : Rule → Kind
 meaning (Range width least largest refusal) = range width least largest refusal
@@ -15,6 +15,8 @@ meaning Speed = speed
 meaning Current = mCurrent
 meaning Cant = ncCdDiff
 meaning Volts = mVoltage
+meaning (After start) = dEndAfter start
+meaning NoCurrent = noCurrent
 
 -- a rule of the kind k, whose width and largest value are the constants of its type
 pub record Keeps (k : Kind) (width largest : ℕ) (r : Rule) : Type 0 where

@@ -44,6 +44,12 @@ pub enum Rule {
     Current,
     Cant,
     Volts,
+    // The end of a temporary constraint, after its start.
+    After {
+        start: u32,
+    },
+    // No current, where none is used.
+    NoCurrent,
 }
 
 // From 0 to largest.

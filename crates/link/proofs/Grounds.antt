@@ -18,9 +18,10 @@ use Rattle.format.proofs.Generic.{never}
 use Rattle.format.proofs.Grounds.{sheet-ground, sheet-written}
 use Rattle.segment.specs.Segment.{fields}
 use Rattle.segment.specs.Frame.{packetNumber, unframed}
-use Rattle.segment.specs.Grounds.{FieldRefusal, asValue, packetRefusals, sheetRefusals}
+use Rattle.segment.specs.Grounds.{FieldRefusal, asValue, asEnd, packetRefusals, sheetRefusals}
 use Rattle.segment.proofs.Grounds.{packet-grounds, packet-listed, numbers-refusals, numbers-listed, fields-refusals}
-use Rattle.journey.specs.Journey.{timingPoint, journeySegment, journeyBody, constraints}
+use Rattle.journey.specs.Journey.{timingPoint, temporaryConstraint, journeySegment, journeyBody, constraints}
+use Rattle.journey.proofs.Tree.{by-range, by-type}
 use Rattle.link.specs.declared.Tree.{Tree}
 use Rattle.link.specs.declared.Tree.the-variants.{Segment, Journey}
 use Rattle.link.specs.Link.{treeNumber, treeFields, treeOf, linkFields, linkBits, fromEitherPacket, withinCount, fromEitherSheet}
@@ -80,7 +81,7 @@ module _ (s : List ℕ) (r place : ℕ) where
       back (tooLong l w long q p) =
           ap withinCount (sheet-written linkFields 0 s l ok .1 w) ∙ rw (lt-ltb 65535 (length (linkBits l) - 96) (omega arith), q, p)
 
--- ---- every field of a journey is refused with 4
+-- ---- every field of a journey is refused with 4, the end of a constraint with 5 too
 
 -- a part in front of any format
 abbrev Kept : (Format → Format) → Type 0
@@ -98,10 +99,16 @@ point-refusals f e =
     each (asValue λ _. refl) λ _. each (asValue λ _. refl) λ _. each (asValue λ _. refl) λ _. each (asValue λ _. refl) λ _.
     each (asValue λ _. refl) λ _. each (asValue λ _. refl) λ _. each (asValue λ _. refl) λ _. each (asValue λ _. refl) λ _. e
 
+constraint-refusals : Kept temporaryConstraint
+constraint-refusals f e =
+    each (asValue λ _. refl) λ type. each (asValue λ _. refl) λ range. each (asValue λ _. refl) λ start.
+    each (by-range FieldRefusal range start (asEnd λ _. refl) (asValue λ _. refl)) λ _.
+    each (asValue λ _. refl) λ _. each (by-type FieldRefusal type (asValue λ _. refl) (asValue λ _. refl)) λ _. each (asValue λ _. refl) λ _. each (asValue λ _. refl) λ _. e
+
 segment-refusals : (limit : ℕ) → Kept (journeySegment limit)
 segment-refusals limit f e =
     each (asValue λ _. refl) λ _. each (asValue λ _. refl) λ _. each (asValue λ _. refl) λ _. each (asValue λ _. refl) λ _. each (asValue λ _. refl) λ _.
-    each (asValue λ _. refl) λ m. times-refusals point-refusals m _ (each (asValue λ _. refl) λ _. e)
+    each (asValue λ _. refl) λ m. times-refusals point-refusals m _ (each (asValue λ _. refl) λ k. times-refusals constraint-refusals k _ e)
 
 pub tree-refusals : (t : Tree) → Every FieldRefusal (treeFields t)
 unfolding fields journeyBody

@@ -17,7 +17,7 @@ use Rattle.link.specs.declared.Tree.{Tree}
 use Rattle.link.specs.declared.Tree.the-variants.{Segment, Journey}
 use Rattle.link.specs.Trees.{treeSheetFields, treeSheet}
 
--- no sheet of either tree, however long, is judged past byte 240,743
+-- no sheet of either tree, however long, is judged past byte 359,318
 pub sheet-place : (t : Tree) (s : List ℕ) (r place : ℕ) → Bytes s → treeSheet t s ≡ refused r place → place < 2 ^ 32
 unfolding sheetFields fields journeySheet journeyFields
 sheet-place Segment s r place ok e =

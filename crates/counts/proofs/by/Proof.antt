@@ -45,6 +45,18 @@ enum-told-5 c = search needs
 volts-requires : tie.Need-volts-requires
 volts-requires c κs = search needs
 
+enum-known-rule-3 : tie.Need-enum-known-rule-3
+enum-known-rule-3 c = search needs
+
+after-requires : tie.Need-after-requires
+after-requires c κs = search needs
+
+enum-told-6 : tie.Need-enum-told-6
+enum-told-6 c = search needs
+
+no-current-requires : tie.Need-no-current-requires
+no-current-requires c κs = search needs
+
 returns : tie.Need-returns
 returns c = rw (c .before .before .rule .given .1) (c .within .ensures 0 _)
 
@@ -66,6 +78,12 @@ returns-6 c = rw (c .before .enum-told4 .given .1) (c .cant .ensures)
 returns-7 : tie.Need-returns-7
 returns-7 c = rw (c .before .enum-told5 .given .1) (c .volts .ensures)
 
+returns-8 : tie.Need-returns-8
+returns-8 c = rw (c .before .before .rule3 .given .1) (c .after .ensures)
+
+returns-9 : tie.Need-returns-9
+returns-9 c = rw (c .before .enum-told6 .given .1) (c .no-current .ensures)
+
 pub by-spec : {M : Type 1} → statement M
 by-spec =
     tie.close
@@ -84,10 +102,16 @@ by-spec =
     cant-requires
     enum-told-5
     volts-requires
+    enum-known-rule-3
+    after-requires
+    enum-told-6
+    no-current-requires
     returns
     returns-2
     returns-3
     returns-4
     returns-5
     returns-6
-    returns-7)
+    returns-7
+    returns-8
+    returns-9)

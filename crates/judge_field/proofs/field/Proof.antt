@@ -43,7 +43,7 @@ returns-2 c =
     let b = c .before .before .before .before .before .before .before in
     let a = b .args in
     let w = c .before .before .before .before .before .width .ensures in
-    rw (c .refusal .ensures (c .before .before .before .read-window .result))
+    rw (c .refusal .ensures)
     (took-none (now (a .s)) (a .stop) (meaning (a .rule)) _ (sym w) (b .pre .0) (omega (arith, w, b .pre .1 .some)) (omega arith) (c .before .before .before .read-window .ensures) (c .before .before .by .ensures) (c .before .if2 .taken))
 
 cast-t9 : tie.Need-cast-t9
