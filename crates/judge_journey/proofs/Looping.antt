@@ -2,18 +2,17 @@
 -- Assumes nothing.
 use mathlib.Core.Path.{ap, _∙_}
 use Prim.Native.Nat.{ℕ}
-use Rattle.kinds.specs.Kinds.{nIter}
-use Rattle.format.specs.Format.{Format, then, times}
+use Rattle.format.specs.Format.{Format, times}
 use Rattle.format.specs.Ways.{Way, Went, Over}
 use Rattle.segment.specs.Parts.{kindAt, runs, headerPart}
 use Rattle.journey.specs.Journey.{timingPoint, journeySegment, constraints}
 use Rattle.journey.specs.Parts.{journeyBodyPart, journeyPart}
 use Rattle.journey.proofs.Parts.{segment-rows}
-use Rattle.judge_journey.specs.Head.{segmentHead}
+use Rattle.judge_journey.specs.Head.{segmentHead, constraintList}
 
 -- what follows a segment's head, by the count of the timing points
 abbrev pub segmentRest : ℕ → Format → Format
-segmentRest n f = times timingPoint n (then (nIter constraints) f)
+segmentRest n f = times timingPoint n (constraintList f)
 
 module _ {X B : Type 0} {w : Way X B} {at : ℕ} {x : X} where
   pub segment-over : {r : Went X} → Over w (λ f. segmentHead (λ v. segmentRest v f)) at x r → Over w (journeySegment constraints) at x r

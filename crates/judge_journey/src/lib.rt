@@ -4,7 +4,7 @@ ghost use Rattle.format.specs.Format.{times};
 ghost use Rattle.journey.specs.Journey.{journeySegment, constraints};
 ghost use Rattle.journey.specs.Parts.{journeyBodyPart, journeyPart};
 ghost use Rattle.judge_field.specs.Judging.{Standing, Over, Gave};
-ghost use Rattle.judge_journey.specs.Head.{segmentHead};
+ghost use Rattle.judge_journey.specs.Head.{segmentHead, constraintList};
 use journey_kinds::NIterSp;
 use journey_kinds::QJpStatus;
 use judge_field::Next;
@@ -56,7 +56,18 @@ fn segment_head(s: &[u8], stop: usize, at: usize, n: usize) -> Next
     whole_head(s, stop, at, n)
 }
 
-// A segment: its head, its timing points, and the count of temporary constraints.
+// The count of the temporary constraints, and the constraints.
+fn constraint_list(s: &[u8], stop: usize, at: usize, n: usize) -> Step
+    requires { ⌜ Standing (now s) stop at n ⌝ }
+    ensures { λ r. ⌜ Over constraintList (now (s .entry)) stop at n r ⌝ }
+{
+    match judge_field::count(s, stop, at, n, journey::CONSTRAINTS) {
+        Next::Refused(r, place) => Step::Refused(r, place),
+        Next::Is(count, at2, n2) => judge_constraint::constraints(s, stop, at2, n2, count),
+    }
+}
+
+// A segment: its head, its timing points, and its temporary constraints.
 fn segment(s: &[u8], stop: usize, at: usize, n: usize) -> Step
     requires { ⌜ Standing (now s) stop at n ⌝ }
     ensures { λ r. ⌜ Over (journeySegment constraints) (now (s .entry)) stop at n r ⌝ }
@@ -65,10 +76,7 @@ fn segment(s: &[u8], stop: usize, at: usize, n: usize) -> Step
         Next::Refused(r, place) => Step::Refused(r, place),
         Next::Is(count, at2, n2) => match judge_point::points(s, stop, at2, n2, count) {
             Step::Refused(r, place) => Step::Refused(r, place),
-            Step::On(at3, n3) => match judge_field::count(s, stop, at3, n3, journey::CONSTRAINTS) {
-                Next::Refused(r, place) => Step::Refused(r, place),
-                Next::Is(_, at4, n4) => Step::On(at4, n4),
-            },
+            Step::On(at3, n3) => constraint_list(s, stop, at3, n3),
         },
     }
 }

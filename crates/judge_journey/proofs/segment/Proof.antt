@@ -1,8 +1,5 @@
 -- `judge_journey::segment` meets its contract.
-use lib.Dec.{lit<}
-use denote.Ref.{now}
 use Rattle.format.proofs.Ways.{over-on, over-off, part-on, part-off}
-use Rattle.judge_field.proofs.Steps.{past, past-off}
 use Rattle.judge_journey.proofs.Looping.{segmentRest, segment-over}
 use borrow.Author.Needs.{needs}
 use Rattle.judge_journey.proofs.segment.Statement.{statement}
@@ -26,14 +23,8 @@ enum-known-r-2 c = search needs
 enum-known-at3 : tie.Need-enum-known-at3
 enum-known-at3 c = search needs
 
-count-requires : tie.Need-count-requires
-count-requires c κs = ((rw (c .before .at3 .given .1) at (c .before .before .before .points .ensures)) .stands, lit< tt)
-
-enum-known-r-3 : tie.Need-enum-known-r-3
-enum-known-r-3 c = search needs
-
-enum-known-at4 : tie.Need-enum-known-at4
-enum-known-at4 c = search needs
+constraint-list-requires : tie.Need-constraint-list-requires
+constraint-list-requires c κs = (rw (c .before .at3 .given .1) at (c .before .before .before .points .ensures)) .stands
 
 returns : tie.Need-returns
 returns c = segment-over (part-off segmentRest (rw (c .before .r .given .1) at (c .before .before .before .segment-head .ensures)))
@@ -42,14 +33,7 @@ returns-2 : tie.Need-returns-2
 returns-2 c = segment-over (part-on segmentRest (rw (c .before .before .before .before .before .count .given .1) at (c .before .before .before .before .before .before .before .segment-head .ensures)) (over-off (rw (c .before .r2 .given .1) at (c .before .before .before .points .ensures))))
 
 returns-3 : tie.Need-returns-3
-returns-3 c =
-    let a = c .before .before .before .before .before .before .before .before .before .before .before .before .before .args in
-    segment-over (part-on segmentRest (rw (c .before .before .before .before .before .before .before .before .before .count .given .1) at (c .before .before .before .before .before .before .before .before .before .before .before .segment-head .ensures)) (over-on (rw (c .before .before .before .before .before .at3 .given .1) at (c .before .before .before .before .before .before .before .points .ensures)) (past-off (now (a .s)) (a .stop) (rw (c .before .r3 .given .1) at (c .before .before .before .count2 .ensures)))))
-
-returns-4 : tie.Need-returns-4
-returns-4 c =
-    let a = c .before .before .before .before .before .before .before .before .before .before .before .before .before .args in
-    segment-over (part-on segmentRest (rw (c .before .before .before .before .before .before .before .before .before .count .given .1) at (c .before .before .before .before .before .before .before .before .before .before .before .segment-head .ensures)) (over-on (rw (c .before .before .before .before .before .at3 .given .1) at (c .before .before .before .before .before .before .before .points .ensures)) (past (now (a .s)) (a .stop) (rw (c .before .at4 .given .1) at (c .before .before .before .count2 .ensures)))))
+returns-3 c = segment-over (part-on segmentRest (rw (c .before .before .before .before .before .before .count .given .1) at (c .before .before .before .before .before .before .before .before .segment-head .ensures)) (over-on (rw (c .before .before .at3 .given .1) at (c .before .before .before .before .points .ensures)) (c .constraint-list .ensures)))
 
 pub segment-spec : {M : Type 1} → statement M
 segment-spec =
@@ -61,10 +45,7 @@ segment-spec =
     points-requires
     enum-known-r-2
     enum-known-at3
-    count-requires
-    enum-known-r-3
-    enum-known-at4
+    constraint-list-requires
     returns
     returns-2
-    returns-3
-    returns-4)
+    returns-3)

@@ -1,0 +1,87 @@
+// A journey's temporary constraints judged, with the bytes of their sheet counted. Nothing is written.
+ghost use Rattle.format.specs.Format.{times};
+ghost use Rattle.journey.specs.Journey as journey;
+ghost use Rattle.journey.specs.Journey.{temporaryConstraint};
+ghost use Rattle.judge_field.specs.Judging.{Standing, Over};
+use journey_kinds::DTcEndLocation;
+use journey_kinds::DTcStartLocation;
+use journey_kinds::QLowAdhesionRate;
+use journey_kinds::QTcFront;
+use journey_kinds::QTcRange;
+use journey_kinds::QTcType;
+use journey_kinds::VSpeedLevel;
+use judge_field::Next;
+use judge_field::Step;
+use kinds::Rule;
+
+// The start and the end, by the range.
+fn stretch(s: &[u8], stop: usize, at: usize, n: usize, range: u32) -> Step
+    requires { ⌜ Standing (now s) stop at n ⌝ }
+    ensures { λ r. ⌜ Over (journey.stretch range) (now (s .entry)) stop at n r ⌝ }
+{
+    match judge_field::field(s, stop, at, n, DTcStartLocation::rule(range)) {
+        Next::Refused(r, place) => Step::Refused(r, place),
+        Next::Is(start, at2, n2) => {
+            judge_field::plain(s, stop, at2, n2, DTcEndLocation::rule(range, start))
+        }
+    }
+}
+
+// Q_FRONT to the current, by the type.
+fn restriction(s: &[u8], stop: usize, at: usize, n: usize, of: u32) -> Step
+    requires { ⌜ Standing (now s) stop at n ⌝ }
+    ensures { λ r. ⌜ Over (journey.restriction of) (now (s .entry)) stop at n r ⌝ }
+{
+    match judge_field::plain(s, stop, at, n, QTcFront::rule(of)) {
+        Step::Refused(r, place) => Step::Refused(r, place),
+        Step::On(at2, n2) => match judge_field::plain(s, stop, at2, n2, VSpeedLevel::rule(of)) {
+            Step::Refused(r, place) => Step::Refused(r, place),
+            Step::On(at3, n3) => {
+                match judge_field::plain(s, stop, at3, n3, QLowAdhesionRate::rule(of)) {
+                    Step::Refused(r, place) => Step::Refused(r, place),
+                    Step::On(at4, n4) => judge_field::plain(s, stop, at4, n4, Rule::NoCurrent),
+                }
+            }
+        },
+    }
+}
+
+// A constraint field by field.
+fn cut_constraint(s: &[u8], stop: usize, at: usize, n: usize) -> Step
+    requires { ⌜ Standing (now s) stop at n ⌝ }
+    ensures { λ r. ⌜ Over temporaryConstraint (now (s .entry)) stop at n r ⌝ }
+{
+    match judge_field::field(s, stop, at, n, QTcType::rule()) {
+        Next::Refused(r, place) => Step::Refused(r, place),
+        Next::Is(of, at2, n2) => match judge_field::field(s, stop, at2, n2, QTcRange::rule()) {
+            Next::Refused(r, place) => Step::Refused(r, place),
+            Next::Is(range, at3, n3) => match stretch(s, stop, at3, n3, range) {
+                Step::Refused(r, place) => Step::Refused(r, place),
+                Step::On(at4, n4) => restriction(s, stop, at4, n4, of),
+            },
+        },
+    }
+}
+
+// The temporary constraints of a segment.
+pub fn constraints(s: &[u8], stop: usize, at: usize, n: usize, count: u32) -> Step
+    requires { ⌜ Standing (now s) stop at n ⌝ }
+    ensures { λ r. ⌜ Over (times temporaryConstraint count) (now (s .entry)) stop at n r ⌝ }
+{
+    let mut to = at;
+    let mut m = n;
+    let mut left = count;
+    while 0 < left {
+        match cut_constraint(s, stop, to, m) {
+            Step::Refused(r, place) => {
+                return Step::Refused(r, place);
+            }
+            Step::On(a, b) => {
+                to = a;
+                m = b;
+                left -= 1;
+            }
+        }
+    }
+    Step::On(to, m)
+}
