@@ -1,4 +1,5 @@
 // A journey's temporary constraints judged, with the bytes of their sheet counted. Nothing is written.
+ghost use Prim.Native.Nat.{_-_, _≤_};
 ghost use Rattle.format.specs.Format.{times};
 ghost use Rattle.journey.specs.Journey as journey;
 ghost use Rattle.journey.specs.Journey.{temporaryConstraint};
@@ -63,6 +64,43 @@ fn cut_constraint(s: &[u8], stop: usize, at: usize, n: usize) -> Step
     }
 }
 
+// Where the end and Q_FRONT start in a constraint, and its bits.
+const END: usize = 28;
+
+const FRONT: usize = 52;
+
+const CONSTRAINT: usize = 73;
+
+// The same where its bits are all there: they are read at once, and a refusal is told field by field.
+fn whole_constraint(s: &[u8], stop: usize, at: usize, n: usize) -> Step
+    requires { ⌜ Standing (now s) stop at n × (73 ≤ stop - at) ⌝ }
+    ensures { λ r. ⌜ Over temporaryConstraint (now (s .entry)) stop at n r ⌝ }
+{
+    let t = bits::read_window(s, at, 28);
+    let end = bits::read_window(s, at + END, DTcEndLocation::WIDTH);
+    let stretch = constraint_bytes::stretch_bytes(t / 16777216 % 4, t % 16777216, end);
+    if stretch == 0 {
+        return cut_constraint(s, stop, at, n);
+    }
+    let uses = bits::read_window(s, at + FRONT, 21);
+    let restriction = constraint_bytes::restriction_bytes(t / 67108864, uses);
+    if restriction == 0 {
+        return cut_constraint(s, stop, at, n);
+    }
+    Step::On(at + CONSTRAINT, n + (stretch + restriction + 2) as usize)
+}
+
+// A temporary constraint.
+fn constraint(s: &[u8], stop: usize, at: usize, n: usize) -> Step
+    requires { ⌜ Standing (now s) stop at n ⌝ }
+    ensures { λ r. ⌜ Over temporaryConstraint (now (s .entry)) stop at n r ⌝ }
+{
+    if stop - at < CONSTRAINT {
+        return cut_constraint(s, stop, at, n);
+    }
+    whole_constraint(s, stop, at, n)
+}
+
 // The temporary constraints of a segment.
 pub fn constraints(s: &[u8], stop: usize, at: usize, n: usize, count: u32) -> Step
     requires { ⌜ Standing (now s) stop at n ⌝ }
@@ -72,7 +110,7 @@ pub fn constraints(s: &[u8], stop: usize, at: usize, n: usize, count: u32) -> St
     let mut m = n;
     let mut left = count;
     while 0 < left {
-        match cut_constraint(s, stop, to, m) {
+        match constraint(s, stop, to, m) {
             Step::Refused(r, place) => {
                 return Step::Refused(r, place);
             }

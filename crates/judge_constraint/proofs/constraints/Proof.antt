@@ -18,8 +18,8 @@ abbrev μ-loop : tie.MeasureT-loop
 loop-holds : tie.Need-loop-holds Inv-loop μ-loop
 loop-holds c = left-all (c .before .pre)
 
-cut-constraint-requires : tie.Need-cut-constraint-requires Inv-loop μ-loop
-cut-constraint-requires c κs = c .before .loop .inv .stands
+constraint-requires : tie.Need-constraint-requires Inv-loop μ-loop
+constraint-requires c κs = c .before .loop .inv .stands
 
 enum-known-r : tie.Need-enum-known-r Inv-loop μ-loop
 enum-known-r c = search needs
@@ -28,7 +28,7 @@ returns : tie.Need-returns Inv-loop μ-loop
 returns c =
     let p = c .before .before .before in
     let l = p .before .before .loop in
-    times-off temporaryConstraint (l .inv) (omega arith) (rw (c .before .r .given .1) at (p .cut-constraint .ensures))
+    times-off temporaryConstraint (l .inv) (omega arith) (rw (c .before .r .given .1) at (p .constraint .ensures))
 
 enum-known-a : tie.Need-enum-known-a Inv-loop μ-loop
 enum-known-a c = search needs
@@ -43,7 +43,7 @@ loop-again : tie.Need-loop-again Inv-loop μ-loop
 loop-again c =
     let p = c .before .before .before in
     let l = p .before .before .loop in
-    times-on temporaryConstraint (l .inv) (omega arith) (rw (c .before .a .given .1) at (p .cut-constraint .ensures))
+    times-on temporaryConstraint (l .inv) (omega arith) (rw (c .before .a .given .1) at (p .constraint .ensures))
 
 returns-2 : tie.Need-returns-2 Inv-loop μ-loop
 returns-2 c = let l = c .before .loop in times-end temporaryConstraint (l .inv) (omega arith)
@@ -55,7 +55,7 @@ constraints-spec =
     Inv-loop
     μ-loop
     loop-holds
-    cut-constraint-requires
+    constraint-requires
     enum-known-r
     returns
     enum-known-a
