@@ -6,8 +6,8 @@ use mathlib.Core.List.{List, [], _∷_}
 use mathlib.Core.Option.{Option, none, some}
 use Prim.Native.Nat.{ℕ, zero, suc, _+_, _%_, _^_, _≤_, _<_}
 use native.Mathlib.Omega.{arith}
-use borrow.Author.Tests.{eqb-true, eqb-false, le-leb, lt-leb, lt-ltb, le-ltb}
-use lib.Dec.{eqb, leb}
+use borrow.Author.Tests.{eqb-true, eqb-false, le-leb, lt-leb, lt-ltb, le-ltb, ne-eqb}
+use lib.Dec.{eqb, ltb, leb}
 use lib.ListN.{length, drop, length-drop, length-append}
 use Rattle.bits.specs.Bits.{Bytes, bitsOf}
 use Rattle.bits.proofs.Spelling.{length-bits}
@@ -18,7 +18,7 @@ use Rattle.numbers.specs.Groups.{found}
 use Rattle.numbers.proofs.Reading.{found-value, found-none, number-only}
 use Rattle.kinds.specs.declared.Item.{Item}
 use Rattle.kinds.specs.Kind.{Kind, range}
-use Rattle.kinds.specs.Kinds.{digits, nidOperational, class, dLocation}
+use Rattle.kinds.specs.Kinds.{digits, nidOperational, class, dLocation, dEndAfter, noCurrent}
 use Rattle.fields.proofs.Lawful.{LawfulKind}
 use Rattle.lowering.specs.Lowered.{valueOr, lowered}
 use Rattle.lowering.proofs.Lowering.{lowered-none}
@@ -122,6 +122,31 @@ module _ (last lsp v : ℕ) where
 
   pub location-in : last < v → v < lsp → dLocation last lsp .lower v ≡ some v
   location-in h l = rw (lt-ltb last v h, lt-ltb v lsp l)
+
+-- ---- the end of a temporary constraint, and no current
+
+module _ (start v : ℕ) where
+  pub after-wide : 16777215 < v → dEndAfter start .lower v ≡ none
+  after-wide h = by-cases (ltb start v) (λ d. rw (d, lt-leb v 16777215 h)) (λ d. rw d)
+
+  pub after-low : v ≤ start → dEndAfter start .lower v ≡ none
+  after-low h = rw (le-ltb start v h)
+
+  pub after-in : start < v → v ≤ 16777215 → dEndAfter start .lower v ≡ some v
+  after-in h l = rw (lt-ltb start v h, le-leb v 16777215 l)
+
+  -- 4 for an end of more than 24 bits, else 5
+  pub wide-refusal : 16777215 < v → dEndAfter start .refusal v ≡ 4
+  wide-refusal h = rw (lt-leb v 16777215 h)
+
+  pub low-refusal : v ≤ 16777215 → dEndAfter start .refusal v ≡ 5
+  low-refusal h = rw (le-leb v 16777215 h)
+
+pub unused-in : (v : ℕ) → v ≡ 0 → noCurrent .lower v ≡ some 1023
+unused-in v e = rw e
+
+pub unused-out : (v : ℕ) → (v ≡ 0 → ⊥) → noCurrent .lower v ≡ none
+unused-out v e = rw (ne-eqb v 0 e)
 
 -- ---- classes
 

@@ -6,6 +6,7 @@ ghost use Rattle.kinds.specs.Kinds as kind;
 ghost use Rattle.kinds.specs.Tables.{cantFigures};
 ghost use Rattle.format.specs.Format.{then};
 ghost use Rattle.sheet_fields.specs.Judging.{Standing, Took, Over, Lowers};
+use journey_kinds::DTcEndLocation;
 use kinds::LOCATION;
 use kinds::OUT_OF_RANGE;
 use kinds::body;
@@ -91,6 +92,28 @@ pub fn location(s: &[u8], at: usize, n: u32, last: u32, lsp: u32) -> Next
     )
 }
 
+// The end of a temporary constraint, after its start: 4 for an end of more than 24 bits, and 5 for one that is not after its start.
+pub fn after(s: &[u8], at: usize, n: u32, start: u32) -> Step
+    requires { ⌜ Standing (now s) at ⌝ }
+    ensures { λ r. ⌜ Over (then (kind.dEndAfter start)) (now (s .entry)) at n r ⌝ }
+{
+    let a = numbers::found_at(s, at);
+    if a.count == 0 {
+        return Step::Refused(judge::NO_NUMBER, at);
+    }
+    let v = a.value;
+    if DTcEndLocation::LARGEST < v {
+        return Step::Refused(OUT_OF_RANGE, at);
+    }
+    if v <= start {
+        return Step::Refused(LOCATION, at);
+    }
+    Step::On(
+        at + a.count as usize,
+        std::num::wrapping_add_u32(n, DTcEndLocation::WIDTH),
+    )
+}
+
 // NID_OPERATIONAL, digit by digit.
 pub fn operational(s: &[u8], at: usize, n: u32) -> Step
     requires { ⌜ Standing (now s) at ⌝ }
@@ -164,4 +187,22 @@ pub fn current(s: &[u8], at: usize, n: u32) -> Step
         lowering::NO_CURRENT,
         body::MCurrent::WIDTH,
     )
+}
+
+// No current, where none is used: the number 0 alone.
+pub fn no_current(s: &[u8], at: usize, n: u32) -> Step
+    requires { ⌜ Standing (now s) at ⌝ }
+    ensures { λ r. ⌜ Over (then kind.noCurrent) (now (s .entry)) at n r ⌝ }
+{
+    let a = numbers::found_at(s, at);
+    if a.count == 0 {
+        return Step::Refused(judge::NO_NUMBER, at);
+    }
+    if a.value == 0 {
+        return Step::On(
+            at + a.count as usize,
+            std::num::wrapping_add_u32(n, body::MCurrent::WIDTH),
+        );
+    }
+    Step::Refused(OUT_OF_RANGE, at)
 }
