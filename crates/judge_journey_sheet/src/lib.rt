@@ -1,6 +1,6 @@
 // The sheet of a journey judged part by part, with the bits of its packet counted. Nothing is written.
 ghost use Rattle.kinds.specs.Kinds.{nIter};
-ghost use Rattle.format.specs.Format.{then, times};
+ghost use Rattle.format.specs.Format.{field, times};
 ghost use Rattle.rows.specs.Rows as rows;
 ghost use Rattle.journey.specs.Journey as journey;
 ghost use Rattle.journey.specs.Parts as parts;
@@ -17,14 +17,14 @@ use sheet_fields::ranged;
 use sheet_points::points;
 use sheet_row::row;
 
-// "a 5-bit count of temporary constraints that must be 0 for now".
+// The count of a segment's temporary constraints, and the constraints.
 fn constraints(s: &[u8], at: usize, n: u32) -> Step
     requires { ⌜ Standing (now s) at ⌝ }
-    ensures { λ r. ⌜ Over (then (nIter journey.constraints)) (now (s .entry)) at n r ⌝ }
+    ensures { λ r. ⌜ Over (λ f. field (nIter journey.constraints) λ m. times journey.temporaryConstraint m f) (now (s .entry)) at n r ⌝ }
 {
     match ranged(s, at, n, NIter::WIDTH, 0, CONSTRAINTS, OUT_OF_RANGE) {
         Next::Refused(r, place) => Step::Refused(r, place),
-        Next::Is(_, at2, n2) => Step::On(at2, n2),
+        Next::Is(count, at2, n2) => sheet_constraints::constraints(s, at2, n2, count),
     }
 }
 
@@ -38,7 +38,7 @@ fn segment_row(s: &[u8], at: usize, n: u32) -> Step
     row(s, at, n, &widths, &most)
 }
 
-// A segment: its names, its timing points, and no constraint.
+// A segment: its names, its timing points, and its temporary constraints.
 fn segment(s: &[u8], at: usize, n: u32) -> Step
     requires { ⌜ Standing (now s) at ⌝ }
     ensures { λ r. ⌜ Over (journey.journeySegment journey.constraints) (now (s .entry)) at n r ⌝ }
