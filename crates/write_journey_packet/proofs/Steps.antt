@@ -3,10 +3,10 @@
 use mathlib.Core.List.{List}
 use Prim.Native.Nat.{ℕ}
 use Rattle.kinds.specs.Kinds.{nIter}
-use Rattle.format.specs.Format.{Format, field, then, times}
+use Rattle.format.specs.Format.{Format, field, times}
 use Rattle.rows.specs.Rows.{row}
 use Rattle.journey_kinds.specs.Kinds.{qJpStatus, nIterSp}
-use Rattle.journey.specs.Journey.{timingPoint, journeySegment, constraints}
+use Rattle.journey.specs.Journey.{timingPoint, temporaryConstraint, journeySegment, constraints}
 use Rattle.journey.specs.Parts.{segmentWidths, segmentMost, journeyBodyPart}
 use Rattle.journey.proofs.Parts.{segment-rows}
 use Rattle.fill_element.specs.declared.Spot.{Spot}
@@ -22,7 +22,7 @@ abbrev names : Format → Format
 names f = row segmentWidths segmentMost f
 
 abbrev last : Format → Format
-last f = then (nIter constraints) f
+last f = field (nIter constraints) λ n. times temporaryConstraint n f
 
 abbrev rest : Format → Format
 rest f = field (nIter 31) λ n. times timingPoint n (last f)
@@ -50,10 +50,17 @@ module _ {s room : List ℕ} {p : Spot} (h : Ready (journeySegment constraints) 
         after-points = along-on (times timingPoint (r .value)) last after-count w
 
         pub segment-last : Offers (nIter constraints) s far t
-        segment-last = along-offers (nIter constraints) (λ n f. f) after-points h
+        segment-last = along-offers (nIter constraints) (times temporaryConstraint) after-points h
 
-        pub segment-wrote : {done : List ℕ} {z : Given} → Gives (nIter constraints) s far t done z → Wrote (journeySegment constraints) s room p done (z .next)
-        segment-wrote g2 = along-none (along-gives (nIter constraints) (λ n f. f) after-points g2)
+        module _ {on : List ℕ} {z : Given} (g2 : Gives (nIter constraints) s far t on z) where
+          after-last : Along (journeySegment constraints) (times temporaryConstraint (z .value)) s room p on (z .next)
+          after-last = along-gives (nIter constraints) (times temporaryConstraint) after-points g2
+
+          pub segment-constraints : Ready (times temporaryConstraint (z .value)) s on (z .next)
+          segment-constraints = along-next (times temporaryConstraint (z .value)) (λ f. f) after-last h
+
+          pub segment-wrote : {done : List ℕ} {y : Spot} → Wrote (times temporaryConstraint (z .value)) s on (z .next) done y → Wrote (journeySegment constraints) s room p done y
+          segment-wrote x = along-none (along-on (times temporaryConstraint (z .value)) (λ f. f) after-last x)
 
 -- ---- the body
 

@@ -2,9 +2,9 @@
 ghost use Rattle.format.specs.Format.{times};
 ghost use Rattle.fill_element.specs.Writing.{Ready, Wrote};
 ghost use Rattle.journey.specs.Journey as tree;
-ghost use Rattle.journey.specs.Journey.{constraints};
 ghost use Rattle.journey.specs.Parts.{segmentWidths, segmentMost, journeyBodyPart};
 ghost use Rattle.rows.specs.Rows.{row};
+use fill_constraint::constraint;
 use fill_element::Spot;
 use fill_point::point;
 use fill_row::number;
@@ -34,6 +34,20 @@ fn points(sheet: &[u8], room: &mut [u8], from: Spot, count: u32) -> Spot
     p
 }
 
+// The temporary constraints of a segment.
+fn constraints(sheet: &[u8], room: &mut [u8], from: Spot, count: u32) -> Spot
+    requires { ⌜ Ready (times tree.temporaryConstraint count) (now sheet) (now room) from ⌝ }
+    ensures { λ r. ⌜ Wrote (times tree.temporaryConstraint count) (now (sheet .entry)) (now (room .entry)) from (now (room .exit)) r ⌝ }
+{
+    let mut p = from;
+    let mut ahead = count;
+    while 0 < ahead {
+        p = constraint(sheet, room, p);
+        ahead -= 1;
+    }
+    p
+}
+
 // NID_C to Q_SP_DIR of a segment.
 fn names(sheet: &[u8], room: &mut [u8], p: Spot) -> Spot
     requires { ⌜ Ready (row segmentWidths segmentMost) (now sheet) (now room) p ⌝ }
@@ -53,23 +67,24 @@ fn names(sheet: &[u8], room: &mut [u8], p: Spot) -> Spot
     piece(sheet, room, name, &widths[2..5], &most[2..5], VERSION)
 }
 
-// A segment: its names, its timing points, and the count of its temporary constraints.
+// A segment: its names, its timing points, and its temporary constraints.
 fn segment(sheet: &[u8], room: &mut [u8], p: Spot) -> Spot
-    requires { ⌜ Ready (tree.journeySegment constraints) (now sheet) (now room) p ⌝ }
-    ensures { λ r. ⌜ Wrote (tree.journeySegment constraints) (now (sheet .entry)) (now (room .entry)) p (now (room .exit)) r ⌝ }
+    requires { ⌜ Ready (tree.journeySegment tree.constraints) (now sheet) (now room) p ⌝ }
+    ensures { λ r. ⌜ Wrote (tree.journeySegment tree.constraints) (now (sheet .entry)) (now (room .entry)) p (now (room .exit)) r ⌝ }
 {
     let next = names(sheet, room, p);
     let count = number(sheet, room, next, NIter::WIDTH, NIter::LARGEST);
     let first = count.next;
     let last = points(sheet, room, first, count.value);
-    let none = number(sheet, room, last, NIter::WIDTH, journey::CONSTRAINTS);
-    none.next
+    let limit = number(sheet, room, last, NIter::WIDTH, journey::CONSTRAINTS);
+    let begin = limit.next;
+    constraints(sheet, room, begin, limit.value)
 }
 
 // The segments of the journey.
 fn segments(sheet: &[u8], room: &mut [u8], from: Spot, count: u32) -> Spot
-    requires { ⌜ Ready (times (tree.journeySegment constraints) count) (now sheet) (now room) from ⌝ }
-    ensures { λ r. ⌜ Wrote (times (tree.journeySegment constraints) count) (now (sheet .entry)) (now (room .entry)) from (now (room .exit)) r ⌝ }
+    requires { ⌜ Ready (times (tree.journeySegment tree.constraints) count) (now sheet) (now room) from ⌝ }
+    ensures { λ r. ⌜ Wrote (times (tree.journeySegment tree.constraints) count) (now (sheet .entry)) (now (room .entry)) from (now (room .exit)) r ⌝ }
 {
     let mut p = from;
     let mut rest = count;
