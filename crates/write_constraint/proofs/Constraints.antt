@@ -126,10 +126,10 @@ module _ (s : List ℕ) (stop : ℕ) {at : ℕ} {p : Put} (h : PartWritable temp
       inside = omega (arith, current-puts .whole, at-current .left .stands .before, h .reads .inside);
       long = h .reads .long;
       holds =
-        more (field-here s stop (qTcFront type) (λ v. levelled) 1 refl (along-here s stop at-front h) front refl .fits)
-        (more (rw level-now at (level-puts .fits))
-        (more (field-here s stop (qLowAdhesionRate type) (λ v. current) 3 refl (along-here s stop at-adhesion h) adhesion refl .fits)
-        (more (current-puts .fits) none)));
+          more (field-here s stop (qTcFront type) (λ v. levelled) 1 refl (along-here s stop at-front h) front refl .fits)
+          (more (rw level-now at (level-puts .fits))
+          (more (field-here s stop (qLowAdhesionRate type) (λ v. current) 3 refl (along-here s stop at-adhesion h) adhesion refl .fits)
+          (more (current-puts .fits) none)));
     }
 
     pub constraint-wrote : {r : Put} → r ≡ putAll q (restrictionAt s to) → Wrote temporaryConstraint s stop at p (at + 73) r

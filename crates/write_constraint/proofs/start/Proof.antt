@@ -22,7 +22,7 @@ same-length : tie.Need-same-length
 same-length c = search needs
 
 returns : tie.Need-returns
-returns c = 
+returns c =
     window-copied _ _ startWidths _ (c .before .before .before .before .before .before .before .before .before .before .before .before .before .before .before .pre) (c .before .before .before .before .before .before .before .before .before .before .before .before .read-window .ensures)
     (all-more _ _ _ (c .before .before .before .before .before .before .before .before .before .before .one .ensures) (all-more _ _ _ (c .before .before .before .before .before .before .one2 .ensures) (all-one _ _ (c .before .before .put-number .ensures))))
 
