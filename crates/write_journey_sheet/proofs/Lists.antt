@@ -12,9 +12,9 @@ use Rattle.bits.proofs.Fields.{field-small}
 use Rattle.numbers.specs.Numbers.{groupsIn}
 use Rattle.numbers.specs.Groups.{Put}
 use Rattle.kinds.specs.Kinds.{nIter}
-use Rattle.format.specs.Format.{Format, field, then, times}
+use Rattle.format.specs.Format.{Format, field, times}
 use Rattle.rows.specs.Rows.{row}
-use Rattle.journey.specs.Journey.{timingPoint, journeySegment}
+use Rattle.journey.specs.Journey.{timingPoint, temporaryConstraint, journeySegment}
 use Rattle.journey.specs.Parts.{segmentWidths, segmentMost}
 use Rattle.journey.proofs.Parts.{segment-rows, segment-fits}
 use Rattle.write_element.specs.Writing.{putting, PartWritable, Wrote}
@@ -24,8 +24,11 @@ use Rattle.write_row.proofs.Tree.{Rowing, rowing-none, rowing-as, rowing-row, r
 use Rattle.write_journey_rows.specs.Widths.{startWidths}
 
 module _ (s : List ℕ) (stop limit : ℕ) {at : ℕ} {p : Put} (h : PartWritable (journeySegment limit) s stop at p) where
+  abbrev constrained : Format → Format
+  constrained f = field (nIter limit) λ m. times temporaryConstraint m f
+
   abbrev listed : ℕ → Format → Format
-  listed n f = times timingPoint n (then (nIter limit) f)
+  listed n f = times timingPoint n (constrained f)
 
   start-rowing : (n : ℕ) → n ≡ fieldAt s (at + 59) 5 → Rowing s stop at p (journeySegment limit) (listed n) startWidths
   start-rowing n e =
@@ -41,21 +44,28 @@ module _ (s : List ℕ) (stop limit : ℕ) {at : ℕ} {p : Put} (h : PartWritabl
     at-points = rw c (start-rowing n e .along)
 
     pub points-writable : PartWritable (times timingPoint n) s stop (at + 64) q
-    points-writable = along-next s stop (times timingPoint n) (then (nIter limit)) at-points h
+    points-writable = along-next s stop (times timingPoint n) constrained at-points h
 
     module _ {to : ℕ} {r : Put} (w : Wrote (times timingPoint n) s stop (at + 64) q to r) where
-      at-last : Along s stop (journeySegment limit) (then (nIter limit)) at p to r
-      at-last = along-on s stop (times timingPoint n) (then (nIter limit)) at-points w
+      at-count : Along s stop (journeySegment limit) constrained at p to r
+      at-count = along-on s stop (times timingPoint n) constrained at-points w
 
-      last : PartWritable (then (nIter limit)) s stop to r
-      last = along-here s stop at-last h
+      count-here : PartWritable constrained s stop to r
+      count-here = along-here s stop at-count h
 
-      pub last-read : (0 < 5) × (5 ≤ 32) × (to + 5 ≤ 8 * length s) × (8 ≤ length s)
-      last-read = field-read s stop (nIter limit) (λ v f. f) 5 refl last (lit< tt) (lit≤ tt)
+      pub count-read : (0 < 5) × (5 ≤ 32) × (to + 5 ≤ 8 * length s) × (8 ≤ length s)
+      count-read = field-read s stop (nIter limit) (times temporaryConstraint) 5 refl count-here (lit< tt) (lit≤ tt)
 
       module _ {v : ℕ} (d : v ≡ fieldAt s to 5) where
-        pub last-fits : (v < 128) × (r .next + length (groupsIn v) ≤ length (r .bytes))
-        last-fits = (omega (arith, field-small s to 5 5 (le-refl _)), field-here s stop (nIter limit) (λ v f. f) 5 refl last v d .fits)
+        pub count-fits : (v < 128) × (r .next + length (groupsIn v) ≤ length (r .bytes))
+        count-fits = (omega (arith, field-small s to 5 5 (le-refl _)), field-here s stop (nIter limit) (times temporaryConstraint) 5 refl count-here v d .fits)
 
-        pub segment-wrote : {t : Put} → t ≡ putting r v → Wrote (journeySegment limit) s stop at p (to + 5) t
-        segment-wrote g = along-none s stop (along-put s stop (nIter limit) (λ v f. f) 5 refl at-last h v d (to + 5) refl g)
+        module _ {t : Put} (g : t ≡ putting r v) where
+          at-constraints : Along s stop (journeySegment limit) (times temporaryConstraint v) at p (to + 5) t
+          at-constraints = along-put s stop (nIter limit) (times temporaryConstraint) 5 refl at-count h v d (to + 5) refl g
+
+          pub constraints-writable : PartWritable (times temporaryConstraint v) s stop (to + 5) t
+          constraints-writable = along-here s stop at-constraints h
+
+          pub segment-wrote : {a : ℕ} {u : Put} → Wrote (times temporaryConstraint v) s stop (to + 5) t a u → Wrote (journeySegment limit) s stop at p a u
+          segment-wrote o = along-none s stop (along-on s stop (times temporaryConstraint v) (λ f. f) at-constraints o)

@@ -4,10 +4,11 @@ ghost use Prim.Native.Nat.{_+_, _*_, _≤_};
 ghost use lib.ListN.{length};
 ghost use lib.Seq.{sets};
 ghost use Rattle.format.specs.Format.{times};
-ghost use Rattle.journey.specs.Journey.{timingPoint, journeySegment, constraints};
+ghost use Rattle.journey.specs.Journey.{timingPoint, temporaryConstraint, journeySegment, constraints};
 ghost use Rattle.write_element.specs.Writing.{filled, PartWritable, Wrote};
 ghost use Rattle.write_journey_sheet.specs.Sheet.{journeyOf, JourneyWritable};
 use kinds::body::NIter;
+use write_constraint::constraint;
 use write_element::Spot;
 use write_journey_rows::head;
 use write_journey_rows::point;
@@ -16,6 +17,9 @@ use write_row::one;
 
 // "A timing point has 129 bits".
 const POINT: usize = 129;
+
+// The bits of a temporary constraint.
+const CONSTRAINT: usize = 73;
 
 // The bits of a segment before its timing points.
 const START: usize = 64;
@@ -36,7 +40,30 @@ fn points(packet: &[u8], stop: usize, at: usize, count: u32, room: &mut [u8], n:
     m
 }
 
-// A segment: its identity and direction, its timing points, and the count of temporary constraints.
+// The temporary constraints of a segment.
+fn constraints(
+    packet: &[u8],
+    stop: usize,
+    at: usize,
+    count: u32,
+    room: &mut [u8],
+    n: usize,
+) -> usize
+    requires { ⌜ PartWritable (times temporaryConstraint count) (now packet) stop at (filled (now room) n) ⌝ }
+    ensures { λ r. ⌜ Wrote (times temporaryConstraint count) (now (packet .entry)) stop at (filled (now (room .entry)) n) (at + 73 * count) (filled (now (room .exit)) r) ⌝ }
+{
+    let mut to = at;
+    let mut m = n;
+    let mut left = count;
+    while 0 < left {
+        m = constraint(packet, stop, to, room, m);
+        to += CONSTRAINT;
+        left -= 1;
+    }
+    m
+}
+
+// A segment: its identity and direction, its timing points, and its temporary constraints.
 fn segment(packet: &[u8], stop: usize, at: usize, room: &mut [u8], n: usize) -> Spot
     requires { ⌜ PartWritable (journeySegment constraints) (now packet) stop at (filled (now room) n) ⌝ }
     ensures { λ r. ⌜ Wrote (journeySegment constraints) (now (packet .entry)) stop at (filled (now (room .entry)) n) (r .at) (filled (now (room .exit)) (r .n)) ⌝ }
@@ -46,9 +73,10 @@ fn segment(packet: &[u8], stop: usize, at: usize, room: &mut [u8], n: usize) -> 
     let m = points(packet, stop, at + START, count, room, first.n);
     let to = at + START + POINT * count as usize;
     let v = bits::read_window(packet, to, NIter::WIDTH);
-    let last = one(room, m, v);
+    let next = one(room, m, v);
+    let last = constraints(packet, stop, to + 5, v, room, next);
     Spot {
-        at: to + 5,
+        at: to + 5 + CONSTRAINT * v as usize,
         n: last,
     }
 }
