@@ -64,17 +64,30 @@ fn refused(journey: Journey, refusal: Refusal) {
     assert_eq!(sheet_of(&journey.packet), Err(refusal.at(journey.bit)));
 }
 
-/// The sheet of a journey with so many segments and timing points, at most 31 a segment, all numbers else 0.
-pub fn long(legs: u32, points: u32) -> Vec<u8> {
-    let mut numbers = vec![4, 0, 0, 0, 0, 0, 0, legs];
-    let mut left = points;
-    for _ in 0..legs {
-        let here = left.min(31);
-        left -= here;
-        numbers.extend([0, 0, 0, 0, 0, here]);
-        numbers.resize(numbers.len() + here as usize * 16 + 1, 0);
+/// The greatest number of a field is accepted, and the next refused: in the packet too, where the field holds it.
+fn ends_with(index: usize, most: u32) {
+    accepted(with(index, most));
+    let past = with(index, most + 1);
+    assert_eq!(packet_of(&past.sheet), Err(Refusal::Field.at(past.byte)));
+    if (most + 1) >> WIDTHS[index] == 0 {
+        assert_eq!(sheet_of(&past.packet), Err(Refusal::Field.at(past.bit)));
     }
-    assert_eq!(left, 0);
+}
+
+/// The sheet of a journey with so many segments, timing points and constraints, at most 31 a segment of each, all numbers else 0.
+pub fn long(legs: u32, points: u32, constraints: u32) -> Vec<u8> {
+    let mut numbers = vec![4, 0, 0, 0, 0, 0, 0, legs];
+    let mut left = [points, constraints];
+    for _ in 0..legs {
+        numbers.extend([0; 5]);
+        for (left, fields) in left.iter_mut().zip([16, 8]) {
+            let here = (*left).min(31);
+            *left -= here;
+            numbers.push(here);
+            numbers.resize(numbers.len() + here as usize * fields, 0);
+        }
+    }
+    assert_eq!(left, [0, 0]);
     sheet(&numbers)
 }
 
@@ -116,33 +129,22 @@ fn a_segment_is_needed_for_a_question() {
 
 #[test]
 fn ranges_end_where_the_request_says() {
-    let last = |index: usize, most: u32| {
-        accepted(with(index, most));
-        refused(with(index, most + 1), Refusal::Field);
-    };
-    last(STATUS, 4);
-    last(POINT + 2, 86_400);
-    last(POINT + 4, 2);
-    last(POINT + 6, 1);
-    last(HALT + 5, 86_399);
-    last(CONSTRAINTS, 0);
+    for (index, most) in [(STATUS, 4), (POINT + 2, 86_400), (POINT + 4, 2), (POINT + 6, 1), (HALT + 5, 86_399)] {
+        ends_with(index, most);
+    }
     refused(with(POINT + 5, 3), Refusal::Field);
 }
 
 #[test]
 fn numbers_fit_the_packet_s_fields() {
-    let past = |index: usize, number: u32| {
-        let journey = with(index, number);
-        assert_eq!(packet_of(&journey.sheet), Err(Refusal::Field.at(journey.byte)));
-    };
     for index in [LEG, LEG + 2, LEG + 3, LEG + 4, POINT + 1, POINT + 3, POINT + 7, HALT, HALT + 1, HALT + 4, HALT + 6, HALT + 7] {
-        let most = (1 << WIDTHS[index]) - 1;
-        accepted(with(index, most));
-        past(index, most + 1);
+        ends_with(index, (1 << WIDTHS[index]) - 1);
     }
     accepted(with(POINT, u32::MAX));
-    past(LEGS, 256);
-    past(LEG + 5, 32);
+    for (index, past) in [(LEGS, 256), (LEG + 5, 32), (CONSTRAINTS, 32)] {
+        let journey = with(index, past);
+        assert_eq!(packet_of(&journey.sheet), Err(Refusal::Field.at(journey.byte)));
+    }
 }
 
 #[test]
@@ -161,21 +163,30 @@ fn a_passing_point_says_nothing_of_a_halt() {
 
 #[test]
 fn bodies_are_at_most_65_535_bits() {
-    // 11 + 69 * 41 + 129 * 486 = 65,534, and 11 + 69 * 56 + 129 * 478 = 65,537: no body has one between
-    let longest = packet_of(&long(41, 486)).unwrap();
-    assert_eq!((longest.len(), &longest[..3]), (8_207, &[4, 0xFF, 0xFE][..]));
-    assert_eq!(sheet_of(&longest), Ok(long(41, 486)));
-    for (legs, points) in [(56, 478), (42, 486), (41, 487), (255, 31 * 255)] {
-        assert_eq!(packet_of(&long(legs, points)), Err(Refusal::Body.nowhere()));
+    // 11 + 69 * 41 + 129 * 486 = 65,534, and 11 + 69 * 44 + 73 * 856 = 65,535
+    for ((legs, points, constraints), bits) in
+        [((41, 486, 0), [0xFF, 0xFE]), ((44, 0, 856), [0xFF; 2]), ((20, 186, 550), [0xFF; 2])]
+    {
+        let sheet = long(legs, points, constraints);
+        let longest = packet_of(&sheet).unwrap();
+        assert_eq!((longest.len(), longest[0], &longest[1..3]), (8_207, 4, &bits[..]));
+        assert_eq!(sheet_of(&longest), Ok(sheet));
+    }
+    // 11 + 69 * 62 + 73 * 839 = 65,536
+    let none = [(42, 486, 0), (41, 487, 0), (62, 0, 839), (41, 486, 1), (44, 0, 857), (255, 31 * 255, 31 * 255)];
+    for (legs, points, constraints) in none {
+        assert_eq!(packet_of(&long(legs, points, constraints)), Err(Refusal::Body.nowhere()));
     }
 }
 
 #[test]
 fn a_long_body_is_judged_after_the_sheet_and_before_the_room() {
-    let long = long(42, 486);
+    let long = long(42, 486, 0);
     assert_eq!(sheet_to_packet(&long, &mut []), Err(Refusal::Body.nowhere()));
     let last = long.len() - 1;
     assert_eq!(packet_of(&[&long[..], &[0]].concat()), Err(Refusal::Sheet.at(long.len())));
     assert_eq!(packet_of(&long[..last]), Err(Refusal::Sheet.at(last)));
-    assert_eq!(packet_of(&[&long[..last], &[1]].concat()), Err(Refusal::Field.at(last)));
+    assert_eq!(packet_of(&[&long[..last], &[1]].concat()), Err(Refusal::Sheet.at(last + 1)));
+    assert_eq!(packet_of(&[&long[..last], &[32]].concat()), Err(Refusal::Field.at(last)));
+    assert_eq!(packet_of(&[&long[..last], &[1, 4]].concat()), Err(Refusal::Field.at(last + 1)));
 }

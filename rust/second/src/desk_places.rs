@@ -38,6 +38,36 @@ fn with_last(packet: &[u8], byte: u8) -> Vec<u8> {
     [&packet[..packet.len() - 1], &[byte]].concat()
 }
 
+/// A packet with one field replaced is refused at that field.
+fn fields_refused(packet: &[u8], refusal: Refusal, fields: &[((usize, u32), u32)]) {
+    for ((place, width), value) in fields {
+        packet_refused(&packet_with(packet, (*place, *width), *value), refusal.at(*place));
+    }
+}
+
+/// Numbers with one replaced are refused at a byte.
+fn numbers_refused(whole: &[u32], refusal: Refusal, numbers: &[(usize, u32, usize)]) {
+    for (index, number, place) in numbers {
+        let mut replaced = whole.to_vec();
+        replaced[*index] = *number;
+        sheet_refused(&sheet(&replaced), refusal.at(*place));
+    }
+}
+
+/// A packet with another last byte is refused at a bit of its padding.
+fn paddings_refused(packet: &[u8], paddings: &[(u8, usize)]) {
+    for (byte, place) in paddings {
+        packet_refused(&with_last(packet, *byte), Padding.at(*place));
+    }
+}
+
+/// A packet with fewer bits in its body is refused at the field that does not fit.
+fn bodies_refused(packet: &[u8], bodies: &[(u32, usize)]) {
+    for (bits, place) in bodies {
+        packet_refused(&counted(packet, *bits), Bits.at(*place));
+    }
+}
+
 /// The document's numbers with a length of 1,000 and two changes of speed: in the packet their locations begin at the bits 271 and 308.
 fn changed() -> Vec<u32> {
     let mut numbers = SHEET.to_vec();
@@ -60,7 +90,7 @@ fn a_packet_is_refused_as_a_whole_at_0() {
 
 #[test]
 fn a_field_of_a_segment_is_refused_at_its_first_bit() {
-    for ((place, width), value) in [
+    let fields = [
         ((24, 32), 0xA000_0000), // NID_OPERATIONAL, the first field of all
         ((24, 32), 0x0000_000A),
         ((95, 17), 86_400), // seconds
@@ -72,9 +102,8 @@ fn a_field_of_a_segment_is_refused_at_its_first_bit() {
         ((285, 5), 24),     // voltages
         ((290, 10), 1_001), // M_CURRENT
         ((300, 5), 24),     // currents, the last field
-    ] {
-        packet_refused(&packet_with(&sample(), (place, width), value), Field.at(place));
-    }
+    ];
+    fields_refused(&sample(), Field, &fields);
 }
 
 #[test]
@@ -83,18 +112,15 @@ fn an_entry_is_refused_at_the_field_at_fault() {
     numbers.splice(SPEED_CHANGES - 1..SPEED_CHANGES, [2, 0, 100, 120, 1, 1, 90]);
     let packet = packet_of(&sheet(&numbers)).unwrap();
     // the count of entries ends at 266; an entry has 2 + 4 + 7 bits
-    for ((place, width), value) in [((266, 2), 3), ((268, 4), 11), ((272, 7), 121), ((279, 2), 3), ((281, 4), 3), ((285, 7), 127)]
-    {
-        packet_refused(&packet_with(&packet, (place, width), value), Field.at(place));
-    }
+    let fields = [((266, 2), 3), ((268, 4), 11), ((272, 7), 121), ((279, 2), 3), ((281, 4), 3), ((285, 7), 127)];
+    fields_refused(&packet, Field, &fields);
 }
 
 #[test]
 fn a_location_is_refused_at_its_first_bit() {
     let packet = packet_of(&sheet(&changed())).unwrap();
-    for (place, location) in [(271, 0), (271, 1_000), (271, 16_777_215), (308, 0), (308, 500), (308, 499), (308, 1_000)] {
-        packet_refused(&packet_with(&packet, (place, 24), location), Location.at(place));
-    }
+    let locations = [(271, 0), (271, 1_000), (271, 16_777_215), (308, 0), (308, 500), (308, 499), (308, 1_000)];
+    fields_refused(&packet, Location, &locations.map(|(place, location)| ((place, 24), location)));
     // the first of two that are wrong
     let both = packet_with(&packet_with(&packet, (271, 24), 0), (308, 24), 0);
     packet_refused(&both, Location.at(271));
@@ -103,9 +129,7 @@ fn a_location_is_refused_at_its_first_bit() {
 #[test]
 fn a_field_that_does_not_fit_is_refused_at_its_first_bit() {
     // NID_C has 10 bits, NID_SP 32; V_STATIC begins 133 bits into the body, Q_FRONT 140, the last count 180
-    for (bits, place) in [(0, 120), (9, 120), (10, 130), (41, 130), (139, 253), (140, 260), (180, 300), (184, 300)] {
-        packet_refused(&counted(&sample(), bits), Bits.at(place));
-    }
+    bodies_refused(&sample(), &[(0, 120), (9, 120), (10, 130), (41, 130), (139, 253), (140, 260), (180, 300), (184, 300)]);
     // judged before its value: V_STATIC as far as it is there
     packet_refused(&counted(&packet_with(&sample(), (253, 7), 127), 139), Bits.at(253));
 }
@@ -122,18 +146,14 @@ fn bits_left_are_refused_at_the_first() {
 
 #[test]
 fn padding_is_refused_at_the_first_bit_that_is_1() {
-    for (byte, place) in [(0x40, 305), (0x01, 311), (0x24, 306), (0x03, 310), (0x7F, 305)] {
-        packet_refused(&with_last(&sample(), byte), Padding.at(place));
-    }
-    for (byte, place) in [(0x40, 329), (0x01, 335), (0x24, 330), (0x7F, 329)] {
-        packet_refused(&with_last(&PACKET, byte), Padding.at(place));
-    }
+    paddings_refused(&sample(), &[(0x40, 305), (0x01, 311), (0x24, 306), (0x03, 310), (0x7F, 305)]);
+    paddings_refused(&PACKET, &[(0x40, 329), (0x01, 335), (0x24, 330), (0x7F, 329)]);
 }
 
 #[test]
 fn a_number_of_a_segment_is_refused_at_its_first_byte() {
     // NID_OPERATIONAL has three bytes, every other number one
-    for (index, number, place) in [
+    let numbers = [
         (1, 0xA2345, 1),
         (2, 1 << 24, 4),
         (4, 86_400, 6),
@@ -149,11 +169,8 @@ fn a_number_of_a_segment_is_refused_at_its_first_byte() {
         (19, 1, 21),
         (21, 10_011, 23),
         (22, 24, 24),
-    ] {
-        let mut numbers = SHEET;
-        numbers[index] = number;
-        sheet_refused(&sheet(&numbers), Field.at(place));
-    }
+    ];
+    numbers_refused(&SHEET, Field, &numbers);
     for number in [0, 2, 5, 7, 260] {
         sheet_refused(&sheet(&[number]), Number.at(0));
     }
@@ -162,11 +179,7 @@ fn a_number_of_a_segment_is_refused_at_its_first_byte() {
 #[test]
 fn a_location_in_a_sheet_is_refused_at_its_first_byte() {
     // the length has two bytes, so the first location begins at 21; it has two too, and the second begins at 26
-    for (index, location, place) in [(18, 0, 21), (18, 1_000, 21), (22, 500, 26), (22, u32::MAX, 26)] {
-        let mut numbers = changed();
-        numbers[index] = location;
-        sheet_refused(&sheet(&numbers), Location.at(place));
-    }
+    numbers_refused(&changed(), Location, &[(18, 0, 21), (18, 1_000, 21), (22, 500, 26), (22, u32::MAX, 26)]);
 }
 
 #[test]
@@ -194,7 +207,7 @@ fn a_form_is_refused_at_the_number_s_first_byte() {
 
 #[test]
 fn a_field_of_a_journey_is_refused_at_its_first_bit() {
-    for ((place, width), value) in [
+    let fields = [
         ((24, 32), 0x000A_0000), // NID_OPERATIONAL
         ((120, 3), 5),           // Q_JP_Status
         ((242, 17), 86_401),     // latest arrival seconds
@@ -202,21 +215,19 @@ fn a_field_of_a_journey_is_refused_at_its_first_bit() {
         ((271, 2), 3),           // stop kind
         ((273, 2), 2),           // information
         ((296, 17), 86_400),     // departure seconds
-        ((324, 5), 1),           // temporary constraints, the last field
-    ] {
-        packet_refused(&packet_with(&PACKET, (place, width), value), Field.at(place));
-    }
+    ];
+    fields_refused(&PACKET, Field, &fields);
     // at a passing point the door side is the first field that is not 0
     packet_refused(&packet_with(&PACKET, (271, 2), 2), Field.at(276));
-    // without timing points the constraints follow at 195, where NID_TP begins with 01110
-    packet_refused(&packet_with(&PACKET, (190, 5), 0), Field.at(195));
+    // without timing points the constraints follow at 195: 01110 of NID_TP are 14 of them, 11 and 00 the first's type and range, 24 bits
+    // its start, and its end at 228 is not 0
+    packet_refused(&packet_with(&PACKET, (190, 5), 0), Field.at(228));
 }
 
 #[test]
 fn the_body_of_a_journey_ends_too_soon_or_too_late() {
-    for (bits, place) in [(0, 120), (2, 120), (3, 123), (10, 123), (11, 131), (100, 195), (203, 323), (204, 324), (208, 324)] {
-        packet_refused(&counted(&PACKET, bits), Bits.at(place));
-    }
+    let bodies = [(0, 120), (2, 120), (3, 123), (10, 123), (11, 131), (100, 195), (203, 323), (204, 324), (208, 324)];
+    bodies_refused(&PACKET, &bodies);
     // a second segment, which is not there
     packet_refused(&packet_with(&PACKET, (123, 8), 2), Bits.at(329));
     packet_refused(&packet_with(&PACKET, (123, 8), 0), Left.at(131));
@@ -228,7 +239,7 @@ fn the_body_of_a_journey_ends_too_soon_or_too_late() {
 
 #[test]
 fn a_number_of_a_journey_is_refused_at_its_first_byte() {
-    for (index, number, place) in [
+    let numbers = [
         (1, 0xA2345, 1),
         (6, 5, 8),
         (7, 256, 9),
@@ -243,12 +254,9 @@ fn a_number_of_a_journey_is_refused_at_its_first_byte() {
         (27, 86_400, 45),
         (28, 1_024, 48),
         (29, 2, 50),
-        (30, 1, 51),
-    ] {
-        let mut numbers = JOURNEY;
-        numbers[index] = number;
-        sheet_refused(&sheet(&numbers), Field.at(place));
-    }
+        (30, 32, 51),
+    ];
+    numbers_refused(&JOURNEY, Field, &numbers);
 }
 
 #[test]
@@ -263,6 +271,6 @@ fn the_form_of_a_journey_is_refused_at_the_number_s_first_byte() {
         sheet_refused(&[&whole[..26], &[last], &whole[27..]].concat(), Sheet.at(22));
     }
     sheet_refused(&[&whole[..], &[0]].concat(), Sheet.at(52));
-    sheet_refused(&long(42, 486), Body.at(0));
+    sheet_refused(&long(42, 486, 0), Body.at(0));
     assert_eq!(sheet_to_packet(&whole, &mut [0; 41]), Err(Room.at(0)));
 }

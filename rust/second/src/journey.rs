@@ -1,4 +1,4 @@
-//! A journey as an owned structure: the segments that it runs over, each with its timing points.
+//! A journey as an owned structure: the segments that it runs over, each with its timing points and temporary constraints.
 
 use crate::segment::{Header, Identity};
 
@@ -14,12 +14,13 @@ pub struct Journey {
     pub legs: Vec<Leg>,
 }
 
-/// One segment of the journey. Its temporary constraints are none, for now.
+/// One segment of the journey.
 pub struct Leg {
     pub identity: Identity,
     /// Q_SP_DIR is 1: it is run in its nominal direction.
     pub nominal: bool,
     pub points: Vec<TimingPoint>,
+    pub constraints: Vec<Constraint>,
 }
 
 pub struct TimingPoint {
@@ -55,6 +56,87 @@ pub struct Halt {
     pub departure: Moment,
     pub dwell: u32,
     pub automatic_closing: bool,
+}
+
+/// A temporary constraint: what it says, and where.
+pub struct Constraint {
+    pub kind: ConstraintType,
+    pub range: Range,
+}
+
+/// Q_TC_Type, and what it has to say.
+pub enum ConstraintType {
+    /// 0: a speed in km/h; Q_FRONT is 1 where its end takes no train length delay.
+    Speed { front: bool, speed: u32 },
+    /// 1: a rate of low adhesion.
+    Adhesion(u32),
+    /// 2: the driving modes above GoA1 are not available.
+    AboveGoa1,
+    /// 3: the driving mode GoA1 is not available.
+    Goa1,
+}
+
+/// Q_TC_Range, with locations in centimetres.
+pub enum Range {
+    /// 0: it starts here.
+    Starts(u32),
+    /// 1: it ends here.
+    Ends(u32),
+    /// 2: it starts and ends, the one below the other.
+    Both(u32, u32),
+    /// 3: the whole segment.
+    Whole,
+}
+
+impl ConstraintType {
+    /// By its number, 0 to 3, and those of the fields that it uses.
+    pub fn of(number: u32, front: bool, speed: u32, rate: u32) -> ConstraintType {
+        match number {
+            0 => ConstraintType::Speed { front, speed },
+            1 => ConstraintType::Adhesion(rate),
+            2 => ConstraintType::AboveGoa1,
+            _ => ConstraintType::Goa1,
+        }
+    }
+
+    pub fn number(&self) -> u32 {
+        match self {
+            ConstraintType::Speed { .. } => 0,
+            ConstraintType::Adhesion(_) => 1,
+            ConstraintType::AboveGoa1 => 2,
+            ConstraintType::Goa1 => 3,
+        }
+    }
+
+    /// Q_FRONT, the speed in km/h and the adhesion, each 0 where it is not used.
+    pub fn content(&self) -> [u32; 3] {
+        match self {
+            ConstraintType::Speed { front, speed } => [u32::from(*front), *speed, 0],
+            ConstraintType::Adhesion(rate) => [0, 0, *rate],
+            ConstraintType::AboveGoa1 | ConstraintType::Goa1 => [0; 3],
+        }
+    }
+}
+
+impl Range {
+    pub fn number(&self) -> u32 {
+        match self {
+            Range::Starts(_) => 0,
+            Range::Ends(_) => 1,
+            Range::Both(..) => 2,
+            Range::Whole => 3,
+        }
+    }
+
+    /// The start and the end, each 0 where it is not used.
+    pub fn locations(&self) -> [u32; 2] {
+        match self {
+            Range::Starts(start) => [*start, 0],
+            Range::Ends(end) => [0, *end],
+            Range::Both(start, end) => [*start, *end],
+            Range::Whole => [0; 2],
+        }
+    }
 }
 
 impl Stop {

@@ -8,6 +8,8 @@ mod desk;
 #[cfg(test)]
 mod desk_cants;
 #[cfg(test)]
+mod desk_constraints;
+#[cfg(test)]
 mod desk_journeys;
 #[cfg(test)]
 mod desk_places;

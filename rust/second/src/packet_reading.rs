@@ -195,8 +195,9 @@ impl Fields {
         let nominal = self.flag()?;
         let count = self.any(5)?;
         let points = (0..count).map(|_| self.timing_point()).collect::<Result<_, _>>()?;
-        self.zero(5)?;
-        Ok(Leg { identity, nominal, points })
+        let count = self.any(5)?;
+        let constraints = (0..count).map(|_| self.constraint()).collect::<Result<_, _>>()?;
+        Ok(Leg { identity, nominal, points, constraints })
     }
 
     fn timing_point(&mut self) -> Result<TimingPoint, Refused> {
@@ -236,6 +237,47 @@ impl Fields {
 
     fn moment(&mut self, last: u32) -> Result<Moment, Refused> {
         Ok(Moment { date: self.any(15)?, seconds: self.up_to(17, last)? })
+    }
+
+    fn constraint(&mut self) -> Result<Constraint, Refused> {
+        let number = self.any(2)?;
+        let range = self.range()?;
+        let kind = self.constraint_type(number)?;
+        // no type of two bits uses the current
+        self.field(10, |tens| tens == NO_LIMIT)?;
+        Ok(Constraint { kind, range })
+    }
+
+    fn range(&mut self) -> Result<Range, Refused> {
+        Ok(match self.any(2)? {
+            0 => {
+                let start = self.any(24)?;
+                self.zero(24)?;
+                Range::Starts(start)
+            }
+            1 => {
+                self.zero(24)?;
+                Range::Ends(self.any(24)?)
+            }
+            2 => {
+                let start = self.any(24)?;
+                Range::Both(start, self.judged(24, |end| start < end, Refusal::Location)?)
+            }
+            _ => {
+                self.zero(24)?;
+                self.zero(24)?;
+                Range::Whole
+            }
+        })
+    }
+
+    /// From Q_FRONT to Q_Low_Adhesion_Rate, each 0 where the type does not use it.
+    fn constraint_type(&mut self, number: u32) -> Result<ConstraintType, Refused> {
+        let (speed, adhesion) = (number == 0, number == 1);
+        let front = self.up_to(1, if speed { 1 } else { 0 })? == 1;
+        let kmh = self.up_to(7, if speed { 120 } else { 0 })? * 5;
+        let rate = self.up_to(3, if adhesion { 5 } else { 0 })?;
+        Ok(ConstraintType::of(number, front, kmh, rate))
     }
 
     fn flag(&mut self) -> Result<bool, Refused> {

@@ -37,7 +37,8 @@ fn journey_body(journey: &Journey) -> Vec<bool> {
         push(&mut body, 1, u32::from(leg.nominal));
         push(&mut body, 5, leg.points.len() as u32);
         leg.points.iter().for_each(|point| timing_point(&mut body, point));
-        push(&mut body, 5, 0);
+        push(&mut body, 5, leg.constraints.len() as u32);
+        leg.constraints.iter().for_each(|constraint| temporary_constraint(&mut body, constraint));
     }
     body
 }
@@ -133,6 +134,19 @@ fn timing_point(body: &mut Vec<bool>, point: &TimingPoint) {
     for (width, value) in HALT_WIDTHS.into_iter().zip(point.stop.halt()) {
         push(body, width, value);
     }
+}
+
+fn temporary_constraint(body: &mut Vec<bool>, constraint: &Constraint) {
+    let [start, end] = constraint.range.locations();
+    let [front, speed, adhesion] = constraint.kind.content();
+    push(body, 2, constraint.kind.number());
+    push(body, 2, constraint.range.number());
+    push(body, 24, start);
+    push(body, 24, end);
+    push(body, 1, front);
+    push(body, 7, speed / 5);
+    push(body, 3, adhesion);
+    push(body, 10, NO_LIMIT);
 }
 
 /// The place of a figure that is known to stand in the list.

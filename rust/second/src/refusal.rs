@@ -8,9 +8,10 @@ pub enum Refusal {
     Number = 2,
     /// The bytes are not 15 + L_PACKET_ATO / 8, rounded up.
     Size = 3,
-    /// A field outside its range or set, or not 0: NID_CTRACTION at voltage 0, the last eight fields at a passing point.
+    /// A field outside its range or set, or not 0 where it is not used: NID_CTRACTION at voltage 0, the last eight fields at a passing
+    /// point, fields of a temporary constraint; its current not 1,023 in a packet.
     Field = 4,
-    /// A change's location that does not rise, is 0, or is at or past L_SP.
+    /// A change's location that does not rise, is 0, or is at or past L_SP; a temporary constraint's end that is not past its start.
     Location = 5,
     /// A field does not fit in the body's remaining bits.
     Bits = 6,

@@ -158,8 +158,11 @@ fn leg(numbers: &mut Numbers) -> Result<Leg, Refused> {
     for _ in 0..fitting(numbers, 5)? {
         points.push(timing_point(numbers)?);
     }
-    within(numbers, 0, 0)?;
-    Ok(Leg { identity, nominal, points })
+    let mut constraints = Vec::new();
+    for _ in 0..fitting(numbers, 5)? {
+        constraints.push(constraint(numbers)?);
+    }
+    Ok(Leg { identity, nominal, points, constraints })
 }
 
 fn timing_point(numbers: &mut Numbers) -> Result<TimingPoint, Refused> {
@@ -191,9 +194,61 @@ fn halt(numbers: &mut Numbers) -> Result<Halt, Refused> {
 
 fn passing(numbers: &mut Numbers) -> Result<Stop, Refused> {
     for _ in HALT_WIDTHS {
-        within(numbers, 0, 0)?;
+        zero(numbers)?;
     }
     Ok(Stop::Passing)
+}
+
+fn constraint(numbers: &mut Numbers) -> Result<Constraint, Refused> {
+    let number = fitting(numbers, 2)?;
+    let range = range(numbers)?;
+    let kind = constraint_type(numbers, number)?;
+    // no limit: no type of two bits uses the current
+    zero(numbers)?;
+    Ok(Constraint { kind, range })
+}
+
+fn range(numbers: &mut Numbers) -> Result<Range, Refused> {
+    Ok(match fitting(numbers, 2)? {
+        0 => {
+            let start = fitting(numbers, 24)?;
+            zero(numbers)?;
+            Range::Starts(start)
+        }
+        1 => {
+            zero(numbers)?;
+            Range::Ends(fitting(numbers, 24)?)
+        }
+        2 => {
+            let start = fitting(numbers, 24)?;
+            Range::Both(start, end_after(numbers, start)?)
+        }
+        _ => {
+            zero(numbers)?;
+            zero(numbers)?;
+            Range::Whole
+        }
+    })
+}
+
+/// A location of 24 bits, and then past the start.
+fn end_after(numbers: &mut Numbers, start: u32) -> Result<u32, Refused> {
+    let place = numbers.place();
+    let end = fitting(numbers, 24)?;
+    if start < end {
+        Ok(end)
+    } else {
+        Err(Refusal::Location.at(place))
+    }
+}
+
+/// From Q_FRONT to Q_Low_Adhesion_Rate, each 0 where the type does not use it.
+fn constraint_type(numbers: &mut Numbers, number: u32) -> Result<ConstraintType, Refused> {
+    let (speed, adhesion) = (number == 0, number == 1);
+    let front = within(numbers, 0, if speed { 1 } else { 0 })? == 1;
+    let kmh = within(numbers, 0, if speed { 604 } else { 0 })?;
+    let rate = within(numbers, 0, if adhesion { 5 } else { 0 })?;
+    Ok(ConstraintType::of(number, front, kmh, rate))
 }
 
 fn moment(numbers: &mut Numbers, last: u32) -> Result<Moment, Refused> {
@@ -202,4 +257,9 @@ fn moment(numbers: &mut Numbers, last: u32) -> Result<Moment, Refused> {
 
 fn flag(numbers: &mut Numbers) -> Result<bool, Refused> {
     Ok(within(numbers, 0, 1)? == 1)
+}
+
+/// A number that says nothing.
+fn zero(numbers: &mut Numbers) -> Result<(), Refused> {
+    within(numbers, 0, 0).map(|_| ())
 }

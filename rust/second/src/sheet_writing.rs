@@ -23,7 +23,8 @@ fn journey_numbers(journey: &Journey) -> Vec<u32> {
         numbers.extend(identity(&leg.identity));
         numbers.extend([u32::from(leg.nominal), leg.points.len() as u32]);
         leg.points.iter().for_each(|point| timing_point(&mut numbers, point));
-        numbers.push(0);
+        numbers.push(leg.constraints.len() as u32);
+        leg.constraints.iter().for_each(|constraint| temporary_constraint(&mut numbers, constraint));
     }
     numbers
 }
@@ -33,6 +34,14 @@ fn timing_point(numbers: &mut Vec<u32>, point: &TimingPoint) {
     numbers.extend([point.number, date, seconds, point.window, point.alignment, point.stop.kind()]);
     numbers.extend([u32::from(point.ends_journey), u32::from(point.daylight_saving)]);
     numbers.extend(point.stop.halt());
+}
+
+/// The last number, 0, is no limit of current.
+fn temporary_constraint(numbers: &mut Vec<u32>, constraint: &Constraint) {
+    numbers.extend([constraint.kind.number(), constraint.range.number()]);
+    numbers.extend(constraint.range.locations());
+    numbers.extend(constraint.kind.content());
+    numbers.push(0);
 }
 
 fn segment_numbers(segment: &Segment) -> Vec<u32> {
