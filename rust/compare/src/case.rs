@@ -2,7 +2,7 @@
 
 use crate::damage::{spoil_fields, spoil_form, spoil_packet, spoil_sheet};
 use crate::draft::{Draft, Kind, CANTS};
-use crate::journeys::{about_the_longest, any_points, journey};
+use crate::journeys::{about_the_longest, any_counts, journey};
 use crate::program::Train;
 use crate::random::Random;
 use crate::segments::{any_sizes, gathered, segment, Sizes};
@@ -17,6 +17,8 @@ pub struct Case {
     pub marks: Vec<u32>,
     /// The places of the cant deficiencies that entries name: trains are drawn about them.
     pub named: Vec<u32>,
+    /// Where the fields of temporary constraints were put: a bit of the packet, a byte of the sheet.
+    pub constrained: Vec<(u32, u32)>,
 }
 
 impl Case {
@@ -36,15 +38,16 @@ impl Case {
         let marked = |kind| draft.places(kind).into_iter().map(|place| draft.fields[place].value);
         let marks = marked(Kind::Length).chain(marked(Kind::Location)).chain([0]).collect();
         let named = marked(Kind::Cant).collect();
-        Case { name, packet: draft.packet(), sheet: draft.sheet(), whole: whole.then(|| draft.clone()), marks, named }
+        let (packet, sheet, constrained) = (draft.packet(), draft.sheet(), draft.constraint_places());
+        Case { name, packet, sheet, whole: whole.then(|| draft.clone()), marks, named, constrained }
     }
 }
 
 /// A segment, or one time in three a journey.
 fn any_draft(random: &mut Random) -> Draft {
     if random.one_in(3) {
-        let points = any_points(random);
-        journey(random, &points)
+        let counts = any_counts(random);
+        journey(random, &counts)
     } else {
         let sizes = any_sizes(random);
         if random.one_in(2) {
@@ -79,30 +82,31 @@ fn with_spoilt_bytes(random: &mut Random) -> Case {
     case
 }
 
-/// More changes, entries, segments or timing points than allowed, all of them there.
+/// More changes, entries, segments, timing points or constraints than allowed, all of them there.
 fn with_a_count_past_its_limit(random: &mut Random) -> Case {
     let mut sizes = Sizes { entries: (0, 1), ..any_sizes(random) };
-    let mut points = None;
-    match random.between(0, 5) {
+    let mut counts = None;
+    match random.between(0, 6) {
         0 => sizes.voltages = random.with_ends(24, 31),
         1 => sizes.currents = random.with_ends(24, 31),
         2 => sizes.changes = random.with_ends(32, 40),
         3 => sizes.entries = (32, 40),
-        4 => points = Some(vec![random.with_ends(32, 40)]),
-        _ => points = Some(vec![0; random.with_ends(256, 300) as usize]),
+        4 => counts = Some(vec![(random.with_ends(32, 40), 0)]),
+        5 => counts = Some(vec![(1, random.with_ends(32, 40))]),
+        _ => counts = Some(vec![(0, 0); random.with_ends(256, 300) as usize]),
     }
-    let draft = match points {
-        Some(points) => journey(random, &points),
+    let draft = match counts {
+        Some(counts) => journey(random, &counts),
         None => segment(random, sizes),
     };
     Case::of("with a count past its limit", &draft, false)
 }
 
-/// A journey of one timing point more than a packet holds, or some more; its sheet whole, or one time in three spoilt.
+/// A journey of one timing point or constraint more than a packet holds, or some more; its sheet whole, or one time in three spoilt.
 fn with_a_body_too_long(random: &mut Random) -> Case {
     let more = random.pick(&[1, 1, 2, 31, 400]);
-    let points = about_the_longest(random, more);
-    let mut draft = journey(random, &points);
+    let counts = about_the_longest(random, more);
+    let mut draft = journey(random, &counts);
     if random.one_in(3) {
         spoil_fields(random, &mut draft);
     }
@@ -127,7 +131,7 @@ fn noise(random: &mut Random) -> Case {
         sheet.iter_mut().for_each(|byte| *byte &= 0x7F);
         overwrite(&mut sheet, &[start[0], 0, 0, 0, 0, 0]);
     }
-    Case { name: "noise", packet, sheet, whole: None, marks: vec![0], named: Vec::new() }
+    Case { name: "noise", packet, sheet, whole: None, marks: vec![0], named: Vec::new(), constrained: Vec::new() }
 }
 
 /// Writes bytes over the first ones, as far as there are any.

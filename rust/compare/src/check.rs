@@ -2,6 +2,7 @@
 
 use crate::archive::Archive;
 use crate::case::{any_location, any_train, Case};
+use crate::lowered::lowered;
 use crate::program::{Answer, Operation, Program, Question, Train, JOURNEY};
 use crate::random::Random;
 use crate::second_program::Second;
@@ -17,13 +18,15 @@ const LARGEST_PACKET: usize = 8_207;
 
 /// Compares the five operations on a case, every answer and every byte of the rooms; then the demands.
 pub fn check(random: &mut Random, case: &Case, tally: &mut Tally) -> Result<(), String> {
-    for question in [
-        Question::without_train(Operation::PacketToSheet, &case.packet),
-        Question::without_train(Operation::SheetToPacket, &case.sheet),
-        Question::without_train(Operation::AltitudeOfPacket, &case.packet),
+    for (operation, input) in [
+        (Operation::PacketToSheet, &case.packet),
+        (Operation::SheetToPacket, &case.sheet),
+        (Operation::AltitudeOfPacket, &case.packet),
     ] {
+        let question = Question::without_train(operation, input);
         let room = room_for(random, &question);
-        compare(random, &question, room, tally)?;
+        let answer = compare(random, &question, room, tally)?;
+        tally.count_constraints(operation, &case.constrained, &answer);
     }
     let packet = round_trips(case)?;
     for _ in 0..SPEEDS {
@@ -72,10 +75,10 @@ fn round_trips(case: &Case) -> Result<Option<Vec<u8>>, String> {
     }
     let packet = converted(Archive::sheet_to_packet, &case.sheet, LARGEST_PACKET);
     if let Some(packet) = &packet {
-        let lowered = converted(Archive::packet_to_sheet, packet, LARGEST_SHEET);
-        let unchanged = lowered.as_ref() == Some(&case.sheet);
-        require(unchanged || packet[0] != JOURNEY, "a journey's sheet does not come back")?;
-        let again = lowered.and_then(|sheet| converted(Archive::sheet_to_packet, &sheet, LARGEST_PACKET));
+        let back = converted(Archive::packet_to_sheet, packet, LARGEST_SHEET);
+        let as_lowered = packet[0] != JOURNEY || back == Some(lowered(&case.sheet));
+        require(as_lowered, "a journey's sheet does not come back with its speeds lowered")?;
+        let again = back.and_then(|sheet| converted(Archive::sheet_to_packet, &sheet, LARGEST_PACKET));
         require(again.as_ref() == Some(packet), "the lowered sheet does not make the sheet's packet")?;
     }
     if case.whole.is_some() {

@@ -27,9 +27,13 @@ fn edges(kind: Kind) -> (&'static [u32], &'static [u32]) {
         Kind::Alignment | Kind::StopKind => (&[0, 1, 2, 3], &[0, 1, 2, 3, 4]),
         Kind::Information => (&[0, 1, 2, 3], &[0, 1, 2, 4]),
         Kind::PassedBy => (&[1, u32::MAX], &[1, 2, 86_399]),
-        Kind::Constraints => (&[1, 2, 31], &[1, 31, 32]),
+        Kind::ConstraintType | Kind::Range => (&[0, 1, 2, 3], &[0, 1, 2, 3, 4, 5]),
+        Kind::Start => (&[0, 1, 16_777_214, 16_777_215], &[0, 1, 16_777_214, 16_777_215, 16_777_216]),
+        Kind::Adhesion => (&[0, 5, 6, 7], &[0, 5, 6, 8]),
+        Kind::Unused => (&[1, 2, u32::MAX], &[1, 2, 3, 4, 5, 604, 16_777_215]),
+        Kind::UnusedCurrent => (&[0, 1, 1_000, 1_022, 1_023], &[0, 1, 1_022, 1_023, 10_010]),
         // by the field's width, and by the locations about it
-        Kind::Plain | Kind::Location => (&[], &[]),
+        Kind::Plain | Kind::Location | Kind::End => (&[], &[]),
     }
 }
 
@@ -40,6 +44,7 @@ pub fn spoil_fields(random: &mut Random, draft: &mut Draft) {
         let place = random.pick(&draft.places(kind));
         let (value, number) = match kind {
             Kind::Location => location(random, draft, place),
+            Kind::End => end(random, draft, place),
             Kind::Plain => about_width(random, draft.fields[place].width),
             Kind::Cant if random.one_in(2) => other_cant(random),
             Kind::Operational if random.one_in(2) => wrong_digit(random, draft.fields[place].value),
@@ -52,7 +57,21 @@ pub fn spoil_fields(random: &mut Random, draft: &mut Draft) {
     }
 }
 
-/// A kind that the draft has: more often locations, which have most ways of being wrong, and plain fields, which are many.
+/// The kinds that constraints alone have in a journey.
+const CONSTRAINED: [Kind; 9] = [
+    Kind::ConstraintType,
+    Kind::Range,
+    Kind::Start,
+    Kind::End,
+    Kind::Front,
+    Kind::Speed,
+    Kind::Adhesion,
+    Kind::Unused,
+    Kind::UnusedCurrent,
+];
+
+/// A kind that the draft has: more often locations, constraints and their ends, which have most ways of being wrong, and plain fields,
+/// which are many.
 fn kind_of(random: &mut Random, draft: &Draft) -> Kind {
     let mut kinds = vec![Kind::Plain];
     for field in &draft.fields {
@@ -63,6 +82,15 @@ fn kind_of(random: &mut Random, draft: &Draft) -> Kind {
     match random.between(0, 3) {
         0 => Kind::Plain,
         1 if kinds.contains(&Kind::Location) => Kind::Location,
+        1 if kinds.contains(&Kind::ConstraintType) => {
+            kinds.retain(|kind| CONSTRAINED.contains(kind));
+            let end = kinds.contains(&Kind::End) && random.one_in(2);
+            if end {
+                Kind::End
+            } else {
+                random.pick(&kinds)
+            }
+        }
         _ => random.pick(&kinds),
     }
 }
@@ -73,6 +101,14 @@ fn location(random: &mut Random, draft: &Draft, place: usize) -> (u32, u64) {
     let before = fields[..place].iter().rev().find(|field| field.kind == Kind::Location).map_or(0, |field| field.value);
     let end = fields[draft.places(Kind::Length)[0]].value;
     let near = [0, 1, before, before.saturating_sub(1), before + 1, end, end.saturating_sub(1), end + 1];
+    let number = if random.one_in(4) { random.pick(&[16_777_216, u32::MAX]) } else { random.pick(&near) };
+    (random.pick(&near), number.into())
+}
+
+/// An end about the constraint's start, which stands before it, or past all that a packet holds.
+fn end(random: &mut Random, draft: &Draft, place: usize) -> (u32, u64) {
+    let start = draft.fields[place - 1].value;
+    let near = [0, start.saturating_sub(1), start, start + 1, 16_777_215];
     let number = if random.one_in(4) { random.pick(&[16_777_216, u32::MAX]) } else { random.pick(&near) };
     (random.pick(&near), number.into())
 }

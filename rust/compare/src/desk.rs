@@ -1,6 +1,7 @@
 //! The document's desk cases, each with the answer that the document gives; a refusal's place is counted by hand.
 
 use crate::desk_cants;
+use crate::desk_constraints;
 use crate::desk_journeys;
 use crate::draft::{Draft, Kind};
 use crate::program::{Answer, Operation, Question, Train};
@@ -145,6 +146,7 @@ pub fn cases() -> Vec<Desk> {
     speeds(&mut cases);
     desk_cants::speeds(&mut cases);
     cases.extend(desk_journeys::cases());
+    cases.extend(desk_constraints::cases());
     cases
 }
 

@@ -56,23 +56,24 @@ const CATEGORIES: [([bool; 3], i64); 6] = [
 
 pub fn speeds(cases: &mut Vec<Desk>) {
     for (name, entries, speeds) in FIGURES {
-        for (cant, speed) in speeds {
-            let train = Train { cant: *cant, freight_p: false, ..TRAIN };
-            both_speeds(cases, name, Plan { entries, ..CHANGED }, (&train, 0), Answer::success(*speed));
-        }
+        let of = |(cant, speed): &(u32, i64)| (Train { cant: *cant, freight_p: false, ..TRAIN }, 0, *speed);
+        give(cases, name, Plan { entries, ..CHANGED }, speeds.iter().map(of));
     }
-    for ([freight_p, freight_g, passenger], speed) in CATEGORIES {
+    let beside = CATEGORIES.map(|([freight_p, freight_g, passenger], speed)| {
         let train = Train { freight_p, freight_g, passenger, ..TRAIN };
-        let plan = Plan { entries: BESIDE, ..CHANGED };
-        both_speeds(cases, "a lower figure beside categories", plan, (&train, 0), Answer::success(speed));
-    }
-    delayed(cases);
+        (train, 0, speed)
+    });
+    give(cases, "a lower figure beside categories", Plan { entries: BESIDE, ..CHANGED }, beside);
+    // the tail holds the 100 entry's speed past 500, where 140 km/h begin
+    let delayed = Plan { entries: &[(0, MM_100, 121), (0, MM_165, 60)], ..CHANGED };
+    let name = "a lower figure before a change at 500";
+    give(cases, name, delayed, [(499, 121), (699, 121), (700, 140)].map(|(x, speed)| (TRAIN, x, speed)));
+    give(cases, name, Plan { front: 1, ..delayed }, [(499, 121), (500, 140)].map(|(x, speed)| (TRAIN, x, speed)));
 }
 
-/// The tail holds the 100 entry's speed past 500, where 140 km/h begin.
-fn delayed(cases: &mut Vec<Desk>) {
-    for (front, x, speed) in [(0, 499, 121), (0, 699, 121), (0, 700, 140), (1, 499, 121), (1, 500, 140)] {
-        let plan = Plan { front, entries: &[(0, MM_100, 121), (0, MM_165, 60)], ..CHANGED };
-        both_speeds(cases, "a lower figure before a change at 500", plan, (&TRAIN, x), Answer::success(speed));
+/// The speeds that a plan gives trains at locations.
+fn give(cases: &mut Vec<Desk>, name: &'static str, plan: Plan, speeds: impl IntoIterator<Item = (Train, u32, i64)>) {
+    for (train, x, speed) in speeds {
+        both_speeds(cases, name, plan, (&train, x), Answer::success(speed));
     }
 }

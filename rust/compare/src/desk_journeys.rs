@@ -1,8 +1,8 @@
 //! Journeys like the desk cases, each with the answer that the request gives; a refusal's place is counted by hand.
 
 use crate::desk::{accepted, packet, refused, rooms, sheet, Desk};
-use crate::draft::{Draft, Kind};
-use crate::journeys::LONGEST;
+use crate::draft::{Constraint, Draft, Kind};
+use crate::journeys::{Size, LONGEST, LONGEST_UNCONSTRAINED};
 use crate::program::{Answer, Operation, Train};
 
 /// The last eight fields of a timing point: their widths, and their largest values where the train does not pass.
@@ -20,26 +20,37 @@ const DOOR_SIDE: usize = POINT + 8;
 const DEPARTURE_SECONDS: usize = POINT + 13;
 const CONSTRAINTS: usize = POINT + 16;
 
-/// So many segments and timing points, 31 a segment as long as there are any; every number at its largest.
-fn journey((segments, points): (u32, u32)) -> Draft {
+/// A restriction to 600 km/h, every number of it of as many groups as its range has.
+const RESTRICTION: Constraint = [0, 2, 16_777_214, 16_777_215, 1, 600, 0, 0];
+/// The largest sheets: a timing point more, or four constraints.
+const LARGEST_SHEETS: [Size; 2] = [(17, 498, 1), (17, 496, 5)];
+
+/// So many segments, timing points and constraints, 31 a segment as long as there are any; every number at its largest.
+pub fn journey((segments, points, constraints): Size) -> Draft {
     let mut draft = Draft::default();
     for (width, value) in
         [(8, 4), (32, 0x9999_9999), (24, 16_777_215), (15, 32_767), (17, 86_399), (8, 255), (3, 4), (8, segments)]
     {
         draft.same(Kind::Plain, width, value);
     }
-    let mut left = points;
+    let mut left = (points, constraints);
     for _ in 0..segments {
-        let here = left.min(31);
-        left -= here;
-        for (width, value) in [(10, 1_023), (32, u32::MAX), (8, 255), (8, 255), (1, 1), (5, here)] {
+        for (width, value) in [(10, 1_023), (32, u32::MAX), (8, 255), (8, 255), (1, 1)] {
             draft.same(Kind::Plain, width, value);
         }
-        (0..here).for_each(|_| timing_point(&mut draft));
-        draft.same(Kind::Constraints, 5, 0);
+        at_most_31(&mut draft, &mut left.0, timing_point);
+        at_most_31(&mut draft, &mut left.1, |draft| draft.constraint(RESTRICTION));
     }
-    assert_eq!(left, 0, "31 timing points a segment at most");
+    assert_eq!(left, (0, 0), "31 timing points and 31 constraints a segment at most");
     draft
+}
+
+/// A count and as many items, of those that are left.
+fn at_most_31(draft: &mut Draft, left: &mut u32, item: fn(&mut Draft)) {
+    let here = (*left).min(31);
+    *left -= here;
+    draft.same(Kind::Count, 5, here);
+    (0..here).for_each(|_| item(draft));
 }
 
 fn timing_point(draft: &mut Draft) {
@@ -50,7 +61,7 @@ fn timing_point(draft: &mut Draft) {
 }
 
 /// A journey with one field changed, in both media.
-fn with(mut draft: Draft, index: usize, value: u32) -> Draft {
+pub fn with(mut draft: Draft, index: usize, value: u32) -> Draft {
     draft.fields[index].value = value;
     draft.fields[index].number = value.into();
     draft
@@ -59,7 +70,7 @@ fn with(mut draft: Draft, index: usize, value: u32) -> Draft {
 /// A journey that passes its one timing point.
 fn passing() -> Draft {
     let eight = DOOR_SIDE..DOOR_SIDE + HALT.len();
-    eight.fold(with(journey((1, 1)), STOP, 2), |draft, index| with(draft, index, 0))
+    eight.fold(with(journey((1, 1, 0)), STOP, 2), |draft, index| with(draft, index, 0))
 }
 
 /// All journeys of the desk.
@@ -75,12 +86,18 @@ pub fn cases() -> Vec<Desk> {
 }
 
 fn ends(cases: &mut Vec<Desk>) {
-    let smallest = (0..STATUS + 2).filter(|index| *index > NUMBER).fold(journey((0, 0)), |draft, index| with(draft, index, 0));
+    let none = journey((0, 0, 0));
+    let smallest = (0..STATUS + 2).filter(|index| *index > NUMBER).fold(none, |draft, index| with(draft, index, 0));
     cases.push(packet("the smallest journey's packet", smallest.packet(), Answer::success(8)));
     cases.push(sheet("the smallest journey's sheet", smallest.sheet(), Answer::success(17)));
-    cases.push(sheet("the largest journey's sheet", journey(LONGEST).sheet(), Answer::success(8_207)));
-    cases.push(packet("the longest sheet of a journey", journey((18, 498)).packet(), Answer::success(15_212)));
-    for draft in [smallest, passing(), journey(LONGEST), journey((18, 498))] {
+    for longest in [LONGEST_UNCONSTRAINED, LONGEST] {
+        cases.push(sheet("the largest journey's sheet", journey(longest).sheet(), Answer::success(8_207)));
+    }
+    for largest in LARGEST_SHEETS {
+        cases.push(packet("the longest sheet of a journey", journey(largest).packet(), Answer::success(15_213)));
+    }
+    let [one, five] = LARGEST_SHEETS.map(journey);
+    for draft in [smallest, passing(), journey(LONGEST_UNCONSTRAINED), journey(LONGEST), one, five] {
         accepted(cases, "a journey", &draft);
         rooms(cases, &draft);
     }
@@ -88,7 +105,7 @@ fn ends(cases: &mut Vec<Desk>) {
 
 /// The bits and the bytes of the journey's fields: its status at 120 and 18, its timing point at 195 and 33, its constraints at 324 and 63.
 fn limits(cases: &mut Vec<Desk>) {
-    let one = || journey((1, 1));
+    let one = || journey((1, 1, 0));
     accepted(cases, "every field at its largest", &one());
     for (index, past, place) in [
         (STATUS, 5, (120, 18)),
@@ -97,7 +114,6 @@ fn limits(cases: &mut Vec<Desk>) {
         (STOP, 3, (271, 47)),
         (INFORMATION, 2, (273, 48)),
         (DEPARTURE_SECONDS, 86_400, (296, 57)),
-        (CONSTRAINTS, 1, (324, 63)),
     ] {
         refused(cases, "a field past its largest", &with(one(), index, past), 4, place);
     }
@@ -111,29 +127,31 @@ fn limits(cases: &mut Vec<Desk>) {
 
 fn numbers(cases: &mut Vec<Desk>) {
     for number in [5, 7] {
-        refused(cases, "another packet number", &with(journey((1, 1)), NUMBER, number), 2, (0, 0));
+        refused(cases, "another packet number", &with(journey((1, 1, 0)), NUMBER, number), 2, (0, 0));
     }
     // its status and its count are NID_C and part of NID_SP in the packet, NID_C and NID_SP in the sheet
-    let as_segment = with(journey((0, 0)), NUMBER, 6);
+    let as_segment = with(journey((0, 0, 0)), NUMBER, 6);
     cases.push(packet("a journey that calls itself a segment", as_segment.packet(), Answer::refused(6, 130)));
     cases.push(sheet("a journey that calls itself a segment", as_segment.sheet(), Answer::refused(9, 20)));
 }
 
 /// The fields of the journey with one timing point end with the bit 328, its numbers with the byte 63.
 fn damaged(cases: &mut Vec<Desk>) {
-    let one = journey((1, 1));
+    let one = journey((1, 1, 0));
     let (bytes, numbers) = (one.packet(), one.sheet());
     let with_byte = |place: usize, byte: u8| {
         let mut packet = bytes.clone();
         packet[place] = byte;
         packet
     };
-    let segments = |count| with(journey((1, 1)), SEGMENTS, count);
+    let changed = |index, count| with(journey((1, 1, 0)), index, count);
+    let segments = |count| changed(SEGMENTS, count);
     for (name, bytes, refusal, place) in [
         ("a journey whose last field does not fit", with_byte(2, 0xD0)[..41].to_vec(), 6, 324),
         ("a journey without its second segment", segments(2).packet(), 6, 329),
         ("a journey with a bit left", with_byte(2, 0xD2), 13, 329),
         ("a journey with a segment left", segments(0).packet(), 13, 131),
+        ("a journey without its constraint", changed(CONSTRAINTS, 1).packet(), 6, 329),
         ("a journey with two padding bits", with_byte(41, 0x24), 7, 330),
     ] {
         cases.push(packet(name, bytes, Answer::refused(refusal, place)));
@@ -142,15 +160,16 @@ fn damaged(cases: &mut Vec<Desk>) {
         ("a journey that ends within NID_TP", numbers[..35].to_vec(), 33),
         ("a journey without its second segment", segments(2).sheet(), 64),
         ("a journey with a segment left", segments(0).sheet(), 20),
+        ("a journey without its constraint", changed(CONSTRAINTS, 1).sheet(), 64),
         ("a journey with a byte left", [&numbers[..], &[0]].concat(), 64),
     ] {
         cases.push(sheet(name, bytes, Answer::refused(9, place)));
     }
 }
 
-/// The next body after the longest, of 65,537 bits; a segment more; the most that the counts allow.
+/// The next body after the longest, of 65,536 bits; a segment, a timing point and a constraint more; the most that the counts allow.
 fn too_long(cases: &mut Vec<Desk>) {
-    for size in [(56, 478), (LONGEST.0 + 1, LONGEST.1), (255, 31 * 255)] {
+    for size in [(62, 0, 839), (42, 486, 0), (41, 487, 0), (41, 486, 1), (20, 186, 551), (255, 31 * 255, 31 * 255)] {
         let long = journey(size).sheet();
         let refused = || sheet("a body too long", long.clone(), Answer::refused(12, 0));
         cases.push(refused());
@@ -159,7 +178,7 @@ fn too_long(cases: &mut Vec<Desk>) {
         let (left, before) = ([&long[..], &[0]].concat(), &long[..long.len() - 1]);
         cases.push(sheet("a body too long, and a byte left", left, Answer::refused(9, length)));
         cases.push(sheet("a body too long, and a byte less", before.to_vec(), Answer::refused(9, last)));
-        cases.push(sheet("a body too long, and a constraint", [before, &[1]].concat(), Answer::refused(4, last)));
+        cases.push(sheet("a body too long, and a last number that is wrong", [before, &[32]].concat(), Answer::refused(4, last)));
     }
 }
 

@@ -12,7 +12,7 @@ pub enum Kind {
     UtcOffset,
     Speed,
     Front,
-    /// Of changes of speed, of entries, of timing points: 0 to 31.
+    /// Of changes of speed, of entries, of timing points, of temporary constraints: 0 to 31.
     Count,
     QDiff,
     Cant,
@@ -30,8 +30,17 @@ pub enum Kind {
     Information,
     /// One of the last eight fields of a passing point: 0.
     PassedBy,
-    /// Of temporary constraints: 0.
-    Constraints,
+    /// The first field of a temporary constraint.
+    ConstraintType,
+    Range,
+    /// Where a constraint starts, and where it ends: past its start where it has one.
+    Start,
+    End,
+    Adhesion,
+    /// A field that a constraint does not use: 0.
+    Unused,
+    /// A constraint's current, which no type uses: 1,023 in the packet, 0 in the sheet.
+    UnusedCurrent,
 }
 
 #[derive(Clone)]
@@ -55,6 +64,11 @@ pub const VOLTAGES: [u32; 6] = [0, 25_000, 15_000, 3_000, 1_500, 750];
 
 /// The header's fields in the sheet; L_PACKET_ATO is worked out when the packet is written.
 const HEADER_FIELDS: usize = 6;
+const COUNTED_BITS: u32 = 16;
+const CONSTRAINT_FIELDS: usize = 8;
+
+/// A temporary constraint by its numbers in the sheet, from Q_TC_Type to M_CURRENT.
+pub type Constraint = [u32; CONSTRAINT_FIELDS];
 
 impl Draft {
     /// A field whose number equals its value.
@@ -113,8 +127,25 @@ impl Draft {
 
     /// By the number in the sheet: 0 for no limit, else amperes + 1.
     pub fn current(&mut self, number: u32) {
+        self.amperes(Kind::Current, number);
+    }
+
+    fn amperes(&mut self, kind: Kind, number: u32) {
         let value = number.checked_sub(1).map_or(1_023, |amperes| amperes / 10);
-        self.field(Kind::Current, 10, value, number);
+        self.field(kind, 10, value, number);
+    }
+
+    /// A temporary constraint; its type and its range say which of its fields are used.
+    pub fn constraint(&mut self, [tc_type, range, start, end, front, speed, adhesion, current]: Constraint) {
+        let used = |used: bool, kind| if used { kind } else { Kind::Unused };
+        self.same(Kind::ConstraintType, 2, tc_type);
+        self.same(Kind::Range, 2, range);
+        self.same(used(range == 0 || range == 2, Kind::Start), 24, start);
+        self.same(used(range == 1 || range == 2, Kind::End), 24, end);
+        self.same(used(tc_type == 0, Kind::Front), 1, front);
+        self.field(used(tc_type == 0, Kind::Speed), 7, speed / 5, speed);
+        self.same(used(tc_type == 1, Kind::Adhesion), 3, adhesion);
+        self.amperes(Kind::UnusedCurrent, current);
     }
 
     fn field(&mut self, kind: Kind, width: u32, value: u32, number: u32) {
@@ -126,10 +157,25 @@ impl Draft {
         (0..self.fields.len()).filter(|place| self.fields[*place].kind == kind).collect()
     }
 
+    /// Of each field of a temporary constraint the first bit in the packet, where L_PACKET_ATO follows the first field, and its number's
+    /// first byte in the sheet.
+    pub fn constraint_places(&self) -> Vec<(u32, u32)> {
+        let (mut bit, mut sheet, mut places, mut left) = (0, Vec::new(), Vec::new(), 0);
+        for field in &self.fields {
+            left = if field.kind == Kind::ConstraintType { CONSTRAINT_FIELDS } else { left.saturating_sub(1) };
+            if left > 0 {
+                places.push((bit, sheet.len() as u32));
+            }
+            bit += field.width + if bit == 0 { COUNTED_BITS } else { 0 };
+            write_number(&mut sheet, field.number, field.zero_groups);
+        }
+        places
+    }
+
     pub fn packet(&self) -> Vec<u8> {
         let (header, body) = self.fields.split_at(HEADER_FIELDS);
         let length = body.iter().map(|field| field.width).sum();
-        let mut bits = vec![(8, header[0].value), (16, length)];
+        let mut bits = vec![(8, header[0].value), (COUNTED_BITS, length)];
         bits.extend(self.fields[1..].iter().map(|field| (field.width, field.value)));
         packed(&bits)
     }
@@ -161,7 +207,7 @@ fn packed(fields: &[(u32, u32)]) -> Vec<u8> {
     bytes
 }
 
-fn write_number(sheet: &mut Vec<u8>, number: u64, zero_groups: u32) {
+pub fn write_number(sheet: &mut Vec<u8>, number: u64, zero_groups: u32) {
     let mut left = number;
     while left > 127 {
         sheet.push(left as u8 | 0x80);

@@ -1,54 +1,70 @@
 //! Random journeys of any size, within every rule; and those whose body is about as long as a packet can hold.
 
-use crate::draft::{Draft, Kind};
+use crate::draft::{Constraint, Draft, Kind};
 use crate::random::Random;
 use crate::segments::{header, identity, plain};
 
-/// The most timing points of a segment.
-const MOST_POINTS: u32 = 31;
+/// The most timing points of a segment, and the most temporary constraints.
+const MOST: u32 = 31;
 /// The most bits of a body.
 const MOST_BITS: u32 = 65_535;
-/// The bits of a body without segments, of a segment without timing points, and of a timing point.
+/// The bits of a body without segments, of a segment without timing points and constraints, of a timing point, and of a constraint.
 const EMPTY_BITS: u32 = 11;
 const SEGMENT_BITS: u32 = 69;
 const POINT_BITS: u32 = 129;
+const CONSTRAINT_BITS: u32 = 73;
 
-/// A body of 65,534 bits, which none exceeds: segments and timing points.
-pub const LONGEST: (u32, u32) = (41, 486);
+/// The segments of a journey, its timing points and its temporary constraints.
+pub type Size = (u32, u32, u32);
+/// The longest body without constraints has 65,534 bits, the longest of all 65,535.
+pub const LONGEST_UNCONSTRAINED: Size = (41, 486, 0);
+pub const LONGEST: Size = (20, 186, 550);
 
-/// How many timing points each segment has.
-pub type Points = Vec<u32>;
+/// How many timing points and how many temporary constraints each segment has.
+pub type Counts = Vec<(u32, u32)>;
 
 /// Sizes of every order, mostly small.
-pub fn any_points(random: &mut Random) -> Points {
+pub fn any_counts(random: &mut Random) -> Counts {
     match random.between(0, 39) {
         0..=3 => Vec::new(),
         4 => about_the_longest(random, 0),
         5 => spread(random, LONGEST),
-        6 => vec![0; random.with_ends(0, 255) as usize],
-        7..=9 => each(random, 12, MOST_POINTS),
+        6 => vec![(0, 0); random.with_ends(0, 255) as usize],
+        7..=9 => each(random, 12, MOST),
         _ => each(random, 3, 3),
     }
 }
 
-/// So many segments at most, each with so many timing points at most.
-fn each(random: &mut Random, segments: u32, points: u32) -> Points {
-    (0..random.with_ends(0, segments)).map(|_| random.with_ends(0, points)).collect()
+/// So many segments at most, each with so many timing points and so many constraints at most.
+fn each(random: &mut Random, segments: u32, most: u32) -> Counts {
+    (0..random.with_ends(0, segments)).map(|_| (random.with_ends(0, most), random.with_ends(0, most))).collect()
 }
 
-/// As many timing points as a packet holds in some segments, or some more: 30 segments have room for 400 more.
-pub fn about_the_longest(random: &mut Random, more: u32) -> Points {
+/// As many timing points as a packet holds in some segments beside some constraints, or the other way round; or some more, as far as the
+/// counts allow.
+pub fn about_the_longest(random: &mut Random, more: u32) -> Counts {
     let segments = random.with_ends(30, 255);
-    let points = (MOST_BITS - EMPTY_BITS - segments * SEGMENT_BITS) / POINT_BITS;
-    spread(random, (segments, points + more))
+    let others = random.between(0, 200) * random.between(0, 1);
+    let beside = |bits: u32| MOST_BITS - EMPTY_BITS - segments * SEGMENT_BITS - others * bits;
+    let (points, constraints) = if random.one_in(2) {
+        (beside(CONSTRAINT_BITS) / POINT_BITS + more, others)
+    } else {
+        (others, beside(POINT_BITS) / CONSTRAINT_BITS + more)
+    };
+    spread(random, (segments, points.min(segments * MOST), constraints.min(segments * MOST)))
 }
 
-/// Timing points spread at random over segments.
-pub fn spread(random: &mut Random, (segments, points): (u32, u32)) -> Points {
+/// Timing points and constraints spread at random over segments.
+pub fn spread(random: &mut Random, (segments, points, constraints): Size) -> Counts {
+    let points = spread_over(random, segments, points);
+    points.into_iter().zip(spread_over(random, segments, constraints)).collect()
+}
+
+fn spread_over(random: &mut Random, segments: u32, items: u32) -> Vec<u32> {
     let mut counts = vec![0; segments as usize];
-    for _ in 0..points {
+    for _ in 0..items {
         let mut place = random.place(counts.len());
-        while counts[place] == MOST_POINTS {
+        while counts[place] == MOST {
             place = (place + 1) % counts.len();
         }
         counts[place] += 1;
@@ -57,19 +73,39 @@ pub fn spread(random: &mut Random, (segments, points): (u32, u32)) -> Points {
 }
 
 /// A random journey. A count past its limit is taken as it is; everything else keeps the rules.
-pub fn journey(random: &mut Random, points: &[u32]) -> Draft {
+pub fn journey(random: &mut Random, counts: &[(u32, u32)]) -> Draft {
     let mut draft = Draft::default();
     header(random, &mut draft, 4);
     draft.same(Kind::Status, 3, random.between(0, 4));
-    draft.same(Kind::SegmentCount, 8, points.len() as u32);
-    for count in points {
+    draft.same(Kind::SegmentCount, 8, counts.len() as u32);
+    for (points, constraints) in counts {
         identity(random, &mut draft);
         plain(random, &mut draft, 1);
-        draft.same(Kind::Count, 5, *count);
-        (0..*count).for_each(|_| timing_point(random, &mut draft));
-        draft.same(Kind::Constraints, 5, 0);
+        draft.same(Kind::Count, 5, *points);
+        (0..*points).for_each(|_| timing_point(random, &mut draft));
+        draft.same(Kind::Count, 5, *constraints);
+        (0..*constraints).for_each(|_| draft.constraint(constraint(random)));
     }
     draft
+}
+
+/// A constraint of any type and range, at locations near the segment's start or anywhere; the number of an unused field is 0.
+fn constraint(random: &mut Random) -> Constraint {
+    let (tc_type, range) = (random.between(0, 3), random.between(0, 3));
+    let last = random.pick(&[1, 2, 3_000, 16_777_215, 16_777_215]);
+    let location = random.with_ends(0, last);
+    let [start, end] = match range {
+        0 => [location, 0],
+        1 => [0, location],
+        2 => [random.with_ends(0, location.max(1) - 1), location.max(1)],
+        _ => [0, 0],
+    };
+    let [front, speed, adhesion] = match tc_type {
+        0 => [random.between(0, 1), random.with_ends(0, 604), 0],
+        1 => [0, 0, random.with_ends(0, 5)],
+        _ => [0, 0, 0],
+    };
+    [tc_type, range, start, end, front, speed, adhesion, 0]
 }
 
 fn timing_point(random: &mut Random, draft: &mut Draft) {

@@ -52,8 +52,8 @@ impl Operation {
             (Operation::SpeedFromPacket, false) => &[0, 1, 2, 3, 4, 5, 6, 7, 10, 11, 13],
             (Operation::SpeedFromSheet, false) => &[0, 2, 4, 5, 9, 10, 11],
             (Operation::AltitudeOfPacket, false) => &[0, 1, 2, 3, 4, 5, 6, 7, 13],
-            (Operation::PacketToSheet, true) => &[0, 1, 3, 4, 6, 7, 8, 13],
-            (Operation::SheetToPacket, true) => &[0, 4, 8, 9, 12],
+            (Operation::PacketToSheet, true) => &[0, 1, 3, 4, 5, 6, 7, 8, 13],
+            (Operation::SheetToPacket, true) => &[0, 4, 5, 8, 9, 12],
             (Operation::SpeedFromPacket | Operation::AltitudeOfPacket, true) => &[1, 2],
             (Operation::SpeedFromSheet, true) => &[2],
         }

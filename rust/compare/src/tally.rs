@@ -1,5 +1,5 @@
-//! How often each operation gave each refusal and each success, and at how many places, for journeys apart from all else; and how many
-//! speeds came by a lower cant deficiency than the train's.
+//! How often each operation gave each refusal and each success, and at how many places, for journeys apart from all else; how many
+//! speeds came by a lower cant deficiency than the train's; and what the conversions answered about journeys with temporary constraints.
 
 use crate::program::{Answer, Operation, Question, OPERATIONS, PLACED};
 use std::collections::BTreeSet;
@@ -18,7 +18,13 @@ struct Row {
     whole: u64,
     /// Those that would be others without the entries of lower cant deficiencies than the train's.
     fallen: u64,
+    /// Random journeys with temporary constraints; those accepted, and those refused with 4 and with 5 at a field of a constraint.
+    constrained: u64,
+    constrained_answers: [u64; 3],
 }
+
+/// The answers about a journey with constraints that are counted.
+const CONSTRAINED_ANSWERS: [u32; 3] = [0, 4, 5];
 
 #[derive(Default)]
 pub struct Tally {
@@ -42,8 +48,18 @@ impl Tally {
         row.fallen += u64::from(fallen);
     }
 
-    /// The answers that an operation can give and that were never met, or never at a place other than 0, each with its row; and
-    /// the speed questions of which no random one came by a lower cant deficiency.
+    /// An answer about a random journey whose constraints' fields begin at these bits of its packet and bytes of its sheet.
+    pub fn count_constraints(&mut self, operation: Operation, places: &[(u32, u32)], answer: &Answer) {
+        let at = |(bit, byte): &(u32, u32)| answer.place == if operation == Operation::SheetToPacket { *byte } else { *bit };
+        let row = &mut self.rows[1][operation as usize];
+        row.constrained += u64::from(!places.is_empty());
+        if let Some(nth) = CONSTRAINED_ANSWERS.iter().position(|refusal| *refusal == answer.refusal) {
+            row.constrained_answers[nth] += u64::from(!places.is_empty() && (answer.refusal == 0 || places.iter().any(at)));
+        }
+    }
+
+    /// The answers that an operation can give and that were never met, or never at a place other than 0, each with its row; the speed
+    /// questions of which no random one came by a lower cant deficiency; the conversions that never gave an answer about a constraint.
     pub fn missing(&self) -> Vec<String> {
         let mut missing = Vec::new();
         for (operation, journey) in rows() {
@@ -60,6 +76,11 @@ impl Tally {
         for operation in SPEED_OPERATIONS.into_iter().filter(|operation| !fallen(operation)) {
             missing.push(format!("{operation:?}: no random speed by a lower cant deficiency than the train's"));
         }
+        for operation in CONVERSIONS {
+            let counts = self.row(operation, true).constrained_answers;
+            let none = CONSTRAINED_ANSWERS.iter().zip(counts).filter(|(_, count)| *count == 0);
+            missing.extend(none.map(|(refusal, _)| format!("{operation:?}: never answered {refusal} at a random constraint")));
+        }
         missing
     }
 
@@ -68,6 +89,7 @@ impl Tally {
     }
 }
 
+const CONVERSIONS: [Operation; 2] = [Operation::PacketToSheet, Operation::SheetToPacket];
 const SPEED_OPERATIONS: [Operation; 2] = [Operation::SpeedFromPacket, Operation::SpeedFromSheet];
 
 /// Each operation, asked about a journey or not.
@@ -99,6 +121,11 @@ impl fmt::Display for Tally {
         SPEED_OPERATIONS.into_iter().try_for_each(|operation| {
             let Row { whole, fallen, .. } = self.row(operation, false);
             write!(f, "\n{operation:?}: {fallen} of {whole} random speeds by a lower cant deficiency than the train's")
+        })?;
+        CONVERSIONS.into_iter().try_for_each(|operation| {
+            let Row { constrained, constrained_answers: [accepted, field, location], .. } = self.row(operation, true);
+            write!(f, "\n{operation:?}: {constrained} random journeys with temporary constraints, {accepted} accepted, ")?;
+            write!(f, "{field} refused with 4 and {location} with 5 at a constraint")
         })
     }
 }
