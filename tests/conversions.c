@@ -21,12 +21,12 @@ enum {
     SPEED, FRONT, ENTRIES, SPEEDS, VOLTAGE, TRACTION, VOLTAGES, CURRENT, CURRENTS
 };
 
-// Where those of a journey's body stand, of its first segment and of its first timing point.
+// Where those of a journey's body stand, of its first segment, its first timing point and, after that one, its first constraint.
 enum {
     JP_STATUS = NID_C, SEGMENTS, FIRST_NID_C, FIRST_NID_SP, FIRST_VERSION_X, FIRST_VERSION_Y, SP_DIR, POINTS,
     NID_TP, ARRIVAL_DATE, ARRIVAL_SECONDS, ARRIVAL_WINDOW, TP_ALIGNMENT, STOP_SKIP_PASSES, TP_INFORMATION, DAY_LIGHT_SAVING,
     DOOR_SIDE, CENTRALISED_OPENING, RELAXED_COUPLER, TRAIN_HOLD, DEPARTURE_DATE, DEPARTURE_SECONDS, DWELL_TIME, AUTOMATIC_CLOSING,
-    CONSTRAINTS
+    CONSTRAINTS, TC_TYPE, TC_RANGE, TC_START, TC_END, TC_FRONT, TC_SPEED, TC_ADHESION, TC_CURRENT
 };
 
 static const uint32_t CANT[] = {80, 100, 130, 150, 165, 180, 210, 225, 245, 275, 300};
@@ -266,6 +266,21 @@ static void both(const char *name, const struct fields *s, uint32_t refusal, siz
     }
 }
 
+// The same with one field changed, and refused at that field.
+static void both_with(const char *name, struct fields *s, size_t field, uint32_t value, uint32_t number, uint32_t raised, uint32_t refusal)
+{
+    s->field[field] = (struct field){s->field[field].width, value, number, raised};
+    both(name, s, refusal, field);
+}
+
+// The sheet alone with one number changed, and refused at that number.
+static void sheet_with(const char *name, struct fields *s, size_t field, uint32_t number, uint32_t refusal)
+{
+    s->field[field].number = number;
+    struct bytes sheet = sheet_of(s, false);
+    refuses(name, seglink_sheet_to_packet, &sheet, refusal, byte_of(s, field));
+}
+
 static void sizes(const char *name, const struct fields *s, size_t bits, size_t packet, size_t sheet)
 {
     check(name, "the body's count of bits", body_bits(s), bits);
@@ -408,18 +423,30 @@ static void list(struct fields *s, int which, uint32_t l_sp, uint32_t count, uin
 
 // ---- Journeys
 
-// So many segments and timing points, 31 a segment as long as there are any.
-static void journey(struct fields *s, uint32_t segments, uint32_t points, void (*segment)(struct fields *, uint32_t), void (*point)(struct fields *, uint32_t))
+// Puts the i-th segment, timing point or constraint.
+typedef void part(struct fields *, uint32_t);
+
+// A count and as many items from the i-th on, 31 or those that are left.
+static uint32_t items(struct fields *s, uint32_t i, uint32_t count, part *item)
 {
-    uint32_t left = points;
-    same(s, 8, segments);
-    for (uint32_t i = 0; i < segments; ++i) {
-        uint32_t here = left < 31 ? left : 31;
+    uint32_t here = count - i < 31 ? count - i : 31;
+    same(s, 5, here);
+    for (; here > 0; --here)
+        item(s, i++);
+    return i;
+}
+
+struct size { uint32_t segments, points, constraints; };
+
+// So many segments, timing points and constraints, 31 a segment as long as there are any.
+static void journey(struct fields *s, struct size size, part *segment, part *point, part *constraint)
+{
+    uint32_t points = 0, constraints = 0;
+    same(s, 8, size.segments);
+    for (uint32_t i = 0; i < size.segments; ++i) {
         segment(s, i);
-        same(s, 5, here);
-        for (; here > 0; --here, --left)
-            point(s, points - left);
-        same(s, 5, 0);
+        points = items(s, points, size.points, point);
+        constraints = items(s, constraints, size.constraints, constraint);
     }
 }
 
@@ -454,6 +481,19 @@ static void departure(struct fields *s, uint32_t date, uint32_t seconds, uint32_
     same(s, 1, closing);
 }
 
+// A temporary constraint by its numbers from Q_TC_Type to Q_Low_Adhesion_Rate; no type uses the current.
+static void constraint(struct fields *s, const uint32_t number[7])
+{
+    same(s, 2, number[0]);
+    same(s, 2, number[1]);
+    same(s, 24, number[2]);
+    same(s, 24, number[3]);
+    same(s, 1, number[4]);
+    speed(s, number[5]);
+    same(s, 3, number[6]);
+    current(s, 0);
+}
+
 // Every number in as many groups as its field allows.
 static void full_segment(struct fields *s, uint32_t i)
 {
@@ -469,14 +509,19 @@ static void full_point(struct fields *s, uint32_t i)
     departure(s, 32767, 86399, 1023, 1);
 }
 
-static void full_journey(struct fields *s, uint32_t segments, uint32_t points)
+static void full_constraint(struct fields *s, uint32_t i)
+{
+    constraint(s, (const uint32_t[]){0, 2, 16777214, 16777215, i % 2, 604, 0});
+}
+
+static void full_journey(struct fields *s, uint32_t segments, uint32_t points, uint32_t constraints)
 {
     header(s, 4, 0xFFFFFFFF, 16777215, 32767, 86399, 255);
     same(s, 3, 4);
-    journey(s, segments, points, full_segment, full_point);
+    journey(s, (struct size){segments, points, constraints}, full_segment, full_point, full_constraint);
 }
 
-// Neighbouring fields differ, and every kind of stop comes, so that a field written in another's place is seen.
+// Neighbouring fields differ, and every kind of stop and of constraint comes, so that a field written in another's place is seen.
 static void mixed_segment(struct fields *s, uint32_t i)
 {
     identity(s, i * 97 % 1024, 0x89ABCDEF + i * 12345, i * 17 % 256, 255 - i * 13 % 256);
@@ -495,11 +540,19 @@ static void mixed_point(struct fields *s, uint32_t i)
     }
 }
 
+// Every type with every range, one after the other.
+static void mixed_constraint(struct fields *s, uint32_t i)
+{
+    uint32_t type = i % 4, range = i / 4 % 4, start = i * 54321 % 8388608, end = 8388608 + i * 12345 % 8388608;
+    constraint(s, (const uint32_t[]){type, range, range == 0 || range == 2 ? start : 0, range == 1 || range == 2 ? end : 0,
+                                     type == 0 ? i / 4 % 2 : 0, type == 0 ? (i * 37 + 1) % 605 : 0, type == 1 ? i / 4 % 6 : 0});
+}
+
 static void mixed_journey(struct fields *s)
 {
     header(s, 4, 0x12F45678, 0xABCDEF, 12345, 54321, 200);
     same(s, 3, 3);
-    journey(s, 9, 200, mixed_segment, mixed_point);
+    journey(s, (struct size){9, 200, 100}, mixed_segment, mixed_point, mixed_constraint);
 }
 
 // One segment and one timing point, as journey_packet below; or the same point passed.
@@ -530,14 +583,22 @@ static void one_journey(struct fields *s, bool passed)
 {
     header(s, 4, 0x00012345, 1, 0, 0, 7);
     same(s, 3, 1);
-    journey(s, 1, 1, one_segment, passed ? passed_point : one_point);
+    journey(s, (struct size){1, 1, 0}, one_segment, passed ? passed_point : one_point, full_constraint);
+}
+
+// The journey of one timing point with one constraint.
+static void constrained_journey(struct fields *s, const uint32_t number[7])
+{
+    one_journey(s, false);
+    s->field[CONSTRAINTS] = (struct field){5, 1, 1, 1};
+    constraint(s, number);
 }
 
 static void smallest_journey(struct fields *s)
 {
     header(s, 4, 0, 0, 0, 0, 0);
     same(s, 3, 0);
-    journey(s, 0, 0, one_segment, one_point);
+    journey(s, (struct size){0, 0, 0}, one_segment, one_point, full_constraint);
 }
 
 // ---- The desk cases, and others like them
@@ -558,6 +619,17 @@ static const struct bytes journey_sheet = {
     52, {0x04, 0xC5, 0xC6, 0x04, 0x01, 0x00, 0x00, 0x07, 0x01, 0x01, 0xD9, 0x02, 0xEF, 0x9B, 0xAF, 0xCD, 0x08, 0x11, 0x82, 0x01, 0x01, 0x01,
          0x90, 0xE4, 0xD0, 0xB2, 0x07, 0xB9, 0x60, 0x80, 0xA3, 0x05, 0xD9, 0x04, 0x01, 0x00, 0x01, 0x01,
          0x02, 0x01, 0x00, 0x01, 0xA0, 0xB7, 0x01, 0xFF, 0xA2, 0x05, 0x89, 0x06, 0x01, 0x00}};
+
+// The same journey with a restriction to 43 km/h from 1,000 to 2,500 cm, Q_FRONT 1; its speed is the byte 59.
+static const struct bytes restricted_packet = {
+    51, {0x04, 0x01, 0x1A, 0x00, 0x01, 0x23, 0x45, 0x00, 0x00, 0x01, 0x00, 0x00, 0x00, 0x00, 0x07,
+         0x20, 0x2A, 0xCC, 0x4D, 0x5E, 0x6F, 0x78, 0x8C, 0x14, 0x2E, 0xCA, 0x86, 0x42, 0x0C, 0x0E, 0x6A, 0x30, 0x12, 0xCA, 0x3A, 0xDB,
+         0xA0, 0xA8, 0xBF, 0xE1, 0x30, 0x90, 0x00, 0x1F, 0x40, 0x00, 0x4E, 0x24, 0x40, 0xFF, 0xC0}};
+static const struct bytes restricted_sheet = {
+    62, {0x04, 0xC5, 0xC6, 0x04, 0x01, 0x00, 0x00, 0x07, 0x01, 0x01, 0xD9, 0x02, 0xEF, 0x9B, 0xAF, 0xCD, 0x08, 0x11, 0x82, 0x01, 0x01, 0x01,
+         0x90, 0xE4, 0xD0, 0xB2, 0x07, 0xB9, 0x60, 0x80, 0xA3, 0x05, 0xD9, 0x04, 0x01, 0x00, 0x01, 0x01,
+         0x02, 0x01, 0x00, 0x01, 0xA0, 0xB7, 0x01, 0xFF, 0xA2, 0x05, 0x89, 0x06, 0x01,
+         0x01, 0x00, 0x02, 0xE8, 0x07, 0xC4, 0x13, 0x01, 0x2B, 0x00, 0x00}};
 
 static void desk_cases(struct fields *s)
 {
@@ -623,9 +695,7 @@ static void single_fields(struct fields *s)
 {
     for (size_t i = 0; i < sizeof ONE / sizeof *ONE; ++i) {
         desk(s, 80);
-        struct field *f = &s->field[ONE[i].field];
-        *f = (struct field){f->width, ONE[i].value, ONE[i].number, ONE[i].raised};
-        both(ONE[i].name, s, ONE[i].refusal, ONE[i].field);
+        both_with(ONE[i].name, s, ONE[i].field, ONE[i].value, ONE[i].number, ONE[i].raised, ONE[i].refusal);
     }
 }
 
@@ -669,98 +739,118 @@ static void packet_refused(const char *name, const struct bytes *packet, uint32_
         packet_asked(name, packet, refusal, place);
 }
 
-// A packet cut or lengthened to a count of bytes, with the low byte of L_PACKET_ATO and its own last byte changed.
-// The desk packet has 185 bits after the bit 120, the journey's 209: the last count of five bits begins at 300 and 324.
-static const struct { const char *name; const struct bytes *whole; size_t length; uint8_t bits, last; uint32_t refusal, place; } REFRAMED[] = {
-    {"an empty packet", &desk_packet, 0, 185, 0, 1, 0},
-    {"a packet of 14 bytes", &desk_packet, 14, 185, 0, 1, 0},
-    {"a packet of 15 bytes", &desk_packet, 15, 185, 0, 3, 0},
-    {"a packet without its last byte", &desk_packet, 38, 185, 0, 3, 0},
-    {"a packet with a byte more", &desk_packet, 40, 185, 0, 3, 0},
-    {"a body of no bits", &desk_packet, 15, 0, 0, 6, 120},
-    {"NID_C, a bit short", &desk_packet, 17, 9, 0, 6, 120},
-    {"NID_C and no more", &desk_packet, 17, 10, 0, 6, 130},
-    {"V_STATIC, a bit short", &desk_packet, 33, 139, 0, 6, 253},
-    {"V_STATIC and no more", &desk_packet, 33, 140, 0, 6, 260},
-    {"a last field that does not fit", &desk_packet, 38, 184, 0, 6, 300},
-    {"a bit that remains", &desk_packet, 39, 186, 0, 13, 305},
-    {"a bit that remains, and a padding bit", &desk_packet, 39, 186, 0x20, 13, 305},
-    {"bits that remain in a byte more", &desk_packet, 40, 193, 0, 13, 305},
-    {"the last padding bit", &desk_packet, 39, 185, 0x01, 7, 311},
-    {"the first padding bit", &desk_packet, 39, 185, 0x40, 7, 305},
-    {"two padding bits", &desk_packet, 39, 185, 0x24, 7, 306},
-    {"all padding bits", &desk_packet, 39, 185, 0x7F, 7, 305},
-    {"a journey of 14 bytes", &journey_packet, 14, 209, 0, 1, 0},
-    {"a journey of 15 bytes", &journey_packet, 15, 209, 0, 3, 0},
-    {"a journey without its last byte", &journey_packet, 41, 209, 0, 3, 0},
-    {"a journey with a byte more", &journey_packet, 43, 209, 0, 3, 0},
-    {"a journey with a body of no bits", &journey_packet, 15, 0, 0, 6, 120},
-    {"a journey with a status and no more", &journey_packet, 16, 3, 0, 6, 123},
-    {"a journey that ends within NID_TP", &journey_packet, 28, 100, 0, 6, 195},
-    {"a journey whose last count does not fit", &journey_packet, 41, 208, 0, 6, 324},
-    {"a journey with a bit that remains", &journey_packet, 42, 210, 0, 13, 329},
-    {"a journey with a padding bit", &journey_packet, 42, 209, 0x01, 7, 335},
-    {"a journey with the first padding bit", &journey_packet, 42, 209, 0x40, 7, 329},
-    {"a journey with two padding bits", &journey_packet, 42, 209, 0x24, 7, 330},
+// A packet of this many bytes and bits of its body, and with these bits changed, from one of them on: the place is the first bit of the
+// field at fault. The desk packet has 185 bits after the bit 120, the journey's 209: the last count of five bits begins at 300 and 324.
+// The restriction has 73 more, its fields begin at 329, 331, 333, 357, 381, 382, 389 and 392.
+#define DESK &desk_packet, 39, 185
+#define JOURNEY &journey_packet, 42, 209
+#define RESTRICTED &restricted_packet, 51, 282
+#define UNCHANGED 0, 0, 0
+static const struct { const char *name; const struct bytes *whole; size_t length; uint32_t bits, at, width, value, refusal, place; } PACKETS[] = {
+    {"an empty packet", &desk_packet, 0, 185, UNCHANGED, 1, 0},
+    {"a packet of 14 bytes", &desk_packet, 14, 185, UNCHANGED, 1, 0},
+    {"a packet of 15 bytes", &desk_packet, 15, 185, UNCHANGED, 3, 0},
+    {"a packet without its last byte", &desk_packet, 38, 185, UNCHANGED, 3, 0},
+    {"a packet with a byte more", &desk_packet, 40, 185, UNCHANGED, 3, 0},
+    {"a body of no bits", &desk_packet, 15, 0, UNCHANGED, 6, 120},
+    {"NID_C, a bit short", &desk_packet, 17, 9, UNCHANGED, 6, 120},
+    {"NID_C and no more", &desk_packet, 17, 10, UNCHANGED, 6, 130},
+    {"V_STATIC, a bit short", &desk_packet, 33, 139, UNCHANGED, 6, 253},
+    {"V_STATIC and no more", &desk_packet, 33, 140, UNCHANGED, 6, 260},
+    {"a last field that does not fit", &desk_packet, 38, 184, UNCHANGED, 6, 300},
+    {"a bit that remains", &desk_packet, 39, 186, UNCHANGED, 13, 305},
+    {"a bit that remains, and a padding bit", &desk_packet, 39, 186, 304, 8, 0x20, 13, 305},
+    {"bits that remain in a byte more", &desk_packet, 40, 193, UNCHANGED, 13, 305},
+    {"the last padding bit", DESK, 304, 8, 0x01, 7, 311},
+    {"the first padding bit", DESK, 304, 8, 0x40, 7, 305},
+    {"two padding bits", DESK, 304, 8, 0x24, 7, 306},
+    {"all padding bits", DESK, 304, 8, 0x7F, 7, 305},
+    {"a journey of 14 bytes", &journey_packet, 14, 209, UNCHANGED, 1, 0},
+    {"a journey of 15 bytes", &journey_packet, 15, 209, UNCHANGED, 3, 0},
+    {"a journey without its last byte", &journey_packet, 41, 209, UNCHANGED, 3, 0},
+    {"a journey with a byte more", &journey_packet, 43, 209, UNCHANGED, 3, 0},
+    {"a journey with a body of no bits", &journey_packet, 15, 0, UNCHANGED, 6, 120},
+    {"a journey with a status and no more", &journey_packet, 16, 3, UNCHANGED, 6, 123},
+    {"a journey that ends within NID_TP", &journey_packet, 28, 100, UNCHANGED, 6, 195},
+    {"a journey whose last count does not fit", &journey_packet, 41, 208, UNCHANGED, 6, 324},
+    {"a journey with a bit that remains", &journey_packet, 42, 210, UNCHANGED, 13, 329},
+    {"a journey with a padding bit", JOURNEY, 328, 8, 0x01, 7, 335},
+    {"a journey with the first padding bit", JOURNEY, 328, 8, 0x40, 7, 329},
+    {"a journey with two padding bits", JOURNEY, 328, 8, 0x24, 7, 330},
+    {"a first digit E", DESK, 24, 4, 14, 4, 24},
+    {"a last digit A", DESK, 52, 4, 10, 4, 24},
+    {"seconds 86,400 at their bit", DESK, 95, 17, 86400, 4, 95},
+    {"L_SP 0 at its bit", DESK, 178, 24, 0, 4, 178},
+    {"Q_UTC_Offset 127", DESK, 226, 7, 127, 4, 226},
+    {"V_STATIC 121", DESK, 253, 7, 121, 4, 253},
+    {"an entry of zeros, and NID_CTRACTION after it", DESK, 261, 5, 1, 4, 288},
+    {"a speed change of what follows", DESK, 266, 5, 1, 5, 271},
+    {"voltage 15", DESK, 271, 4, 15, 4, 271},
+    {"the last bit of NID_CTRACTION", DESK, 284, 1, 1, 4, 275},
+    {"24 voltage changes in five bits", DESK, 285, 5, 24, 4, 285},
+    {"23 voltage changes that are not there", DESK, 285, 5, 23, 6, 290},
+    {"current 1,001 in its bits", DESK, 290, 10, 1001, 4, 290},
+    {"24 current changes in five bits", DESK, 300, 5, 24, 4, 300},
+    {"a current change that is not there", DESK, 300, 5, 1, 6, 305},
+    {"a journey with a digit B", JOURNEY, 40, 4, 11, 4, 24},
+    {"Q_JP_Status 7", JOURNEY, 120, 3, 7, 4, 120},
+    {"a journey of no segments, with one", JOURNEY, 123, 8, 0, 13, 131},
+    {"a journey of two segments, with one", JOURNEY, 123, 8, 2, 6, 329},
+    {"no timing points, and 14 constraints of what follows", JOURNEY, 190, 5, 0, 4, 228},
+    {"two timing points, with one", JOURNEY, 190, 5, 2, 6, 324},
+    {"arrival seconds 131,071", JOURNEY, 242, 17, 131071, 4, 242},
+    {"alignment 3 in its bits", JOURNEY, 269, 2, 3, 4, 269},
+    {"stop kind 3 in its bits", JOURNEY, 271, 2, 3, 4, 271},
+    {"a passing point with all eight fields", JOURNEY, 271, 2, 2, 4, 276},
+    {"information 3", JOURNEY, 273, 2, 3, 4, 273},
+    {"departure seconds 86,400 in their bits", JOURNEY, 296, 17, 86400, 4, 296},
+    {"16 temporary constraints that are not there", JOURNEY, 324, 1, 1, 6, 329},
+    {"a constraint cut before its range", &restricted_packet, 42, 211, UNCHANGED, 6, 331},
+    {"a constraint cut within its start", &restricted_packet, 44, 230, UNCHANGED, 6, 333},
+    {"a constraint cut within its end", &restricted_packet, 48, 260, UNCHANGED, 6, 357},
+    {"a constraint cut before its speed", &restricted_packet, 48, 262, UNCHANGED, 6, 382},
+    {"a constraint cut within its current", &restricted_packet, 51, 281, UNCHANGED, 6, 392},
+    {"a constraint and a bit that remains", &restricted_packet, 51, 283, UNCHANGED, 13, 402},
+    {"a constraint and a padding bit", RESTRICTED, 402, 1, 1, 7, 402},
+    {"no constraints, with one", RESTRICTED, 324, 5, 0, 13, 329},
+    {"two constraints, with one", RESTRICTED, 324, 5, 2, 6, 402},
+    {"31 constraints, with one", RESTRICTED, 324, 5, 31, 6, 402},
+    {"low adhesion with Q_FRONT, in its bits", RESTRICTED, 329, 2, 1, 4, 381},
+    {"driving modes with Q_FRONT, in their bits", RESTRICTED, 329, 2, 3, 4, 381},
+    {"a constraint that starts, with an end", RESTRICTED, 331, 2, 0, 4, 357},
+    {"a constraint that ends, with a start", RESTRICTED, 331, 2, 1, 4, 333},
+    {"a constraint on the whole segment, with a start", RESTRICTED, 331, 2, 3, 4, 333},
+    {"a start at its end", RESTRICTED, 333, 24, 2500, 5, 357},
+    {"a start past its end", RESTRICTED, 333, 24, 16777215, 5, 357},
+    {"an end before its start", RESTRICTED, 357, 24, 999, 5, 357},
+    {"V_Speed_Level 121", RESTRICTED, 382, 7, 121, 4, 382},
+    {"V_Speed_Level 127", RESTRICTED, 382, 7, 127, 4, 382},
+    {"an adhesion beside a speed, in its bits", RESTRICTED, 389, 3, 1, 4, 389},
+    {"a constraint's current 0 in its bits", RESTRICTED, 392, 10, 0, 4, 392},
+    {"a constraint's current 1,000 in its bits", RESTRICTED, 392, 10, 1000, 4, 392},
+    {"a constraint's current 1,022 in its bits", RESTRICTED, 401, 1, 0, 4, 392},
 };
 
-static void reframed_packets(void)
+static void replace_bits(struct bytes *b, size_t at, uint32_t width, uint32_t value)
 {
-    for (size_t i = 0; i < sizeof REFRAMED / sizeof *REFRAMED; ++i) {
-        struct bytes b = *REFRAMED[i].whole;
-        b.byte[2] = REFRAMED[i].bits;
-        b.byte[b.length - 1] = REFRAMED[i].last;
-        b.length = REFRAMED[i].length;
-        packet_refused(REFRAMED[i].name, &b, REFRAMED[i].refusal, REFRAMED[i].place);
-    }
+    for (size_t bit = at; bit < at + width; ++bit)
+        b->byte[bit / 8] &= (uint8_t)~(0x80 >> bit % 8);
+    put_bits(b, &at, width, value);
 }
-
-// A packet with these bits changed, from one of them on: the place is the first bit of the field at fault.
-static const struct { const char *name; const struct bytes *whole; uint32_t at, width, value, refusal, place; } DAMAGED[] = {
-    {"a first digit E", &desk_packet, 24, 4, 14, 4, 24},
-    {"a last digit A", &desk_packet, 52, 4, 10, 4, 24},
-    {"seconds 86,400 at their bit", &desk_packet, 95, 17, 86400, 4, 95},
-    {"L_SP 0 at its bit", &desk_packet, 178, 24, 0, 4, 178},
-    {"Q_UTC_Offset 127", &desk_packet, 226, 7, 127, 4, 226},
-    {"V_STATIC 121", &desk_packet, 253, 7, 121, 4, 253},
-    {"an entry of zeros, and NID_CTRACTION after it", &desk_packet, 261, 5, 1, 4, 288},
-    {"a speed change of what follows", &desk_packet, 266, 5, 1, 5, 271},
-    {"voltage 15", &desk_packet, 271, 4, 15, 4, 271},
-    {"the last bit of NID_CTRACTION", &desk_packet, 284, 1, 1, 4, 275},
-    {"24 voltage changes in five bits", &desk_packet, 285, 5, 24, 4, 285},
-    {"23 voltage changes that are not there", &desk_packet, 285, 5, 23, 6, 290},
-    {"current 1,001 in its bits", &desk_packet, 290, 10, 1001, 4, 290},
-    {"24 current changes in five bits", &desk_packet, 300, 5, 24, 4, 300},
-    {"a current change that is not there", &desk_packet, 300, 5, 1, 6, 305},
-    {"a journey with a digit B", &journey_packet, 40, 4, 11, 4, 24},
-    {"Q_JP_Status 7", &journey_packet, 120, 3, 7, 4, 120},
-    {"a journey of no segments, with one", &journey_packet, 123, 8, 0, 13, 131},
-    {"a journey of two segments, with one", &journey_packet, 123, 8, 2, 6, 329},
-    {"no timing points, with one", &journey_packet, 190, 5, 0, 4, 195},
-    {"two timing points, with one", &journey_packet, 190, 5, 2, 6, 324},
-    {"arrival seconds 131,071", &journey_packet, 242, 17, 131071, 4, 242},
-    {"alignment 3 in its bits", &journey_packet, 269, 2, 3, 4, 269},
-    {"stop kind 3 in its bits", &journey_packet, 271, 2, 3, 4, 271},
-    {"a passing point with all eight fields", &journey_packet, 271, 2, 2, 4, 276},
-    {"information 3", &journey_packet, 273, 2, 3, 4, 273},
-    {"departure seconds 86,400 in their bits", &journey_packet, 296, 17, 86400, 4, 296},
-    {"16 temporary constraints", &journey_packet, 324, 1, 1, 4, 324},
-};
 
 static void damaged_packets(void)
 {
-    for (size_t i = 0; i < sizeof DAMAGED / sizeof *DAMAGED; ++i) {
-        struct bytes b = *DAMAGED[i].whole;
-        size_t at = DAMAGED[i].at;
-        for (size_t bit = at; bit < at + DAMAGED[i].width; ++bit)
-            b.byte[bit / 8] &= (uint8_t)~(0x80 >> bit % 8);
-        put_bits(&b, &at, DAMAGED[i].width, DAMAGED[i].value);
-        packet_refused(DAMAGED[i].name, &b, DAMAGED[i].refusal, DAMAGED[i].place);
+    for (size_t i = 0; i < sizeof PACKETS / sizeof *PACKETS; ++i) {
+        struct bytes b = *PACKETS[i].whole;
+        replace_bits(&b, 8, 16, PACKETS[i].bits);
+        replace_bits(&b, PACKETS[i].at, PACKETS[i].width, PACKETS[i].value);
+        b.length = PACKETS[i].length;
+        packet_refused(PACKETS[i].name, &b, PACKETS[i].refusal, PACKETS[i].place);
     }
 }
 
 // A sheet that begins as another, and ends with these bytes after its first ones. The numbers of the desk sheet have a byte each, but for
-// NID_OPERATIONAL, which has the bytes 1 to 3; those of the journey's have one to five.
+// NID_OPERATIONAL, which has the bytes 1 to 3; those of the journey's have one to five. A restriction's begin at 52, 53, 54, 56 and 58 to 61.
 #define BYTES(text) text, sizeof text - 1
 static const struct { const char *name; const struct bytes *whole; size_t kept; const char *after; size_t count; uint32_t refusal, place; } SHEETS[] = {
     {"an empty sheet", &desk_sheet, 0, BYTES(""), 9, 0},
@@ -793,7 +883,26 @@ static const struct { const char *name; const struct bytes *whole; size_t kept; 
     {"arrival seconds 86,401, and no more", &journey_sheet, 29, BYTES("\x81\xA3\x05"), 4, 29},
     {"a passing point with a door side", &journey_sheet, 35, BYTES("\x02\x01\x01\x02"), 4, 38},
     {"departure seconds 86,400, and no more", &journey_sheet, 45, BYTES("\x80\xA3\x05"), 4, 45},
-    {"one temporary constraint, and no more", &journey_sheet, 51, BYTES("\x01"), 4, 51},
+    {"32 temporary constraints", &journey_sheet, 51, BYTES("\x20"), 4, 51},
+    {"one temporary constraint, and no more", &journey_sheet, 51, BYTES("\x01"), 9, 52},
+    {"the fifth type, and no more", &restricted_sheet, 52, BYTES("\x04"), 4, 52},
+    {"a range past the whole segment, and no more", &restricted_sheet, 53, BYTES("\x04"), 4, 53},
+    {"a start past 24 bits, and no more", &restricted_sheet, 54, BYTES("\x80\x80\x80\x08"), 4, 54},
+    {"an end past 24 bits, and no more", &restricted_sheet, 56, BYTES("\x80\x80\x80\x08"), 4, 56},
+    {"an end of 4,294,967,295, and no more", &restricted_sheet, 56, BYTES("\xFF\xFF\xFF\xFF\x0F"), 4, 56},
+    {"an end past 24 bits after the last start", &restricted_sheet, 54, BYTES("\xFF\xFF\xFF\x07\x80\x80\x80\x08"), 4, 58},
+    {"an end at the last start", &restricted_sheet, 54, BYTES("\xFF\xFF\xFF\x07\xFF\xFF\xFF\x07"), 5, 58},
+    {"an end at its start, and no more", &restricted_sheet, 56, BYTES("\xE8\x07"), 5, 56},
+    {"an end at 0, and no more", &restricted_sheet, 56, BYTES("\x00"), 5, 56},
+    {"an end with a last group 0", &restricted_sheet, 57, BYTES("\x00"), 9, 56},
+    {"Q_FRONT 2 of a constraint", &restricted_sheet, 58, BYTES("\x02"), 4, 58},
+    {"605 km/h of a constraint, and no more", &restricted_sheet, 59, BYTES("\xDD\x04"), 4, 59},
+    {"an adhesion beside a speed, and no more", &restricted_sheet, 60, BYTES("\x01"), 4, 60},
+    {"a constraint's current of 0 A, and no more", &restricted_sheet, 61, BYTES("\x01"), 4, 61},
+    {"a constraint's current of 1,023, and no more", &restricted_sheet, 61, BYTES("\xFF\x07"), 4, 61},
+    {"low adhesion with 3 km/h, and no more", &restricted_sheet, 52, BYTES("\x01\x03\x00\x00\x00\x03"), 4, 57},
+    {"driving modes with 3 km/h, and no more", &restricted_sheet, 52, BYTES("\x03\x03\x00\x00\x00\x03"), 4, 57},
+    {"a restriction's sheet with a byte more", &restricted_sheet, 62, BYTES("\x00"), 9, 62},
     {"a journey's sheet with a byte more", &journey_sheet, 52, BYTES("\x00"), 9, 52},
 };
 
@@ -886,8 +995,6 @@ static const struct { const char *name; size_t field; uint32_t value, refusal; }
     {"departure seconds 86,399", DEPARTURE_SECONDS, 86399, 0},
     {"departure seconds 86,400", DEPARTURE_SECONDS, 86400, 4},
     {"minimum dwell time 1,023", DWELL_TIME, 1023, 0},
-    {"one temporary constraint", CONSTRAINTS, 1, 4},
-    {"31 temporary constraints", CONSTRAINTS, 31, 4},
 };
 
 // The same, of the journey whose point is passed: each of the last eight fields.
@@ -906,8 +1013,7 @@ static const struct { const char *name; size_t field; uint32_t value, refusal; }
 static void one_changed(struct fields *s, bool passed, const char *name, size_t field, uint32_t value, uint32_t refusal)
 {
     one_journey(s, passed);
-    s->field[field] = (struct field){s->field[field].width, value, value, value};
-    both(name, s, refusal, field);
+    both_with(name, s, field, value, value, value, refusal);
 }
 
 // Numbers that a sheet can have and the packet's field cannot hold.
@@ -936,10 +1042,103 @@ static void journey_fields(struct fields *s)
         one_changed(s, true, PASSED[i].name, PASSED[i].field, PASSED[i].value, PASSED[i].refusal);
     for (size_t i = 0; i < sizeof WIDE / sizeof *WIDE; ++i) {
         one_journey(s, false);
-        s->field[WIDE[i].field].number = WIDE[i].number;
-        struct bytes sheet = sheet_of(s, false);
-        refuses(WIDE[i].name, seglink_sheet_to_packet, &sheet, WIDE[i].field == NUMBER ? 2 : 4, byte_of(s, WIDE[i].field));
+        sheet_with(WIDE[i].name, s, WIDE[i].field, WIDE[i].number, WIDE[i].field == NUMBER ? 2 : 4);
     }
+}
+
+// Constraints from Q_TC_Type to Q_Low_Adhesion_Rate, of which one field is changed.
+enum { STARTS, RESTRICTS, SLIPPERY, MODES, GOA1 };
+static const uint32_t GIVEN[][7] = {
+    [STARTS] = {0, 0, 1000, 0, 0, 43, 0}, [RESTRICTS] = {0, 2, 1000, 2500, 1, 43, 0}, [SLIPPERY] = {1, 1, 0, 2500, 0, 0, 5},
+    [MODES] = {2, 3, 0, 0, 0, 0, 0}, [GOA1] = {3, 3, 0, 0, 0, 0, 0}};
+
+// The value and the number, the number that comes back, and the refusal: 5 where the start is not below the end.
+static const struct { const char *name; int given; size_t field; uint32_t value, number, raised, refusal; } CONSTRAINED[] = {
+    {"a start at 0", STARTS, TC_START, 0, 0, 0, 0},
+    {"a start at the last location", STARTS, TC_START, 16777215, 16777215, 16777215, 0},
+    {"a start, with an end", STARTS, TC_END, 1, 1, 1, 4},
+    {"a start, with the last end", STARTS, TC_END, 16777215, 16777215, 16777215, 4},
+    {"an end at 0 without a start", SLIPPERY, TC_END, 0, 0, 0, 0},
+    {"an end at the last location", SLIPPERY, TC_END, 16777215, 16777215, 16777215, 0},
+    {"an end, with a start", SLIPPERY, TC_START, 1, 1, 1, 4},
+    {"the whole segment, with a start", MODES, TC_START, 1, 1, 1, 4},
+    {"the whole segment, with an end", GOA1, TC_END, 1, 1, 1, 4},
+    {"a start a centimetre below its end", RESTRICTS, TC_START, 2499, 2499, 2499, 0},
+    {"an end a centimetre past its start", RESTRICTS, TC_END, 1001, 1001, 1001, 0},
+    {"an end at the last location, after a start", RESTRICTS, TC_END, 16777215, 16777215, 16777215, 0},
+    {"an end at its start", RESTRICTS, TC_END, 1000, 1000, 1000, 5},
+    {"an end a centimetre before its start", RESTRICTS, TC_END, 999, 999, 999, 5},
+    {"an end at 0 after a start", RESTRICTS, TC_END, 0, 0, 0, 5},
+    {"Q_FRONT 0 of a speed", RESTRICTS, TC_FRONT, 0, 0, 0, 0},
+    {"Q_FRONT of low adhesion", SLIPPERY, TC_FRONT, 1, 1, 1, 4},
+    {"Q_FRONT of driving modes", MODES, TC_FRONT, 1, 1, 1, 4},
+    {"a restriction to 0 km/h", RESTRICTS, TC_SPEED, 0, 0, 0, 0},
+    {"a restriction to 4 km/h", RESTRICTS, TC_SPEED, 0, 4, 0, 0},
+    {"a restriction to 5 km/h", RESTRICTS, TC_SPEED, 1, 5, 5, 0},
+    {"a restriction to 84 km/h", STARTS, TC_SPEED, 16, 84, 80, 0},
+    {"a restriction to 129 km/h", RESTRICTS, TC_SPEED, 25, 129, 125, 0},
+    {"a restriction to 599 km/h", STARTS, TC_SPEED, 119, 599, 595, 0},
+    {"a restriction to 604 km/h", RESTRICTS, TC_SPEED, 120, 604, 600, 0},
+    {"a restriction to 605 km/h", RESTRICTS, TC_SPEED, 121, 605, 605, 4},
+    {"a restriction to 639 km/h", STARTS, TC_SPEED, 127, 639, 639, 4},
+    {"a speed of low adhesion", SLIPPERY, TC_SPEED, 1, 5, 5, 4},
+    {"a speed of driving modes", MODES, TC_SPEED, 120, 600, 600, 4},
+    {"a speed of the driving mode GoA1", GOA1, TC_SPEED, 1, 3, 3, 4},
+    {"adhesion 0", SLIPPERY, TC_ADHESION, 0, 0, 0, 0},
+    {"adhesion 6", SLIPPERY, TC_ADHESION, 6, 6, 6, 4},
+    {"adhesion 7", SLIPPERY, TC_ADHESION, 7, 7, 7, 4},
+    {"an adhesion beside a speed", STARTS, TC_ADHESION, 1, 1, 1, 4},
+    {"an adhesion of driving modes", MODES, TC_ADHESION, 5, 5, 5, 4},
+    {"a restriction's current 0, and 0 A", RESTRICTS, TC_CURRENT, 0, 1, 1, 4},
+    {"a restriction's current 1,022, and 1,023", RESTRICTS, TC_CURRENT, 1022, 1023, 1023, 4},
+    {"low adhesion's current 1,000, and 10,009 A", SLIPPERY, TC_CURRENT, 1000, 10010, 10010, 4},
+    {"driving modes' current 0, and 0 A", MODES, TC_CURRENT, 0, 1, 1, 4},
+    {"the driving mode GoA1's current 512, and 4,294,967,295", GOA1, TC_CURRENT, 512, 0xFFFFFFFF, 0xFFFFFFFF, 4},
+};
+
+// Numbers that a sheet can have and the packet's field cannot hold, or that a speed loses: 4.
+static const struct { const char *name; int given; size_t field; uint32_t number; } LOST[] = {
+    {"type 4", STARTS, TC_TYPE, 4},
+    {"type 4,294,967,295", MODES, TC_TYPE, 0xFFFFFFFF},
+    {"range 4", RESTRICTS, TC_RANGE, 4},
+    {"a start at 16,777,216", STARTS, TC_START, 16777216},
+    {"a start at 16,777,216, before an end", RESTRICTS, TC_START, 16777216},
+    {"an end at 16,777,216", SLIPPERY, TC_END, 16777216},
+    {"an end at 16,777,216, after a start", RESTRICTS, TC_END, 16777216},
+    {"Q_FRONT 2", RESTRICTS, TC_FRONT, 2},
+    {"640 km/h of a constraint", STARTS, TC_SPEED, 640},
+    {"1 km/h of low adhesion", SLIPPERY, TC_SPEED, 1},
+    {"3 km/h of low adhesion", SLIPPERY, TC_SPEED, 3},
+    {"4 km/h of driving modes", MODES, TC_SPEED, 4},
+    {"3 km/h of the driving mode GoA1", GOA1, TC_SPEED, 3},
+    {"adhesion 8", SLIPPERY, TC_ADHESION, 8},
+};
+
+static void constraints(struct fields *s)
+{
+    for (size_t i = 0; i < sizeof CONSTRAINED / sizeof *CONSTRAINED; ++i) {
+        constrained_journey(s, GIVEN[CONSTRAINED[i].given]);
+        both_with(CONSTRAINED[i].name, s, CONSTRAINED[i].field, CONSTRAINED[i].value, CONSTRAINED[i].number, CONSTRAINED[i].raised,
+                  CONSTRAINED[i].refusal);
+    }
+    for (size_t i = 0; i < sizeof LOST / sizeof *LOST; ++i) {
+        constrained_journey(s, GIVEN[LOST[i].given]);
+        sheet_with(LOST[i].name, s, LOST[i].field, LOST[i].number, 4);
+    }
+}
+
+// The restriction's packet is that of the sheet that comes back, too.
+static void restricted(void)
+{
+    struct bytes lowered = restricted_sheet;
+    lowered.byte[59] = 40;
+    converts("a journey with a restriction, byte by byte", seglink_sheet_to_packet, &restricted_sheet, &restricted_packet);
+    converts("a journey with a restriction, byte by byte", seglink_packet_to_sheet, &restricted_packet, &lowered);
+    converts("a journey with a restriction, lowered", seglink_sheet_to_packet, &lowered, &restricted_packet);
+    lowered.byte[59] = 45;
+    struct bytes faster = restricted_packet;
+    replace_bits(&faster, 382, 7, 9);
+    converts("a journey with a restriction to 45 km/h", seglink_sheet_to_packet, &lowered, &faster);
 }
 
 // A segment that calls itself a journey has no segments and then bits or bytes left; a journey that calls itself a segment ends too soon.
@@ -973,9 +1172,9 @@ static void cut_sheets(const char *name, const struct bytes *whole)
 }
 
 // A sheet whose body would be too long: 12 in every room; 9 and 4 come before it.
-static void too_long(const char *name, struct fields *s, uint32_t segments, uint32_t points, size_t bits)
+static void too_long(const char *name, struct fields *s, uint32_t segments, uint32_t points, uint32_t constraints, size_t bits)
 {
-    full_journey(s, segments, points);
+    full_journey(s, segments, points, constraints);
     check(name, "the body's count of bits", body_bits(s), bits);
     struct bytes b = sheet_of(s, false);
     uint32_t length = (uint32_t)b.length;
@@ -985,7 +1184,7 @@ static void too_long(const char *name, struct fields *s, uint32_t segments, uint
     b.length = length - 1;
     refuses(name, seglink_sheet_to_packet, &b, 9, length - 1);
     b.length = length;
-    b.byte[length - 1] = 1;
+    b.byte[length - 1] = 32; // no count, and no current of a constraint
     refuses(name, seglink_sheet_to_packet, &b, 4, length - 1);
 }
 
@@ -994,6 +1193,27 @@ static void asks(const char *name, const struct bytes *packet, const struct byte
 {
     packet_asked(name, packet, 2, 0);
     sheet_asked(name, sheet, 2, 0);
+}
+
+// The largest journeys: their segments, timing points and constraints; the bits of the body, and the bytes of packet and sheet.
+static const struct { const char *name; uint32_t segments, points, constraints; size_t bits, packet, sheet; } LONGEST[] = {
+    {"the largest packet of a journey without constraints", 41, 486, 0, 65534, SEGLINK_LARGEST_JOURNEY_PACKET, 15174},
+    {"the largest packet of a journey", 20, 186, 550, 65535, SEGLINK_LARGEST_JOURNEY_PACKET, 14130},
+    {"the largest packet of a journey without timing points", 44, 0, 856, 65535, SEGLINK_LARGEST_JOURNEY_PACKET, 13476},
+    {"the largest sheet of a journey without constraints", 18, 498, 0, 65495, 8202, 15212},
+    {"the largest sheet of a journey, with a constraint", 17, 498, 1, 65499, 8203, 15213},
+    {"the largest sheet of a journey, with five", 17, 496, 5, 65533, SEGLINK_LARGEST_JOURNEY_PACKET, 15213},
+    {"28 segments full of constraints", 28, 0, 868, 65307, 8179, 13432},
+    {"255 segments", 255, 370, 1, 65409, 8192, 14706},
+};
+
+static void longest(struct fields *s)
+{
+    for (size_t i = 0; i < sizeof LONGEST / sizeof *LONGEST; ++i) {
+        full_journey(s, LONGEST[i].segments, LONGEST[i].points, LONGEST[i].constraints);
+        sizes(LONGEST[i].name, s, LONGEST[i].bits, LONGEST[i].packet, LONGEST[i].sheet);
+        both(LONGEST[i].name, s, 0, 0);
+    }
 }
 
 static void journeys(struct fields *s)
@@ -1010,17 +1230,12 @@ static void journeys(struct fields *s)
     both("a journey of one timing point", s, 0, 0);
     mixed_journey(s);
     both("a mixed journey", s, 0, 0);
-    full_journey(s, 41, 486);
-    sizes("the largest packet of a journey", s, 65534, SEGLINK_LARGEST_JOURNEY_PACKET, 15174);
-    both("the largest packet of a journey", s, 0, 0);
-    full_journey(s, 18, 498);
-    sizes("the largest sheet of a journey", s, 65495, 8202, 15212);
-    both("the largest sheet of a journey", s, 0, 0);
-    full_journey(s, 255, 371);
-    both("a journey over 255 segments", s, 0, 0);
-    too_long("a journey of 65,537 bits", s, 56, 478, 65537);
-    too_long("the largest journey and a segment", s, 42, 486, 65603);
-    too_long("the largest journey and a timing point", s, 41, 487, 65663);
+    longest(s);
+    too_long("a journey of 65,536 bits", s, 62, 0, 839, 65536);
+    too_long("the largest journey without constraints and a segment", s, 42, 486, 0, 65603);
+    too_long("the largest journey without constraints and a timing point", s, 41, 487, 0, 65663);
+    too_long("the largest journey without constraints and a constraint", s, 41, 486, 1, 65607);
+    too_long("the largest journey and a constraint", s, 20, 186, 551, 65608);
     asks("the smallest journey", &smallest_journey_packet, &smallest_journey_sheet);
     asks("a journey of one timing point", &journey_packet, &journey_sheet);
     struct bytes packet = journey_packet, sheet = journey_sheet;
@@ -1028,8 +1243,11 @@ static void journeys(struct fields *s)
     sheet.length = 1;
     asks("a journey cut after its header, and after its packet number", &packet, &sheet);
     journey_fields(s);
+    constraints(s);
+    restricted();
     crossed();
     cut_sheets("a journey's sheet cut", &journey_sheet);
+    cut_sheets("a restriction's sheet cut", &restricted_sheet);
 }
 
 static int all_checks(struct fields *s)
@@ -1047,7 +1265,6 @@ static int all_checks(struct fields *s)
     single_fields(s);
     lists(s);
     cut_sheets("the desk sheet cut", &desk_sheet);
-    reframed_packets();
     damaged_packets();
     damaged_sheets();
     speeds_by_cant();
@@ -1093,28 +1310,29 @@ static void timed(const char *name, conversion *convert, const struct bytes *in,
            in->length, (unsigned)c.length, took[ROUNDS / 2], ROUNDS, repeats, took[0], took[ROUNDS - 1]);
 }
 
+static void both_timed(const char *name, const struct fields *s)
+{
+    char title[64];
+    struct bytes packet = packet_of(s), sheet = sheet_of(s, false);
+    snprintf(title, sizeof title, "%s, packet to sheet", name);
+    timed(title, seglink_packet_to_sheet, &packet, s->count);
+    snprintf(title, sizeof title, "%s, sheet to packet", name);
+    timed(title, seglink_sheet_to_packet, &sheet, s->count);
+}
+
 static int all_times(struct fields *s)
 {
     printf("The fields are those of the sheet, so L_PACKET_ATO is not counted. The room of %d bytes is not cleared between conversions.\n", ROOM);
     smallest(s);
-    struct bytes packet = packet_of(s), sheet = sheet_of(s, false);
-    timed("smallest, packet to sheet", seglink_packet_to_sheet, &packet, s->count);
-    timed("smallest, sheet to packet", seglink_sheet_to_packet, &sheet, s->count);
+    both_timed("smallest", s);
     largest(s);
-    packet = packet_of(s);
-    sheet = sheet_of(s, false);
-    timed("largest, packet to sheet", seglink_packet_to_sheet, &packet, s->count);
-    timed("largest, sheet to packet", seglink_sheet_to_packet, &sheet, s->count);
+    both_timed("largest", s);
     one_journey(s, false);
-    packet = packet_of(s);
-    sheet = sheet_of(s, false);
-    timed("journey of one timing point, packet to sheet", seglink_packet_to_sheet, &packet, s->count);
-    timed("journey of one timing point, sheet to packet", seglink_sheet_to_packet, &sheet, s->count);
-    full_journey(s, 41, 486);
-    packet = packet_of(s);
-    sheet = sheet_of(s, false);
-    timed("largest journey, packet to sheet", seglink_packet_to_sheet, &packet, s->count);
-    timed("largest journey, sheet to packet", seglink_sheet_to_packet, &sheet, s->count);
+    both_timed("journey of one timing point", s);
+    full_journey(s, 41, 486, 0);
+    both_timed("largest journey without constraints", s);
+    full_journey(s, 28, 0, 868);
+    both_timed("journey full of constraints", s);
     return 0;
 }
 

@@ -108,7 +108,7 @@ fn location(random: &mut Random, draft: &Draft, place: usize) -> (u32, u64) {
 /// An end about the constraint's start, which stands before it, or past all that a packet holds.
 fn end(random: &mut Random, draft: &Draft, place: usize) -> (u32, u64) {
     let start = draft.fields[place - 1].value;
-    let near = [0, start.saturating_sub(1), start, start + 1, 16_777_215];
+    let near = [0, start.saturating_sub(1), start, start.wrapping_add(1), 16_777_215];
     let number = if random.one_in(4) { random.pick(&[16_777_216, u32::MAX]) } else { random.pick(&near) };
     (random.pick(&near), number.into())
 }
