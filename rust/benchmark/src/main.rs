@@ -1,5 +1,5 @@
 //! The archive's times beside the second program's and asn1c's: conversions and speeds, on small, middle and the largest segments; and
-//! beside the second program's, conversions of small and the largest journeys.
+//! beside the second program's, conversions of small and the largest journeys and of those full of temporary constraints.
 
 mod asn1c;
 mod machine;
@@ -7,7 +7,7 @@ mod measure;
 
 use compare::archive::Archive;
 use compare::draft::{Draft, Kind};
-use compare::journeys::{journey, spread, LONGEST};
+use compare::journeys::{journey, spread, Size, LONGEST_UNCONSTRAINED};
 use compare::program::{Operation, Program, Question, Train};
 use compare::random::Random;
 use compare::second_program::Second;
@@ -18,8 +18,14 @@ use std::time::Instant;
 const MIDDLE: Sizes = Sizes { changes: 10, entries: (0, 6), voltages: 3, currents: 3 };
 /// How many segments of each size: so many fields that a processor cannot learn them.
 const SIZES: [(&str, usize, Sizes); 3] = [("small", 4_000, SMALLEST), ("middle", 600, MIDDLE), ("largest", 30, LARGEST)];
-/// The same of journeys: a size is the segments and the timing points on them.
-const JOURNEYS: [(&str, usize, (u32, u32)); 2] = [("small", 1_500, (2, 3)), ("largest", 12, LONGEST)];
+/// As many segments with 31 constraints each as a packet holds.
+const CONSTRAINED: Size = (28, 0, 28 * 31);
+/// The same of journeys: a size is the segments, the timing points and the constraints on them.
+const JOURNEYS: [(&str, usize, Size); 3] = [
+    ("small", 1_500, (2, 3, 0)),
+    ("largest without constraints", 12, LONGEST_UNCONSTRAINED),
+    ("full of constraints", 12, CONSTRAINED),
+];
 const LARGEST_RESULT: usize = 15_226;
 const TRAIN: Train = Train { length: 20_000, cant: 150, freight_p: false, freight_g: true, passenger: false };
 
@@ -57,9 +63,9 @@ fn main() {
     }
 }
 
-fn any_journey(random: &mut Random, size: (u32, u32)) -> Draft {
-    let points = spread(random, size);
-    journey(random, &points)
+fn any_journey(random: &mut Random, size: Size) -> Draft {
+    let counts = spread(random, size);
+    journey(random, &counts)
 }
 
 /// A size's four rows; a journey's are two, without asn1c.
