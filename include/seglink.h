@@ -1,6 +1,10 @@
 // The five operations of the segment link, for C11 and C++: link with libseglink.a, which `rt staticlib seglink` writes for x86-64.
 // Packets and sheets are a segment's (packet number 6) or a journey's (4): the conversions take both, the questions a segment's alone.
 //
+// Of a journey's temporary constraint, up to 31 a segment, Q_TC_Type 0 uses Q_FRONT and V_Speed_Level, 1 the adhesion, 2 and 3 neither;
+// Q_TC_Range 0 uses the start, 1 the end, 2 both, 3 neither. What is not used is 0; no type uses the current, 1,023 in the packet and 0 in
+// the sheet. A speed is lowered to a multiple of 5 km/h on its way to the packet, as a segment's speeds are.
+//
 // Any bytes may be handed over, in any number. A pointer is never null, also where the count is 0, and the room shares no byte with what is read.
 // No operation keeps a pointer, has a state or stops the program, so any number of threads may call them.
 #ifndef SEGLINK_H
@@ -20,8 +24,8 @@ enum {
     SEGLINK_SHORT_PACKET = 1,    // a packet has fewer than 15 bytes
     SEGLINK_PACKET_NUMBER = 2,   // the packet number is neither 4 nor 6, or is 4 where a segment is needed
     SEGLINK_PACKET_LENGTH = 3,   // the packet's bytes are not 15 + L_PACKET_ATO / 8, rounded up
-    SEGLINK_FIELD_VALUE = 4,     // a field is outside its range or set, or not 0: NID_CTRACTION at voltage 0, the last eight fields at a passing point
-    SEGLINK_CHANGE_LOCATION = 5, // a change's location does not rise, is 0, or is at or past L_SP
+    SEGLINK_FIELD_VALUE = 4,     // a field is outside its range or set, or not 0 where it is not used: NID_CTRACTION at voltage 0, the last eight fields at a passing point, fields of a temporary constraint (its current: not 1,023 in a packet)
+    SEGLINK_CHANGE_LOCATION = 5, // a change's location does not rise, is 0, or is at or past L_SP; or a temporary constraint's start is not below its end
     SEGLINK_BODY_BITS = 6,       // a field does not fit in the body's remaining bits
     SEGLINK_PADDING_BIT = 7,     // a padding bit is 1
     SEGLINK_SHORT_ROOM = 8,      // the result is longer than the lent room
@@ -45,6 +49,7 @@ enum {
 // Each answer has the refusal's place. Of a packet it is a bit, counted from 0 at the packet's start, the top bit of each byte first: the first
 // of the field at fault (4, 5, 6), the first that is left (13), the first of the padding that is 1 (7). Of a sheet it is a byte, counted from 0:
 // the first of the number at fault (4, 5, 9), also where the sheet ends before or within it, or the first that is left (9).
+// Where a constraint's start is not below its end, the end is at fault.
 // For 1, 2, 3, 8 and 10 to 12 it is 0, and on success.
 
 // What a conversion answers: 0, 0 and the count of bytes that it wrote; or a refusal, its place and 0.

@@ -1,6 +1,8 @@
 //! The segment link in safe Rust: packets to sheets and back, permitted speeds and the altitude, by the proved static library.
 //!
 //! Packets and sheets are a segment's (packet number 6) or a journey's (4). The conversions take both, the questions a segment's alone.
+//! A segment of a journey has up to 31 temporary constraints. What one's type and range do not use is 0; its current, which none uses, is
+//! 1,023 in the packet. Speeds, those of constraints too, are lowered to multiples of 5 km/h on their way to the packet.
 //!
 //! An element of the speed profile gives a train the lowest speed of its entries by cant deficiency (Q_DIFF 0): of those that name the
 //! train's own figure, or else the greatest figure below it; V_STATIC where there are none. The lowest entry of the train's categories

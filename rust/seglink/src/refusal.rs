@@ -10,9 +10,10 @@ pub enum Refusal {
     PacketNumber = 2,
     /// 3: the packet's bytes are not 15 + L_PACKET_ATO / 8, rounded up.
     PacketLength = 3,
-    /// 4: a field is outside its range or set, or not 0: NID_CTRACTION at voltage 0, the last eight fields at a passing point.
+    /// 4: a field is outside its range or set, or not 0 where it is not used: NID_CTRACTION at voltage 0, the last eight fields at a
+    /// passing point, fields of a temporary constraint (its current: not 1,023 in a packet).
     FieldValue = 4,
-    /// 5: a change's location does not rise, is 0, or is at or past L_SP.
+    /// 5: a change's location does not rise, is 0, or is at or past L_SP; or a temporary constraint's start is not below its end.
     ChangeLocation = 5,
     /// 6: a field does not fit in the body's remaining bits.
     BodyBits = 6,
@@ -39,9 +40,13 @@ const GROUNDS: [(Refusal, &str); 13] = [
     (Refusal::PacketLength, "the packet's bytes are not 15 + L_PACKET_ATO / 8, rounded up"),
     (
         Refusal::FieldValue,
-        "a field is outside its range or set, or not 0: NID_CTRACTION at voltage 0, the last eight fields at a passing point",
+        "a field is outside its range or set, or not 0 where it is not used: NID_CTRACTION at voltage 0, the last eight fields at \
+         a passing point, fields of a temporary constraint (its current: not 1,023 in a packet)",
     ),
-    (Refusal::ChangeLocation, "a change's location does not rise, is 0, or is at or past L_SP"),
+    (
+        Refusal::ChangeLocation,
+        "a change's location does not rise, is 0, or is at or past L_SP; or a temporary constraint's start is not below its end",
+    ),
     (Refusal::BodyBits, "a field does not fit in the body's remaining bits"),
     (Refusal::PaddingBit, "a padding bit is 1"),
     (Refusal::ShortRoom, "the result is longer than the lent room"),

@@ -1,4 +1,5 @@
 //! Journeys, written from the request that brought them: both conversions, their limits, and the questions, which need a segment.
+use crate::constraints::constraint;
 use crate::segments::{bit_of, byte_of, packet, same, sheet, Field};
 use crate::told;
 use seglink::{
@@ -7,12 +8,12 @@ use seglink::{
 };
 
 /// A journey over one segment with one timing point.
-const PACKET: [u8; 42] = [
+pub const PACKET: [u8; 42] = [
     0x04, 0x00, 0xD1, 0x00, 0x01, 0x23, 0x45, 0x00, 0x00, 0x01, 0x00, 0x00, 0x00, 0x00, 0x07, // header
     0x20, 0x2A, 0xCC, 0x4D, 0x5E, 0x6F, 0x78, 0x8C, 0x14, 0x2E, 0xCA, 0x86, 0x42, 0x0C, 0x0E, 0x6A, 0x30, 0x12, 0xCA, 0x3A, 0xDB,
     0xA0, 0xA8, 0xBF, 0xE1, 0x30, 0x00,
 ];
-const SHEET: [u8; 52] = [
+pub const SHEET: [u8; 52] = [
     0x04, 0xC5, 0xC6, 0x04, 0x01, 0x00, 0x00, 0x07, // header
     0x01, 0x01, 0xD9, 0x02, 0xEF, 0x9B, 0xAF, 0xCD, 0x08, 0x11, 0x82, 0x01, 0x01, 0x01, // status, the segment
     0x90, 0xE4, 0xD0, 0xB2, 0x07, 0xB9, 0x60, 0x80, 0xA3, 0x05, 0xD9, 0x04, 0x01, 0x00, 0x01, 0x01, // arrival
@@ -44,31 +45,37 @@ const STOP: usize = 5;
 const FIRST: usize = 14;
 const DOOR_SIDE: usize = FIRST + 8;
 
-/// So many segments and timing points, at most 31 a segment, every number of as many groups as its field allows.
-fn journey(segments: u32, points: u32) -> Vec<Field> {
+/// So many segments, timing points and constraints, at most 31 a segment, every number of as many groups as its field allows.
+pub fn journey(segments: u32, points: u32, constraints: u32) -> Vec<Field> {
     let mut fields = vec![same(8, 4), same(32, u32::MAX), same(24, 16_777_215), same(15, 32_767), same(17, 86_399), same(8, 255)];
     fields.extend([same(3, 4), same(8, segments)]);
-    let mut left = points;
+    let point = POINT.map(|(width, value)| same(width, value));
+    let constraint = constraint([0, 2, 16_777_214, 16_777_215, 1, 600, 0]);
+    let mut left = (points, constraints);
     for _ in 0..segments {
-        let here = left.min(31);
-        left -= here;
-        fields.extend([same(10, 1023), same(32, u32::MAX), same(8, 255), same(8, 255), same(1, 1), same(5, here)]);
-        for _ in 0..here {
-            fields.extend(POINT.map(|(width, value)| same(width, value)));
-        }
-        fields.push(same(5, 0));
+        fields.extend([same(10, 1023), same(32, u32::MAX), same(8, 255), same(8, 255), same(1, 1)]);
+        at_most_31(&mut fields, &mut left.0, &point);
+        at_most_31(&mut fields, &mut left.1, &constraint);
     }
-    assert_eq!(left, 0);
+    assert_eq!(left, (0, 0));
     fields
 }
 
-/// Both media are refused with 4, at one field.
-fn refuses(fields: &[Field], index: usize) {
-    assert_eq!(told(sheet_of(&packet(fields))), Err((Refusal::FieldValue, bit_of(fields, index))));
-    assert_eq!(told(packet_of(&sheet(fields))), Err((Refusal::FieldValue, byte_of(fields, index))));
+/// A count and as many items, of those that are left.
+fn at_most_31(fields: &mut Vec<Field>, left: &mut u32, item: &[Field]) {
+    let here = (*left).min(31);
+    *left -= here;
+    fields.push(same(5, here));
+    (0..here).for_each(|_| fields.extend(item));
 }
 
-fn converts(fields: &[Field]) {
+/// Both media are refused, at one field.
+pub fn refuses(fields: &[Field], refusal: Refusal, index: usize) {
+    assert_eq!(told(sheet_of(&packet(fields))), Err((refusal, bit_of(fields, index))));
+    assert_eq!(told(packet_of(&sheet(fields))), Err((refusal, byte_of(fields, index))));
+}
+
+pub fn converts(fields: &[Field]) {
     let (packet, sheet) = (packet(fields), sheet(fields));
     assert_eq!(sheet_of(&packet).unwrap(), sheet);
     assert_eq!(packet_of(&sheet).unwrap(), packet);
@@ -78,8 +85,8 @@ fn converts(fields: &[Field]) {
 fn a_journey_goes_both_ways() {
     assert_eq!(sheet_of(&PACKET).unwrap(), SHEET);
     assert_eq!(packet_of(&SHEET).unwrap(), PACKET);
-    converts(&journey(0, 0));
-    converts(&journey(3, 40));
+    converts(&journey(0, 0, 0));
+    converts(&journey(3, 40, 35));
 }
 
 #[test]
@@ -94,35 +101,39 @@ fn the_room_is_exact_or_stays_as_it_was() {
 
 #[test]
 fn the_longest_journeys_fit_the_largest_rooms() {
-    let most_bits = journey(41, 486);
-    assert_eq!(packet(&most_bits).len(), LARGEST_JOURNEY_PACKET);
-    converts(&most_bits);
-    // the most numbers of many groups in the fewest bits: timing points, 31 a segment
-    let most_bytes = journey(18, 498);
-    assert!((15_212..=LARGEST_JOURNEY_SHEET).contains(&sheet(&most_bytes).len()));
-    converts(&most_bytes);
+    // 65,534 bits, and 65,535
+    for most_bits in [journey(41, 486, 0), journey(20, 186, 550), journey(44, 0, 856)] {
+        assert_eq!(packet(&most_bits).len(), LARGEST_JOURNEY_PACKET);
+        converts(&most_bits);
+    }
+    // the most numbers of many groups in the fewest bits: timing points, 31 a segment, and a constraint, or five
+    for most_bytes in [journey(17, 498, 1), journey(17, 496, 5)] {
+        assert!((15_213..=LARGEST_JOURNEY_SHEET).contains(&sheet(&most_bytes).len()));
+        converts(&most_bytes);
+    }
 }
 
 #[test]
 fn a_long_body_is_refused_after_9_and_4_and_before_8() {
-    // 65,537 bits, the next after 65,534; a segment more; the most that the counts allow
-    for (segments, points) in [(56, 478), (42, 486), (255, 31 * 255)] {
-        let long = sheet(&journey(segments, points));
+    // 65,536 bits; a segment and a constraint more than the largest; the most that the counts allow
+    for (segments, points, constraints) in [(62, 0, 839), (42, 486, 0), (20, 186, 551), (255, 31 * 255, 31 * 255)] {
+        let long = sheet(&journey(segments, points, constraints));
         assert_eq!(told(packet_of(&long)), Err((Refusal::LongBody, 0)));
         assert_eq!(told(sheet_to_packet(&long, &mut [])), Err((Refusal::LongBody, 0)));
         assert_eq!(told(packet_of(&[&long[..], &[0]].concat())), Err((Refusal::SheetForm, long.len() as u32)));
-        let (&last, before) = long.split_last().unwrap();
+        // the last number is a count or a current of a constraint: 32 is neither
+        let before = &long[..long.len() - 1];
         let place = before.len() as u32;
         assert_eq!(told(packet_of(before)), Err((Refusal::SheetForm, place)));
-        assert_eq!(told(packet_of(&[before, &[last + 1]].concat())), Err((Refusal::FieldValue, place)));
+        assert_eq!(told(packet_of(&[before, &[32]].concat())), Err((Refusal::FieldValue, place)));
     }
 }
 
 #[test]
 fn the_eight_fields_of_a_halt_are_0_at_a_passing_point() {
-    let mut passing = journey(1, 1);
+    let mut passing = journey(1, 1, 0);
     passing[FIRST + STOP] = same(2, 2);
-    refuses(&passing, DOOR_SIDE);
+    refuses(&passing, Refusal::FieldValue, DOOR_SIDE);
     for index in DOOR_SIDE..FIRST + POINT.len() {
         passing[index] = same(POINT[index - FIRST].0, 0);
     }
@@ -130,7 +141,7 @@ fn the_eight_fields_of_a_halt_are_0_at_a_passing_point() {
     for index in DOOR_SIDE..FIRST + POINT.len() {
         let mut one = passing.clone();
         one[index] = same(POINT[index - FIRST].0, 1);
-        refuses(&one, index);
+        refuses(&one, Refusal::FieldValue, index);
     }
 }
 
@@ -138,10 +149,10 @@ fn the_eight_fields_of_a_halt_are_0_at_a_passing_point() {
 fn ranges_end_where_the_request_says() {
     let past =
         [(6, 3, 5), (FIRST + 2, 17, 86_401), (FIRST + 4, 2, 3), (FIRST + 5, 2, 3), (FIRST + 6, 2, 2), (FIRST + 13, 17, 86_400)];
-    for (index, width, value) in past.into_iter().chain([(FIRST + POINT.len(), 5, 1)]) {
-        let mut fields = journey(1, 1);
+    for (index, width, value) in past {
+        let mut fields = journey(1, 1, 0);
         fields[index] = same(width, value);
-        refuses(&fields, index);
+        refuses(&fields, Refusal::FieldValue, index);
     }
 }
 
@@ -165,7 +176,7 @@ fn a_damaged_journey_is_refused_at_its_place() {
 #[test]
 fn a_question_needs_a_segment() {
     let train = Train { length: 0, cant: 0, freight_p: false, freight_g: false, passenger: false };
-    for fields in [journey(0, 0), journey(1, 1)] {
+    for fields in [journey(0, 0, 0), journey(1, 1, 0), journey(1, 1, 1)] {
         assert_eq!(told(speed_from_packet(&packet(&fields), train, 0)), Err((Refusal::PacketNumber, 0)));
         assert_eq!(told(speed_from_sheet(&sheet(&fields), train, 0)), Err((Refusal::PacketNumber, 0)));
         assert_eq!(told(altitude_of_packet(&packet(&fields))), Err((Refusal::PacketNumber, 0)));

@@ -1,4 +1,5 @@
 //! The safe crate over the static library: every operation, every refusal with its place, and the C header in the same words.
+mod constraints;
 mod conversions;
 mod header;
 mod journeys;

@@ -3,9 +3,9 @@
 /// A field: its width and value in the packet, and its number in the sheet.
 #[derive(Clone, Copy)]
 pub struct Field {
-    width: usize,
-    value: u32,
-    number: u32,
+    pub width: usize,
+    pub value: u32,
+    pub number: u32,
 }
 
 pub const DESK_PACKET: [u8; 39] = [
@@ -25,9 +25,12 @@ pub fn same(width: usize, value: u32) -> Field {
     Field { width, value, number: value }
 }
 
-fn speed(kmh: u32) -> Field {
+pub fn speed(kmh: u32) -> Field {
     Field { width: 7, value: kmh / 5, number: kmh }
 }
+
+/// No limit of current.
+pub const NO_LIMIT: Field = Field { width: 10, value: 1023, number: 0 };
 
 /// An element of the speed profile; an entry is Q_DIFF, class and km/h.
 pub fn element(kmh: u32, front: u32, entries: &[(u32, u32, u32)]) -> Vec<Field> {
@@ -58,8 +61,7 @@ pub fn segment(l_sp: u32, altitude: u32, start: &[Field], changes: &[(u32, Vec<F
         fields.push(same(24, *location));
         fields.extend(element);
     }
-    let no_limit = Field { width: 10, value: 1023, number: 0 };
-    fields.extend([same(4, 0), same(10, 0), same(5, 0), no_limit, same(5, 0)]);
+    fields.extend([same(4, 0), same(10, 0), same(5, 0), NO_LIMIT, same(5, 0)]);
     fields
 }
 
