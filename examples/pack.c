@@ -1,5 +1,5 @@
 // Reads a sheet as text, a number at the start of each line, and writes its packet: examples/sample.numbers makes examples/sample.packet,
-// a segment's, and examples/journey.numbers examples/journey.packet.
+// a segment's, and examples/journey.numbers examples/journey.packet, a journey's with a speed restriction.
 #include <stdio.h>
 #include <stdlib.h>
 
