@@ -22,7 +22,7 @@ const CONSTRAINTS: usize = POINT + 16;
 
 /// A restriction to 600 km/h, every number of it of as many groups as its range has.
 const RESTRICTION: Constraint = [0, 2, 16_777_214, 16_777_215, 1, 600, 0, 0];
-/// The largest sheets: a timing point more, or four constraints.
+/// The largest sheets: two timing points more, or four constraints.
 const LARGEST_SHEETS: [Size; 2] = [(17, 498, 1), (17, 496, 5)];
 
 /// So many segments, timing points and constraints, 31 a segment as long as there are any; every number at its largest.

@@ -38,11 +38,14 @@ fn with_last(packet: &[u8], byte: u8) -> Vec<u8> {
     [&packet[..packet.len() - 1], &[byte]].concat()
 }
 
+/// Packets are refused, each at its bit.
+fn packets_refused(refusal: Refusal, packets: impl IntoIterator<Item = (Vec<u8>, usize)>) {
+    packets.into_iter().for_each(|(packet, place)| packet_refused(&packet, refusal.at(place)));
+}
+
 /// A packet with one field replaced is refused at that field.
 fn fields_refused(packet: &[u8], refusal: Refusal, fields: &[((usize, u32), u32)]) {
-    for ((place, width), value) in fields {
-        packet_refused(&packet_with(packet, (*place, *width), *value), refusal.at(*place));
-    }
+    packets_refused(refusal, fields.iter().map(|(field, value)| (packet_with(packet, *field, *value), field.0)));
 }
 
 /// Numbers with one replaced are refused at a byte.
@@ -51,20 +54,6 @@ fn numbers_refused(whole: &[u32], refusal: Refusal, numbers: &[(usize, u32, usiz
         let mut replaced = whole.to_vec();
         replaced[*index] = *number;
         sheet_refused(&sheet(&replaced), refusal.at(*place));
-    }
-}
-
-/// A packet with another last byte is refused at a bit of its padding.
-fn paddings_refused(packet: &[u8], paddings: &[(u8, usize)]) {
-    for (byte, place) in paddings {
-        packet_refused(&with_last(packet, *byte), Padding.at(*place));
-    }
-}
-
-/// A packet with fewer bits in its body is refused at the field that does not fit.
-fn bodies_refused(packet: &[u8], bodies: &[(u32, usize)]) {
-    for (bits, place) in bodies {
-        packet_refused(&counted(packet, *bits), Bits.at(*place));
     }
 }
 
@@ -129,7 +118,8 @@ fn a_location_is_refused_at_its_first_bit() {
 #[test]
 fn a_field_that_does_not_fit_is_refused_at_its_first_bit() {
     // NID_C has 10 bits, NID_SP 32; V_STATIC begins 133 bits into the body, Q_FRONT 140, the last count 180
-    bodies_refused(&sample(), &[(0, 120), (9, 120), (10, 130), (41, 130), (139, 253), (140, 260), (180, 300), (184, 300)]);
+    let bodies = [(0, 120), (9, 120), (10, 130), (41, 130), (139, 253), (140, 260), (180, 300), (184, 300)];
+    packets_refused(Bits, bodies.map(|(bits, place)| (counted(&sample(), bits), place)));
     // judged before its value: V_STATIC as far as it is there
     packet_refused(&counted(&packet_with(&sample(), (253, 7), 127), 139), Bits.at(253));
 }
@@ -146,8 +136,10 @@ fn bits_left_are_refused_at_the_first() {
 
 #[test]
 fn padding_is_refused_at_the_first_bit_that_is_1() {
-    paddings_refused(&sample(), &[(0x40, 305), (0x01, 311), (0x24, 306), (0x03, 310), (0x7F, 305)]);
-    paddings_refused(&PACKET, &[(0x40, 329), (0x01, 335), (0x24, 330), (0x7F, 329)]);
+    let segment = [(0x40, 305), (0x01, 311), (0x24, 306), (0x03, 310), (0x7F, 305)];
+    packets_refused(Padding, segment.map(|(byte, place)| (with_last(&sample(), byte), place)));
+    let journey = [(0x40, 329), (0x01, 335), (0x24, 330), (0x7F, 329)];
+    packets_refused(Padding, journey.map(|(byte, place)| (with_last(&PACKET, byte), place)));
 }
 
 #[test]
@@ -227,7 +219,7 @@ fn a_field_of_a_journey_is_refused_at_its_first_bit() {
 #[test]
 fn the_body_of_a_journey_ends_too_soon_or_too_late() {
     let bodies = [(0, 120), (2, 120), (3, 123), (10, 123), (11, 131), (100, 195), (203, 323), (204, 324), (208, 324)];
-    bodies_refused(&PACKET, &bodies);
+    packets_refused(Bits, bodies.map(|(bits, place)| (counted(&PACKET, bits), place)));
     // a second segment, which is not there
     packet_refused(&packet_with(&PACKET, (123, 8), 2), Bits.at(329));
     packet_refused(&packet_with(&PACKET, (123, 8), 0), Left.at(131));
