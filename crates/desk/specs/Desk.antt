@@ -1,7 +1,7 @@
 -- The desk cases of document 01 that are marked (P), in one table: what a public operation says, and what it must say.
 -- Assumes nothing.
 use mathlib.Core.List.{List, [], _∷_, _++_, map}
-use Prim.Native.Nat.{ℕ}
+use Prim.Native.Nat.{ℕ, _+_}
 use lib.IntN.{pos, negsuc}
 use lib.ListN.{length, replicate}
 use Rattle.segment.specs.Desk.{Question, askSheetOf, askPacketOf, Reply, bytes, refusal, firstPacket, conversions}
@@ -127,8 +127,60 @@ journeys =
     -- "At a passing point the last eight fields .. are 0", and at a skipped stopping point they need not be
     ∷ refusedSheet (pointSheet (0x00 ∷ []) 2 (replicate 9 0)) 8 0 ∷ refusedSheet (pointSheet (0x00 ∷ []) 2 (0x01 ∷ replicate 8 0)) 4 22
     ∷ refusedSheet (pointSheet (0x00 ∷ []) 2 (replicate 7 0 ++ 0x01 ∷ 0x00 ∷ [])) 4 29 ∷ refusedSheet (pointSheet (0x00 ∷ []) 1 (replicate 7 0 ++ 0x01 ∷ 0x00 ∷ [])) 8 0
-    -- "a 5-bit count of temporary constraints that must be 0 for now"
-    ∷ refusedSheet (pointSheet (0x00 ∷ []) 0 (replicate 8 0 ++ 0x01 ∷ [])) 4 30
+    ∷ []
+
+-- ---- A5: "Yard speed restrictions"
+
+-- one segment with no timing point, so many constraints, and the numbers of the one that follows
+abbrev pub constraintSheet : ℕ → List ℕ → List ℕ
+constraintSheet count numbers = 0x04 ∷ replicate 6 0 ++ 0x01 ∷ replicate 6 0 ++ count ∷ numbers
+
+-- its packet: a body of 153 bits, of which these are the last 73
+abbrev pub constraintPacket : List ℕ → List ℕ
+constraintPacket bits = 0x04 ∷ 0x00 ∷ 0x99 ∷ replicate 13 0 ++ 0x20 ∷ replicate 7 0 ++ 0x01 ∷ bits
+
+-- the first byte of one of the numbers, of which those before it have a byte each
+abbrev pub refusedConstraint : List ℕ → ℕ → ℕ → Case
+refusedConstraint numbers r n = refusedSheet (constraintSheet 1 numbers) r (15 + n)
+
+-- what is refused for want of room is accepted
+abbrev pub acceptedConstraint : List ℕ → Case
+acceptedConstraint numbers = refusedSheet (constraintSheet 1 numbers) 8 0
+
+-- a speed restriction from 100 to 200 cm: the speed in the packet's steps, and in the sheet
+abbrev pub restricted : List ℕ → List ℕ
+restricted speed = 0x00 ∷ 0x02 ∷ 0x64 ∷ 0xC8 ∷ 0x01 ∷ 0x01 ∷ speed ++ 0x00 ∷ 0x00 ∷ []
+
+abbrev pub restrictedPacket : List ℕ
+restrictedPacket = constraintPacket (0x20 ∷ 0x00 ∷ 0x06 ∷ 0x40 ∷ 0x00 ∷ 0x0C ∷ 0x89 ∷ 0x01 ∷ 0xFF ∷ 0x80 ∷ [])
+
+abbrev pub constraintCases : List Case
+constraintCases =
+    -- "Lowering in demands 2 and 3 then covers these speeds": 83 km/h gives 80
+    converts (askPacketOf (constraintSheet 1 (restricted (0x53 ∷ [])))) (bytes restrictedPacket)
+    ∷ converts (askSheetOf restrictedPacket) (bytes (constraintSheet 1 (restricted (0x50 ∷ []))))
+    -- "Speed and current in the sheet follow the segment rules": 604 gives 120, and 605 is refused
+    ∷ acceptedConstraint (restricted (0xDC ∷ 0x04 ∷ [])) ∷ refusedSheet (constraintSheet 1 (restricted (0xDD ∷ 0x04 ∷ []))) 4 21
+    -- "up to 31 constraints per segment"
+    ∷ refusedSheet (constraintSheet 32 []) 4 14 ∷ refusedSheet (constraintSheet 31 []) 9 15
+    -- "Document 002's fifth type .. is refused", and a fifth range
+    ∷ refusedConstraint (4 ∷ []) 4 0 ∷ refusedConstraint (0 ∷ 4 ∷ []) 4 1
+    -- "A range of starts uses the start only, ends the end only"
+    ∷ acceptedConstraint (2 ∷ 0 ∷ 1 ∷ replicate 5 0) ∷ refusedConstraint (2 ∷ 0 ∷ 1 ∷ 1 ∷ replicate 4 0) 4 3
+    ∷ acceptedConstraint (2 ∷ 1 ∷ 0 ∷ 1 ∷ replicate 4 0) ∷ refusedConstraint (2 ∷ 1 ∷ 1 ∷ 1 ∷ replicate 4 0) 4 2
+    -- "whole segment neither"
+    ∷ acceptedConstraint (2 ∷ 3 ∷ replicate 6 0) ∷ refusedConstraint (2 ∷ 3 ∷ 1 ∷ replicate 5 0) 4 2 ∷ refusedConstraint (2 ∷ 3 ∷ 0 ∷ 1 ∷ replicate 4 0) 4 3
+    -- "5, at the end field, for start not below end", and 4 where the end is no number of 24 bits
+    ∷ acceptedConstraint (2 ∷ 2 ∷ 6 ∷ 7 ∷ replicate 4 0) ∷ refusedConstraint (2 ∷ 2 ∷ 7 ∷ 7 ∷ replicate 4 0) 5 3
+    ∷ refusedConstraint (2 ∷ 2 ∷ 7 ∷ 0x80 ∷ 0x80 ∷ 0x80 ∷ 0x08 ∷ replicate 4 0) 4 3
+    -- "Type 0 uses Q_FRONT and speed, 1 adhesion; 2 and 3 (driving modes) use none", and an unused speed is 0 itself
+    ∷ acceptedConstraint (1 ∷ 3 ∷ 0 ∷ 0 ∷ 0 ∷ 0 ∷ 5 ∷ 0 ∷ []) ∷ refusedConstraint (1 ∷ 3 ∷ 0 ∷ 0 ∷ 0 ∷ 0 ∷ 6 ∷ 0 ∷ []) 4 6
+    ∷ refusedConstraint (1 ∷ 3 ∷ 0 ∷ 0 ∷ 0 ∷ 3 ∷ 0 ∷ 0 ∷ []) 4 5 ∷ refusedConstraint (1 ∷ 3 ∷ 0 ∷ 0 ∷ 1 ∷ 0 ∷ 0 ∷ 0 ∷ []) 4 4
+    ∷ refusedConstraint (0 ∷ 3 ∷ 0 ∷ 0 ∷ 1 ∷ 3 ∷ 1 ∷ 0 ∷ []) 4 6 ∷ refusedConstraint (3 ∷ 3 ∷ 0 ∷ 0 ∷ 0 ∷ 0 ∷ 1 ∷ 0 ∷ []) 4 6
+    -- "current 1,023 and 0"
+    ∷ refusedConstraint (3 ∷ 3 ∷ 0 ∷ 0 ∷ 0 ∷ 0 ∷ 0 ∷ 1 ∷ []) 4 7
+    ∷ converts (askSheetOf (constraintPacket (0x40 ∷ 0x00 ∷ 0x00 ∷ 0x70 ∷ 0x00 ∷ 0x00 ∷ 0x00 ∷ 0x0A ∷ 0x00 ∷ 0x00 ∷ []))) (refusal 4 263)
+    ∷ converts (askSheetOf (constraintPacket (0x20 ∷ 0x00 ∷ 0x06 ∷ 0x40 ∷ 0x00 ∷ 0x06 ∷ 0x49 ∷ 0x01 ∷ 0xFF ∷ 0x80 ∷ []))) (refusal 5 228)
     ∷ []
 
 -- "The (P) cases form a single table proved by a single statement"
@@ -146,3 +198,4 @@ desk =
     ∷ getsFromSheet 0 1 699 100 ∷ getsFromSheet 1 0 500 140 ∷ getsFromPacket 0 1 699 100 ∷ getsFromPacket 1 0 500 140
     ∷ cants
     ++ journeys
+    ++ constraintCases
