@@ -1,8 +1,8 @@
--- The ends of a journey are reached: no segment, and a packet of 8,207 bytes.
+-- The ends of a journey are reached: no segment, and a body of 65,535 bits, in a packet of 8,207 bytes.
 -- Assumes nothing.
 use mathlib.Core.Path.{_≡_, refl, _∙_}
 use mathlib.Core.List.{List, [], _∷_, _++_}
-use Prim.Native.Nat.{ℕ, _+_, _*_}
+use Prim.Native.Nat.{ℕ, _+_}
 use native.Mathlib.Omega.{arith}
 use lib.ListN.{length, replicate}
 use Rattle.numbers.specs.Numbers.{groupsIn}
@@ -25,13 +25,13 @@ pub record Reaches (l : List Item) (bits packet sheet : ℕ) : Type 0 where
 abbrev smallest : List Item
 smallest = item 4 4 ∷ replicate 7 (item 0 0)
 
--- a segment with n timing points, every field 0
+-- a segment with n constraints, every number 0
 abbrev segmentWith : ℕ → List Item
-segmentWith n = replicate 5 (item 0 0) ++ item n n ∷ replicate (16 * n) (item 0 0) ++ item 0 0 ∷ []
+segmentWith n = replicate 6 (item 0 0) ++ item n n ∷ repeated n (replicate 7 (item 0 0) ++ item 0 1023 ∷ [])
 
--- 41 segments with 486 timing points
+-- 44 segments with 856 constraints
 abbrev largest : List Item
-largest = item 4 4 ∷ replicate 6 (item 0 0) ++ item 41 41 ∷ repeated 15 (segmentWith 31) ++ segmentWith 21 ++ repeated 25 (segmentWith 0)
+largest = item 4 4 ∷ replicate 6 (item 0 0) ++ item 44 44 ∷ repeated 27 (segmentWith 31) ++ segmentWith 19 ++ repeated 16 (segmentWith 0)
 
 pub smallest-journey : Reaches smallest 11 17 8
 unfolding groupsIn digits times journeyBody linkFields toEitherPacket toEitherSheet
@@ -39,8 +39,8 @@ smallest-journey =
     let b : length (linkBits smallest) ≡ 96 + 11 = refl in
     record { values = record { good = conformed linkFields smallest refl; few = omega arith }; body = b; packetBytes = framed-length 4 (linkBits smallest) ∙ omega arith; sheetBytes = refl }
 
-pub largest-journey : Reaches largest 65534 8207 8071
+pub largest-journey : Reaches largest 65535 8207 7164
 unfolding groupsIn digits times journeyBody linkFields toEitherPacket toEitherSheet
 largest-journey =
-    let b : length (linkBits largest) ≡ 96 + 65534 = refl in
+    let b : length (linkBits largest) ≡ 96 + 65535 = refl in
     record { values = record { good = conformed linkFields largest refl; few = omega arith }; body = b; packetBytes = framed-length 4 (linkBits largest) ∙ omega arith; sheetBytes = refl }
