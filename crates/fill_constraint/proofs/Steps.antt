@@ -86,8 +86,8 @@ module _ {s room : List ℕ} {p : Spot} (h : Ready temporaryConstraint s room p)
         three : Gone s temporaryConstraint (afterStart (a .value)) (p .from) (a .next) (bitsOf 28 ((t .value * 4 + g .value) * 16777216 + a .value))
         three = more 4 (t .value * 4 + g .value) (dTcStartLocation (g .value)) afterStart two start refl start-small
 
-        pub location-small : t .value * 67108864 + g .value * 16777216 + a .value < 268435456
-        location-small = omega (arith, type-small, range-small, start-small)
+        pub location-small : (t .value < 4) × (g .value < 4) × (a .value < 16777216)
+        location-small = (type-small, range-small, start-small)
 
         pub end-there : There s (a .next)
         end-there = gone-there h refl end afterEnd three
@@ -161,8 +161,8 @@ module _ (type : ℕ) {s room : List ℕ} {p : Spot} (h : Ready (restriction typ
         third : Gone s (restriction type) afterAdhesion (p .from) (a .next) (bitsOf 11 ((t .value * 128 + w) * 8 + a .value))
         third = more 8 (t .value * 128 + w) (qLowAdhesionRate type) (λ _. afterAdhesion) second adhesion refl adhesion-small
 
-        pub restriction-small : t .value * 1048576 + w * 8192 + a .value * 1024 + 1023 < 2097152
-        restriction-small = omega (arith, front-small, speed-small, adhesion-small)
+        pub restriction-small : (t .value < 2) × (w < 128) × (a .value < 8)
+        restriction-small = (front-small, speed-small, adhesion-small)
 
         pub current-there : There s (a .next)
         current-there = gone-there h refl noCurrent (λ _ f. f) third

@@ -36,10 +36,11 @@ fn restriction(sheet: &[u8], room: &mut [u8], p: Spot, of: u32) -> Spot
     ensures { λ r. ⌜ Wrote (tree.restriction of) (now (sheet .entry)) (now (room .entry)) p (now (room .exit)) r ⌝ }
 {
     let front = accepted::number(sheet, p.from);
-    let speed = accepted::number(sheet, front.next);
-    let adhesion = accepted::number(sheet, speed.next);
+    let level = accepted::number(sheet, front.next);
+    let adhesion = accepted::number(sheet, level.next);
     let current = accepted::number(sheet, adhesion.next);
-    let steps = lowering::speed_steps(speed.value);
+    let speed = level.value;
+    let steps = lowering::speed_steps(speed);
     let bits = front.value * 1048576 + steps * 8192 + adhesion.value * 1024 + MCurrent::NO_LIMIT;
     let wait = filling::put(room, p.at, p.wait, 21, bits);
     Spot {

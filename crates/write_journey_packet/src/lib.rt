@@ -67,7 +67,7 @@ fn names(sheet: &[u8], room: &mut [u8], p: Spot) -> Spot
     piece(sheet, room, name, &widths[2..5], &most[2..5], VERSION)
 }
 
-// A segment: its names, its timing points, and its temporary constraints.
+// A segment: its names, its timing points, and its temporary constraints, each list after its count.
 fn segment(sheet: &[u8], room: &mut [u8], p: Spot) -> Spot
     requires { ⌜ Ready (tree.journeySegment tree.constraints) (now sheet) (now room) p ⌝ }
     ensures { λ r. ⌜ Wrote (tree.journeySegment tree.constraints) (now (sheet .entry)) (now (room .entry)) p (now (room .exit)) r ⌝ }
@@ -76,9 +76,9 @@ fn segment(sheet: &[u8], room: &mut [u8], p: Spot) -> Spot
     let count = number(sheet, room, next, NIter::WIDTH, NIter::LARGEST);
     let first = count.next;
     let last = points(sheet, room, first, count.value);
-    let limit = number(sheet, room, last, NIter::WIDTH, journey::CONSTRAINTS);
-    let begin = limit.next;
-    constraints(sheet, room, begin, limit.value)
+    let second = number(sheet, room, last, NIter::WIDTH, journey::CONSTRAINTS);
+    let begin = second.next;
+    constraints(sheet, room, begin, second.value)
 }
 
 // The segments of the journey.

@@ -69,7 +69,7 @@ put-requires c κs =
     let t = c .before .before .before .before .before .before .before .number .ensures in
     let g = c .before .before .before .before .before .before .number2 .ensures in
     let a = c .before .before .before .before .before .number3 .ensures in
-    (lit< tt, lit≤ tt, location-small h t g a)
+    (lit< tt, lit≤ tt, omega (arith, location-small h t g a))
 
 add-at : tie.Need-add-at
 add-at c = omega (arith, at-small (c .before .before .before .before .before .before .before .before .before .before .before .before .before .before .pre))

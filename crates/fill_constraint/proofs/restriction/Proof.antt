@@ -96,10 +96,10 @@ put-requires c κs =
     let v = c .before .before .before .before .before .before .number2 .ensures in
     let a = c .before .before .before .before .before .number3 .ensures in
     let w = c .before .before .before .speed-steps .ensures in
-    (lit< tt, lit≤ tt, restriction-small (c .before .before .before .before .before .before .before .before .before .before .args .of) h t v w a)
+    (lit< tt, lit≤ tt, omega (arith, restriction-small (c .before .before .before .before .before .before .before .before .before .before .args .of) h t v w a))
 
-add-t19 : tie.Need-add-t19
-add-t19 c = omega (arith, at-small (c .before .before .before .before .before .before .before .before .before .before .before .before .before .before .pre))
+add-t20 : tie.Need-add-t20
+add-t20 c = omega (arith, at-small (c .before .before .before .before .before .before .before .before .before .before .before .before .before .before .pre))
 
 same-length : tie.Need-same-length
 same-length c = search needs
@@ -130,6 +130,6 @@ restriction-spec =
     add-bits-2
     add-bits-3
     put-requires
-    add-t19
+    add-t20
     same-length
     returns)
