@@ -1,7 +1,6 @@
 -- `write_journey_packet::segment` meets its contract.
 use lib.Dec.{lit<, lit≤}
 use Rattle.write_journey_packet.proofs.Steps.{segment-names, segment-count, segment-points, segment-last, segment-constraints, segment-wrote}
-use borrow.Author.Needs.{needs}
 use Rattle.write_journey_packet.proofs.segment.Statement.{statement}
 use Rattle.write_journey_packet.proofs.segment.Tie as tie
 
