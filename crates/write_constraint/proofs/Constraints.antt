@@ -90,7 +90,7 @@ module _ (s : List ℕ) (stop : ℕ) {at : ℕ} {p : Put} (h : PartWritable temp
     abbrev adhesion : ℕ
     adhesion = fieldAt s (to + 8) 3
 
-    -- what is left after each field, and that it is put
+    -- what is left from each field on, and that the fields before it are put
     abbrev current : Format → Format
     current f = then noCurrent f
 

@@ -14,7 +14,7 @@ startWidths = 2 ∷ 2 ∷ 24 ∷ []
 abbrev pub stretchWidths : List ℕ
 stretchWidths = startWidths ++ 24 ∷ []
 
--- Q_FRONT, the speed "times 5", where it is not used too, the adhesion, and 0 for the current
+-- Q_FRONT, the speed "times 5" (an unused one is 0, and so stays 0), the adhesion, and 0 for the current
 abbrev pub restrictionAt : List ℕ → ℕ → List ℕ
 restrictionAt s at = fieldAt s at 1 ∷ fieldAt s (at + 1) 7 * 5 ∷ fieldAt s (at + 8) 3 ∷ 0 ∷ []
 
