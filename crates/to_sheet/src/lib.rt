@@ -66,7 +66,7 @@ fn tree_to_sheet(tree: Tree, packet: &[u8], room: &mut [u8]) -> Converted
 }
 
 // The tree of a packet, by its packet number.
-fn tree_of(packet: &[u8]) -> Tree
+pub fn tree_of(packet: &[u8]) -> Tree
     ensures { λ r. ⌜ r ≡ treeOf (packetNumber (now (packet .entry))) ⌝ }
 {
     if packet.len() == 0 {

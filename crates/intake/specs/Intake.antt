@@ -1,0 +1,66 @@
+-- The intake of a packet in deliveries: what a delivery, the completion and a question make of the state and of every byte of the room. Every value of the state has its outcome.
+-- Assumes nothing.
+use mathlib.Core.Bool.{Bool, cond, _&&_}
+use mathlib.Core.List.{List, _++_}
+use Prim.Native.Nat.{ℕ, _+_}
+use lib.Dec.{eqb, leb}
+use lib.ListN.{length, take, drop}
+use Rattle.format.specs.Format.{Read, accepted, refused}
+use Rattle.link.specs.Link.{fromEitherPacket}
+use Rattle.convert.specs.Convert.{Outcome, refusedWith, packetToSheet}
+use Rattle.intake.specs.declared.Intake.{Intake}
+
+-- "Phase 0 gathers: `length` bytes are in the room"; "all 0: fresh"
+abbrev pub gathering : ℕ → Intake
+gathering n = record { phase = 0; length = n; refusal = 0; place = 0 }
+
+-- "Phase 1: the deliveries passed the room's end"
+abbrev pub passed : Intake
+passed = record { phase = 1; length = 0; refusal = 0; place = 0 }
+
+-- "Phase 2: judged, `refusal` and `place` are the verdict (0 for an accepted packet) and `length` its bytes"
+abbrev pub judgedAs : ℕ → ℕ → ℕ → Intake
+judgedAs n r place = record { phase = 2; length = n; refusal = r; place = place }
+
+-- "After a verdict the next packet starts afresh"; "A phase above 2 counts as 0": the bytes that are in the room
+abbrev pub gathered : Intake → ℕ
+gathered i = cond (eqb (i .phase) 2) 0 (i .length)
+
+-- "into a lent room": the state, and every byte of the room
+pub record Delivered : Type 0 where
+  pub intake : Intake
+  pub room : List ℕ
+
+-- the room holds n bytes, and the state can count them
+abbrev pub holds : List ℕ → ℕ → Bool
+holds room n = leb n (length room) && leb n 4294967295
+
+-- "A delivery that would pass the room's end .. writes nothing"; else it stands after the n bytes that are in the room
+abbrev pub gathersAt : ℕ → List ℕ → List ℕ → Delivered
+gathersAt n delivery room =
+    cond (holds room (n + length delivery))
+    (record { intake = gathering (n + length delivery); room = take n room ++ (delivery ++ drop (n + length delivery) room) })
+    (record { intake = passed; room = room })
+
+-- "several deliveries, some with no bytes": one with none changes nothing; one that passed the end, "and each after it, writes nothing until completion"
+unfoldable pub delivered : Intake → List ℕ → List ℕ → Delivered
+delivered i delivery room =
+    cond (eqb (length delivery) 0) (record { intake = i; room = room })
+    (cond (eqb (i .phase) 1) (record { intake = passed; room = room }) (gathersAt (gathered i) delivery room))
+
+-- "judged when the radio says the packet is complete": the verdict on a packet of n bytes
+abbrev pub judgedOf : ℕ → Read → Intake
+judgedOf n (refused r place) = judgedAs n r place
+judgedOf n (accepted l) = judgedAs n 0 0
+
+-- "8 at completion, before all others, if the deliveries together exceeded the room", with the length 0; "8 is also given where `length` is more than the room has"
+unfoldable pub completed : Intake → List ℕ → Intake
+completed i room =
+    cond (eqb (i .phase) 1) (judgedAs 0 8 0) (cond (leb (gathered i) (length room)) (judgedOf (gathered i) (fromEitherPacket (take (gathered i) room))) (judgedAs 0 8 0))
+
+-- "14 asked too early or, after a verdict that was no refusal, with the packet's room cut short"; "where the verdict was a refusal, asking returns that number again"
+unfoldable pub asked : Intake → List ℕ → List ℕ → Outcome
+asked i taken room =
+    cond (eqb (i .phase) 2)
+    (cond (eqb (i .refusal) 0) (cond (leb (i .length) (length taken)) (packetToSheet (take (i .length) taken) room) (refusedWith 14 0 room)) (refusedWith (i .refusal) (i .place) room))
+    (refusedWith 14 0 room)
