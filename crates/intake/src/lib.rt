@@ -129,10 +129,10 @@ fn verdict(n: u32, room: &[u8]) -> Intake
 pub fn complete(intake: Intake, room: &[u8]) -> Intake
     ensures { λ r. ⌜ r ≡ completed intake (now (room .entry)) ⌝ }
 {
-    if intake.phase == PASSED {
-        return judge(0, TOO_LONG, 0);
+    if intake.phase != PASSED {
+        return verdict(in_room(intake), room);
     }
-    verdict(in_room(intake), room)
+    judge(0, TOO_LONG, 0)
 }
 
 // The sheet of the packet that was judged, which stands in the room that took it.

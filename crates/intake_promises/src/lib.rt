@@ -1,0 +1,1 @@
+// What the customer is promised of the intake. Definitions and theorems; it has no code of its own.
