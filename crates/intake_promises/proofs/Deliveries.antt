@@ -146,9 +146,10 @@ module _ (i : Intake) (judged : i .phase ≡ 2) where
       by-cases (eqb (length d) 0)
       (λ e.
       let n = eqb-true (length d) 0 e in
-      let later = afresh ds room in
-      (ap (verdictOn ds) (idle i d room n) ∙ later .0 ∙ sym (ap (verdictOn ds) (idle (gathering 0) d room n)),
-      ap (roomOn ds) (idle i d room n) ∙ later .1 ∙ sym (ap (roomOn ds) (idle (gathering 0) d room n))))
+      let later = afresh ds room in (
+        ap (verdictOn ds) (idle i d room n) ∙ later .0 ∙ sym (ap (verdictOn ds) (idle (gathering 0) d room n)),
+        ap (roomOn ds) (idle i d room n) ∙ later .1 ∙ sym (ap (roomOn ds) (idle (gathering 0) d room n)),
+      ))
       (λ e. let q = first d room (eqb-false (length d) 0 e) in (ap (verdictOn ds) q, ap (roomOn ds) q))
 
 -- ---- the verdict, and the sheet that is asked for
