@@ -1,4 +1,4 @@
-//! The second program: the five operations of the build definition, written from the document alone, to be compared with the proved archive.
+//! The second program: the operations of the build definition and of its requests, from the documents alone, to be compared with the archive.
 //! It favours plainness over speed: bits are a list, and a segment or a journey is an owned structure that every operation builds whole.
 
 mod bits;
@@ -10,9 +10,12 @@ mod desk_cants;
 #[cfg(test)]
 mod desk_constraints;
 #[cfg(test)]
+mod desk_intakes;
+#[cfg(test)]
 mod desk_journeys;
 #[cfg(test)]
 mod desk_places;
+mod intake;
 mod journey;
 mod numbers;
 mod packet_reading;
@@ -23,6 +26,7 @@ mod sheet_reading;
 mod sheet_writing;
 mod speed;
 
+pub use intake::{Intake, Told};
 pub use refusal::{Refusal, Refused};
 pub use speed::Train;
 

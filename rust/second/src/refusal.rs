@@ -17,7 +17,7 @@ pub enum Refusal {
     Bits = 6,
     /// A padding bit is 1.
     Padding = 7,
-    /// The result is longer than the lent room.
+    /// The result is longer than the lent room, or a packet's deliveries together are.
     Room = 8,
     /// A sheet ends too soon, has bytes left, or a number is not well formed.
     Sheet = 9,
@@ -29,6 +29,8 @@ pub enum Refusal {
     Body = 12,
     /// Bits of the body are left after the last field.
     Left = 13,
+    /// An intake's sheet is asked for before a completion or after the next delivery, or with the packet's room cut short.
+    Early = 14,
 }
 
 /// A refusal, and the bit of the packet or the byte of the sheet at which it is given, both counted from 0.

@@ -1,0 +1,100 @@
+//! Packets that arrive in bits of radio traffic: gathered in a lent room, judged when they are complete, and then asked for their sheet.
+
+use crate::packet_reading;
+use crate::packet_to_sheet;
+use crate::refusal::{Refusal, Refused};
+
+const PASSED: u32 = 1;
+const JUDGED: u32 = 2;
+
+/// The state between two calls, which the caller keeps; any four numbers may be handed over.
+#[derive(Clone, Copy, Debug, Default, PartialEq, Eq)]
+pub struct Intake {
+    pub phase: u32,
+    pub length: u32,
+    pub refusal: u32,
+    pub place: u32,
+}
+
+/// A verdict's number and place, which are any two where the state is one that no call returned.
+#[derive(Clone, Copy, Debug, PartialEq, Eq)]
+pub struct Told {
+    pub refusal: u32,
+    pub place: u32,
+}
+
+/// What the four numbers of a state say.
+enum Stage {
+    /// So many bytes of a packet are in the room.
+    Gathering(usize),
+    /// The deliveries passed the room's end.
+    Passed,
+    /// A packet of so many bytes was accepted, or one was refused.
+    Judged(Result<usize, Told>),
+}
+
+impl Intake {
+    pub fn fresh() -> Intake {
+        Intake::default()
+    }
+
+    /// Takes a delivery behind the bytes that are there, unless it passes the room's end.
+    pub fn deliver(self, delivery: &[u8], room: &mut [u8]) -> Intake {
+        if delivery.is_empty() {
+            return self;
+        }
+        self.gathered().and_then(|begin| take(delivery, room, begin)).unwrap_or(Intake { phase: PASSED, ..Intake::fresh() })
+    }
+
+    /// Judges the bytes that were gathered; 8 comes before all that a packet can be refused for.
+    pub fn complete(self, room: &[u8]) -> Intake {
+        match self.gathered().and_then(|length| room.get(..length)) {
+            Some(packet) => verdict(packet.len(), packet_reading::carried_in(packet).err()),
+            None => verdict(0, Some(Refusal::Room.nowhere())),
+        }
+    }
+
+    /// The sheet of the packet that was judged, from the room that took it.
+    pub fn sheet(self, taken: &[u8], room: &mut [u8]) -> Result<usize, Told> {
+        let early = Err(told(Refusal::Early.nowhere()));
+        match self.stage() {
+            Stage::Judged(Ok(length)) => taken.get(..length).map_or(early, |packet| packet_to_sheet(packet, room).map_err(told)),
+            Stage::Judged(Err(refused)) => Err(refused),
+            Stage::Gathering(_) | Stage::Passed => early,
+        }
+    }
+
+    fn stage(self) -> Stage {
+        match (self.phase, self.refusal) {
+            (PASSED, _) => Stage::Passed,
+            (JUDGED, 0) => Stage::Judged(Ok(self.length as usize)),
+            (JUDGED, refusal) => Stage::Judged(Err(Told { refusal, place: self.place })),
+            _ => Stage::Gathering(self.length as usize),
+        }
+    }
+
+    /// How many bytes of the next packet are in the room, if it holds all of them; after a verdict there are none.
+    fn gathered(self) -> Option<usize> {
+        match self.stage() {
+            Stage::Gathering(length) => Some(length),
+            Stage::Passed => None,
+            Stage::Judged(_) => Some(0),
+        }
+    }
+}
+
+/// Copies a delivery to its place, if the room holds it and the state can count it.
+fn take(delivery: &[u8], room: &mut [u8], begin: usize) -> Option<Intake> {
+    let length = u32::try_from(begin + delivery.len()).ok()?;
+    room.get_mut(begin..length as usize)?.copy_from_slice(delivery);
+    Some(Intake { length, ..Intake::fresh() })
+}
+
+fn verdict(length: usize, refused: Option<Refused>) -> Intake {
+    let Told { refusal, place } = refused.map_or(Told { refusal: 0, place: 0 }, told);
+    Intake { phase: JUDGED, length: length as u32, refusal, place }
+}
+
+fn told(refused: Refused) -> Told {
+    Told { refusal: refused.refusal as u32, place: refused.place as u32 }
+}
