@@ -1,12 +1,12 @@
-// The five operations of the segment link, for C11 and C++: link with libseglink.a, which `rt staticlib seglink` writes for x86-64.
-// Packets and sheets are a segment's (packet number 6) or a journey's (4): the conversions take both, the questions a segment's alone.
+// The nine operations of the segment link, for C11 and C++: link with libseglink.a, which `rt staticlib seglink` writes for x86-64.
+// Packets and sheets are a segment's (packet number 6) or a journey's (4): the conversions and the intake take both, the questions a segment's alone.
 //
 // Of a journey's temporary constraint, up to 31 a segment, Q_TC_Type 0 uses Q_FRONT and V_Speed_Level, 1 the adhesion, 2 and 3 neither;
 // Q_TC_Range 0 uses the start, 1 the end, 2 both, 3 neither. What is not used is 0; no type uses the current, 1,023 in the packet and 0 in
 // the sheet. A speed is lowered to a multiple of 5 km/h on its way to the packet, as a segment's speeds are.
 //
 // Any bytes may be handed over, in any number. A pointer is never null, also where the count is 0, and the room shares no byte with what is read.
-// No operation keeps a pointer, has a state or stops the program, so any number of threads may call them.
+// No operation keeps a pointer, has a state of its own or stops the program, so any number of threads may call them.
 #ifndef SEGLINK_H
 #define SEGLINK_H
 
@@ -28,12 +28,13 @@ enum {
     SEGLINK_CHANGE_LOCATION = 5, // a change's location does not rise, is 0, or is at or past L_SP; or a temporary constraint's start is not below its end
     SEGLINK_BODY_BITS = 6,       // a field does not fit in the body's remaining bits
     SEGLINK_PADDING_BIT = 7,     // a padding bit is 1
-    SEGLINK_SHORT_ROOM = 8,      // the result is longer than the lent room
+    SEGLINK_SHORT_ROOM = 8,      // the result is longer than the lent room, or a packet's deliveries together are
     SEGLINK_SHEET_FORM = 9,      // a sheet ends too soon, has bytes left, or a number is not in its shortest form or not below 4,294,967,296
     SEGLINK_TRAIN_VALUE = 10,    // the train's length or cant deficiency is not allowed
     SEGLINK_PAST_END = 11,       // x is at or past L_SP
     SEGLINK_LONG_BODY = 12,      // a sheet's body would exceed 65,535 bits
-    SEGLINK_BITS_LEFT = 13       // bits of the body are left after the last field
+    SEGLINK_BITS_LEFT = 13,      // bits of the body are left after the last field
+    SEGLINK_TOO_EARLY = 14       // an intake's sheet is asked for before a completion or after the next delivery, or with the packet's room cut short
 };
 
 // Counts of bytes: a segment's, then a journey's, whose sheet is never longer than the last. A room of a journey's largest is never refused
@@ -50,7 +51,7 @@ enum {
 // of the field at fault (4, 5, 6), the first that is left (13), the first of the padding that is 1 (7). Of a sheet it is a byte, counted from 0:
 // the first of the number at fault (4, 5, 9), also where the sheet ends before or within it, or the first that is left (9).
 // Where a constraint's start is not below its end, the end is at fault.
-// For 1, 2, 3, 8 and 10 to 12 it is 0, and on success.
+// For 1, 2, 3, 8, 10 to 12 and 14 it is 0, and on success.
 
 // What a conversion answers: 0, 0 and the count of bytes that it wrote; or a refusal, its place and 0.
 typedef struct {
@@ -77,6 +78,14 @@ typedef struct {
     bool freight_p, freight_g, passenger;
 } seglink_train;
 
+// The state of an intake, which takes packets that arrive in several deliveries, one packet after the other, into one room. The caller keeps the
+// state and the room, lends both at each call and takes the state back. All 0 is fresh; any four numbers may be handed over.
+// Phase 0, and each above 2, gathers: length bytes of a packet are in the room. Phase 1: the deliveries passed the room's end. Phase 2 is judged:
+// refusal and place are the verdict, 0 and 0 for an accepted packet, and length is the packet's bytes, 0 where it was refused with 8.
+typedef struct {
+    uint32_t phase, length, refusal, place;
+} seglink_intake;
+
 // Writes the sheet of a packet, of a segment or a journey, to the start of the room and returns its length; the room's bytes past it stay.
 // Any bytes may be handed over; a refusal (1 to 8 or 13) leaves the room as it was.
 seglink_converted seglink_packet_to_sheet(const uint8_t *packet, size_t packet_len, uint8_t *room, size_t room_len);
@@ -96,6 +105,23 @@ seglink_speed seglink_speed_from_sheet(const uint8_t *sheet, size_t sheet_len, s
 // Returns the altitude of a packet's segment in signed centimetres.
 // Any bytes may be handed over; a refusal is 1 to 7 or 13.
 seglink_altitude seglink_altitude_of_packet(const uint8_t *packet, size_t packet_len);
+
+// Returns the state of an intake that has taken nothing: all 0.
+seglink_intake seglink_intake_fresh(void);
+
+// Takes a delivery: writes it behind the packet's bytes so far, after a verdict at the room's start; the room's other bytes stay. One of no bytes
+// changes nothing, the state neither. One that would pass the room's end, or 4,294,967,295 bytes, and each after it until completion, writes nothing.
+// Nothing is judged: a delivery costs what a copy costs.
+seglink_intake seglink_intake_deliver(seglink_intake intake, const uint8_t *delivery, size_t delivery_len, uint8_t *room, size_t room_len);
+
+// Judges the bytes delivered since the last verdict as a packet, of a segment or a journey: 8, before all others, where they exceeded the room (or
+// length is more than it has), else 0 or the packet's own refusal (1 to 7 or 13) with its place; 1 where there are none. The next packet starts afresh.
+seglink_intake seglink_intake_complete(seglink_intake intake, const uint8_t *room, size_t room_len);
+
+// Answers as seglink_packet_to_sheet for the packet that was judged; taken is the room that took it. It may be asked, any number of times, until the
+// next delivery that has bytes or the next completion: at any other time, and where taken has fewer bytes than an accepted packet, the refusal is 14.
+// Where the verdict was a refusal, it is that number and place again. A refusal leaves the room as it was.
+seglink_converted seglink_intake_sheet(seglink_intake intake, const uint8_t *taken, size_t taken_len, uint8_t *room, size_t room_len);
 
 #ifdef __cplusplus
 }
