@@ -24,6 +24,16 @@ pub(crate) struct Altitude {
     pub(crate) altitude: i32,
 }
 
+/// The state of an intake, which the library alone makes.
+#[derive(Clone, Copy, Debug)]
+#[repr(C)]
+pub(crate) struct State {
+    _phase: u32,
+    pub(crate) length: u32,
+    pub(crate) refusal: u32,
+    pub(crate) place: u32,
+}
+
 // As in include/seglink.h.
 extern "C" {
     fn seglink_packet_to_sheet(packet: *const u8, packet_len: usize, room: *mut u8, room_len: usize) -> Converted;
@@ -31,6 +41,10 @@ extern "C" {
     fn seglink_speed_from_packet(packet: *const u8, packet_len: usize, train: Train, x: u32) -> Speed;
     fn seglink_speed_from_sheet(sheet: *const u8, sheet_len: usize, train: Train, x: u32) -> Speed;
     fn seglink_altitude_of_packet(packet: *const u8, packet_len: usize) -> Altitude;
+    fn seglink_intake_fresh() -> State;
+    fn seglink_intake_deliver(intake: State, delivery: *const u8, delivery_len: usize, room: *mut u8, room_len: usize) -> State;
+    fn seglink_intake_complete(intake: State, room: *const u8, room_len: usize) -> State;
+    fn seglink_intake_sheet(intake: State, taken: *const u8, taken_len: usize, room: *mut u8, room_len: usize) -> Converted;
 }
 
 pub(crate) fn packet_to_sheet(packet: &[u8], room: &mut [u8]) -> Converted {
@@ -56,4 +70,24 @@ pub(crate) fn speed_from_sheet(sheet: &[u8], train: Train, x: u32) -> Speed {
 pub(crate) fn altitude_of_packet(packet: &[u8]) -> Altitude {
     // SAFETY: the pointer comes with its slice's length, is not null and is only read.
     unsafe { seglink_altitude_of_packet(packet.as_ptr(), packet.len()) }
+}
+
+pub(crate) fn intake_fresh() -> State {
+    // SAFETY: nothing is handed over.
+    unsafe { seglink_intake_fresh() }
+}
+
+pub(crate) fn intake_deliver(intake: State, delivery: &[u8], room: &mut [u8]) -> State {
+    // SAFETY: each pointer comes with its own slice's length and is not null; `&mut` shares no byte with `&`; neither is kept.
+    unsafe { seglink_intake_deliver(intake, delivery.as_ptr(), delivery.len(), room.as_mut_ptr(), room.len()) }
+}
+
+pub(crate) fn intake_complete(intake: State, room: &[u8]) -> State {
+    // SAFETY: the pointer comes with its slice's length, is not null and is only read.
+    unsafe { seglink_intake_complete(intake, room.as_ptr(), room.len()) }
+}
+
+pub(crate) fn intake_sheet(intake: State, taken: &[u8], room: &mut [u8]) -> Converted {
+    // SAFETY: each pointer comes with its own slice's length and is not null; `&mut` shares no byte with `&`; neither is kept.
+    unsafe { seglink_intake_sheet(intake, taken.as_ptr(), taken.len(), room.as_mut_ptr(), room.len()) }
 }

@@ -1,6 +1,8 @@
-//! The segment link in safe Rust: packets to sheets and back, permitted speeds and the altitude, by the proved static library.
+//! The segment link in safe Rust: packets to sheets and back, packets that arrive in deliveries, permitted speeds and the altitude, by the
+//! proved static library.
 //!
-//! Packets and sheets are a segment's (packet number 6) or a journey's (4). The conversions take both, the questions a segment's alone.
+//! Packets and sheets are a segment's (packet number 6) or a journey's (4). The conversions and an [`Intake`] take both, the questions a
+//! segment's alone.
 //! A segment of a journey has up to 31 temporary constraints. What one's type and range do not use is 0; its current, which none uses, is
 //! 1,023 in the packet. Speeds, those of constraints too, are lowered to multiples of 5 km/h on their way to the packet.
 //!
@@ -34,10 +36,12 @@
 #![deny(unsafe_code, missing_docs)]
 
 mod boundary;
+mod intake;
 mod refusal;
 mod refused;
 mod train;
 
+pub use intake::Intake;
 pub use refusal::Refusal;
 pub use refused::{Refused, Unit};
 pub use train::Train;
@@ -67,18 +71,12 @@ pub fn sheet_to_packet(sheet: &[u8], room: &mut [u8]) -> Result<usize, Refused> 
 
 /// The sheet of a packet, in a room of its own: never refused with [`Refusal::ShortRoom`].
 pub fn sheet_of(packet: &[u8]) -> Result<Vec<u8>, Refused> {
-    let mut room = vec![0; LARGEST_JOURNEY_SHEET];
-    let length = packet_to_sheet(packet, &mut room)?;
-    room.truncate(length);
-    Ok(room)
+    filled(LARGEST_JOURNEY_SHEET, |room| packet_to_sheet(packet, room))
 }
 
 /// The packet of a sheet, in a room of its own: never refused with [`Refusal::ShortRoom`].
 pub fn packet_of(sheet: &[u8]) -> Result<Vec<u8>, Refused> {
-    let mut room = vec![0; LARGEST_JOURNEY_PACKET];
-    let length = sheet_to_packet(sheet, &mut room)?;
-    room.truncate(length);
-    Ok(room)
+    filled(LARGEST_JOURNEY_PACKET, |room| sheet_to_packet(sheet, room))
 }
 
 /// The permitted speed in km/h of a train at `x` cm from the segment's start, by the packet's speeds: multiples of 5.
@@ -97,6 +95,14 @@ pub fn speed_from_sheet(sheet: &[u8], train: Train, x: u32) -> Result<u32, Refus
 pub fn altitude_of_packet(packet: &[u8]) -> Result<i32, Refused> {
     let asked = boundary::altitude_of_packet(packet);
     answer(asked.refusal, asked.place, Unit::Bit, asked.altitude)
+}
+
+/// What a conversion writes to a room of so many bytes.
+fn filled(size: usize, convert: impl FnOnce(&mut [u8]) -> Result<usize, Refused>) -> Result<Vec<u8>, Refused> {
+    let mut room = vec![0; size];
+    let length = convert(&mut room)?;
+    room.truncate(length);
+    Ok(room)
 }
 
 /// Refusal 0 is success; the library is proved to give no number past those of [`Refusal`].

@@ -19,7 +19,7 @@ pub enum Refusal {
     BodyBits = 6,
     /// 7: a padding bit is 1.
     PaddingBit = 7,
-    /// 8: the result is longer than the lent room.
+    /// 8: the result is longer than the lent room, or a packet's deliveries together are.
     ShortRoom = 8,
     /// 9: a sheet ends too soon, has bytes left, or a number is not in its shortest form or not below 4,294,967,296.
     SheetForm = 9,
@@ -31,10 +31,13 @@ pub enum Refusal {
     LongBody = 12,
     /// 13: bits of the body are left after the last field.
     BitsLeft = 13,
+    /// 14: an intake's sheet is asked for before a completion or after the next delivery, or with the packet's room cut short. An
+    /// [`Intake`](crate::Intake) never cuts it short.
+    TooEarly = 14,
 }
 
 /// Each refusal with its ground, in the words of the C header.
-const GROUNDS: [(Refusal, &str); 13] = [
+const GROUNDS: [(Refusal, &str); 14] = [
     (Refusal::ShortPacket, "a packet has fewer than 15 bytes"),
     (Refusal::PacketNumber, "the packet number is neither 4 nor 6, or is 4 where a segment is needed"),
     (Refusal::PacketLength, "the packet's bytes are not 15 + L_PACKET_ATO / 8, rounded up"),
@@ -49,7 +52,7 @@ const GROUNDS: [(Refusal, &str); 13] = [
     ),
     (Refusal::BodyBits, "a field does not fit in the body's remaining bits"),
     (Refusal::PaddingBit, "a padding bit is 1"),
-    (Refusal::ShortRoom, "the result is longer than the lent room"),
+    (Refusal::ShortRoom, "the result is longer than the lent room, or a packet's deliveries together are"),
     (
         Refusal::SheetForm,
         "a sheet ends too soon, has bytes left, or a number is not in its shortest form or not below 4,294,967,296",
@@ -58,10 +61,14 @@ const GROUNDS: [(Refusal, &str); 13] = [
     (Refusal::PastEnd, "x is at or past L_SP"),
     (Refusal::LongBody, "a sheet's body would exceed 65,535 bits"),
     (Refusal::BitsLeft, "bits of the body are left after the last field"),
+    (
+        Refusal::TooEarly,
+        "an intake's sheet is asked for before a completion or after the next delivery, or with the packet's room cut short",
+    ),
 ];
 
 impl Refusal {
-    /// The build definition's number, 1 to 13.
+    /// The build definition's number, 1 to 14.
     pub fn number(self) -> u32 {
         self as u32
     }

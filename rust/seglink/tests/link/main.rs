@@ -2,6 +2,7 @@
 mod constraints;
 mod conversions;
 mod header;
+mod intakes;
 mod journeys;
 mod refusals;
 mod segments;
