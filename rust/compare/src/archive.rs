@@ -1,6 +1,6 @@
 //! The archive's operations, by the names and layouts that the server links.
 
-use crate::program::{Answer, Program, Train};
+use crate::program::{Answer, Intake, Program, Train};
 
 #[repr(C)]
 struct Converted {
@@ -32,12 +32,24 @@ struct Card {
     passenger: bool,
 }
 
+#[repr(C)]
+struct State {
+    phase: u32,
+    length: u32,
+    refusal: u32,
+    place: u32,
+}
+
 extern "C" {
     fn seglink_packet_to_sheet(packet: *const u8, packet_len: usize, room: *mut u8, room_len: usize) -> Converted;
     fn seglink_sheet_to_packet(sheet: *const u8, sheet_len: usize, room: *mut u8, room_len: usize) -> Converted;
     fn seglink_speed_from_packet(packet: *const u8, packet_len: usize, train: Card, x: u32) -> Speed;
     fn seglink_speed_from_sheet(sheet: *const u8, sheet_len: usize, train: Card, x: u32) -> Speed;
     fn seglink_altitude_of_packet(packet: *const u8, packet_len: usize) -> Altitude;
+    fn seglink_intake_fresh() -> State;
+    fn seglink_intake_deliver(intake: State, delivery: *const u8, delivery_len: usize, room: *mut u8, room_len: usize) -> State;
+    fn seglink_intake_complete(intake: State, room: *const u8, room_len: usize) -> State;
+    fn seglink_intake_sheet(intake: State, taken: *const u8, taken_len: usize, room: *mut u8, room_len: usize) -> Converted;
 }
 
 pub struct Archive;
@@ -64,6 +76,24 @@ impl Program for Archive {
         let Altitude { refusal, place, altitude } = unsafe { seglink_altitude_of_packet(packet.as_ptr(), packet.len()) };
         Answer { refusal, place, value: altitude.into() }
     }
+
+    fn fresh() -> Intake {
+        after(unsafe { seglink_intake_fresh() })
+    }
+
+    fn deliver(intake: Intake, delivery: &[u8], room: &mut [u8]) -> Intake {
+        let (bytes, length) = (delivery.as_ptr(), delivery.len());
+        after(unsafe { seglink_intake_deliver(state(intake), bytes, length, room.as_mut_ptr(), room.len()) })
+    }
+
+    fn complete(intake: Intake, room: &[u8]) -> Intake {
+        after(unsafe { seglink_intake_complete(state(intake), room.as_ptr(), room.len()) })
+    }
+
+    fn sheet(intake: Intake, taken: &[u8], room: &mut [u8]) -> Answer {
+        let (bytes, length) = (taken.as_ptr(), taken.len());
+        converted(unsafe { seglink_intake_sheet(state(intake), bytes, length, room.as_mut_ptr(), room.len()) })
+    }
 }
 
 fn converted(Converted { refusal, place, length }: Converted) -> Answer {
@@ -77,4 +107,13 @@ fn speed(Speed { refusal, place, speed }: Speed) -> Answer {
 fn card(train: &Train) -> Card {
     let Train { length, cant, freight_p, freight_g, passenger } = *train;
     Card { length, cant, freight_p, freight_g, passenger }
+}
+
+fn state(Intake { phase, length, refusal, place }: Intake) -> State {
+    State { phase, length, refusal, place }
+}
+
+/// The state after a call.
+fn after(State { phase, length, refusal, place }: State) -> Intake {
+    Intake { phase, length, refusal, place }
 }

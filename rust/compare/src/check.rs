@@ -5,18 +5,19 @@ use crate::case::{any_location, any_train, Case};
 use crate::lowered::lowered;
 use crate::program::{Answer, Operation, Program, Question, Train, JOURNEY};
 use crate::random::Random;
+use crate::rooms::Rooms;
 use crate::second_program::Second;
+use crate::sequence;
 use crate::tally::Tally;
+use crate::wild;
 
 /// Speed questions a case.
 const SPEEDS: usize = 3;
-/// Bytes before and after a room, which no program may touch.
-const GUARD: usize = 16;
 /// A journey's, which hold a segment's too.
-const LARGEST_SHEET: usize = 15_226;
-const LARGEST_PACKET: usize = 8_207;
+pub const LARGEST_SHEET: usize = 15_226;
+pub const LARGEST_PACKET: usize = 8_207;
 
-/// Compares the five operations on a case, every answer and every byte of the rooms; then the demands.
+/// Compares the operations on a case, every answer and every byte of the rooms; then the demands; then packets taken in deliveries.
 pub fn check(random: &mut Random, case: &Case, tally: &mut Tally) -> Result<(), String> {
     for (operation, input) in [
         (Operation::PacketToSheet, &case.packet),
@@ -34,28 +35,22 @@ pub fn check(random: &mut Random, case: &Case, tally: &mut Tally) -> Result<(), 
         let x = any_location(random, &case.marks, &train);
         speeds(random, case, packet.as_deref(), (train, x), tally)?;
     }
-    Ok(())
+    sequence::check(random, case, tally)?;
+    wild::check(random, &case.packet, tally)
 }
 
 /// Puts one question to both programs, with rooms that hold the same random bytes.
 pub fn compare(random: &mut Random, question: &Question, room: usize, tally: &mut Tally) -> Result<Answer, String> {
-    let mut lent = random.bytes(GUARD + room + GUARD);
-    let mut other = lent.clone();
-    let answer = Archive::answer(question, &mut lent[GUARD..GUARD + room]);
-    let expected = Second::answer(question, &mut other[GUARD..GUARD + room]);
+    let mut rooms = Rooms::random(random, room);
+    let answer = rooms.lend(|room| Archive::answer(question, room), |room| Second::answer(question, room));
+    let answer =
+        answer.map_err(|why| format!("{:?}, {:?} at {}, room {room}: {why}", question.operation, question.train, question.x))?;
     tally.count(question, &answer);
-    let asked = || format!("{:?}, {:?} at {}, room {room}", question.operation, question.train, question.x);
-    if answer != expected {
-        return Err(format!("{}: the archive gave {answer:?}, the second program {expected:?}", asked()));
-    }
-    match lent.iter().zip(&other).position(|(byte, expected)| byte != expected) {
-        Some(first) => Err(format!("{}: the rooms differ, first at byte {}", asked(), first as i64 - GUARD as i64)),
-        None => Ok(answer),
-    }
+    Ok(answer)
 }
 
 /// A room of exactly the result's size, one byte short, larger, empty or of any size.
-fn room_for(random: &mut Random, question: &Question) -> usize {
+pub fn room_for(random: &mut Random, question: &Question) -> usize {
     let result = Archive::answer(question, &mut [0; LARGEST_SHEET]).value.max(0) as usize;
     match (question.operation, random.between(0, 5)) {
         (Operation::AltitudeOfPacket, _) | (_, 0) => 0,
@@ -121,7 +116,7 @@ fn speeds(
     Ok(())
 }
 
-fn require(holds: bool, otherwise: &str) -> Result<(), String> {
+pub fn require(holds: bool, otherwise: &str) -> Result<(), String> {
     if holds {
         Ok(())
     } else {

@@ -7,6 +7,7 @@ use crate::draft::{Draft, Kind};
 use crate::program::{Answer, Operation, Question, Train};
 
 /// An operation's question, the size of its room, and its answer.
+#[derive(Clone)]
 pub struct Desk {
     pub name: &'static str,
     pub operation: Operation,
@@ -38,11 +39,12 @@ pub struct Plan {
     pub current: u32,
 }
 
-const DOCUMENT: Plan = Plan { seconds: 0, length: 1, speed: 80, front: 0, entries: &[], change: None, voltages: 0, current: 0 };
+pub const DOCUMENT: Plan =
+    Plan { seconds: 0, length: 1, speed: 80, front: 0, entries: &[], change: None, voltages: 0, current: 0 };
 pub const CHANGED: Plan = Plan { length: 1_000, speed: 100, change: Some(500), ..DOCUMENT };
 pub const TRAIN: Train = Train { length: 200, cant: 150, freight_p: true, freight_g: false, passenger: false };
 
-fn draft(plan: Plan) -> Draft {
+pub fn draft(plan: Plan) -> Draft {
     let mut draft = Draft::default();
     start(&mut draft, plan);
     draft.speed(plan.speed);
@@ -147,6 +149,7 @@ pub fn cases() -> Vec<Desk> {
     desk_cants::speeds(&mut cases);
     cases.extend(desk_journeys::cases());
     cases.extend(desk_constraints::cases());
+    taken(&mut cases);
     cases
 }
 
@@ -272,6 +275,19 @@ fn questions(cases: &mut Vec<Desk>) {
         }
     }
     cases.extend(asked);
+}
+
+/// A packet that an intake takes has the verdict and the sheet of the conversion; the verdict does not look at the sheet's room.
+fn taken(cases: &mut Vec<Desk>) {
+    let packets: Vec<Desk> = cases.iter().filter(|case| case.operation == Operation::PacketToSheet).cloned().collect();
+    for case in packets {
+        let verdict = match case.answer.refusal {
+            0 | 8 => Answer::success(case.input.len() as i64),
+            _ => case.answer,
+        };
+        cases.push(Desk { operation: Operation::Completion, answer: verdict, ..case.clone() });
+        cases.push(Desk { operation: Operation::TakenSheet, ..case });
+    }
 }
 
 fn speeds(cases: &mut Vec<Desk>) {

@@ -4,6 +4,7 @@
 use compare::case::Case;
 use compare::check::{check, compare};
 use compare::desk;
+use compare::desk_intakes;
 use compare::random::Random;
 use compare::tally::Tally;
 use std::panic::{catch_unwind, AssertUnwindSafe};
@@ -37,6 +38,7 @@ impl Run {
     fn all(&mut self) {
         let began = Instant::now();
         self.desk();
+        self.desk_of_intakes();
         let (first, cases) = (setting("SEGLINK_SEED", FIRST_SEED), setting("SEGLINK_CASES", CASES));
         for seed in first..first + cases {
             self.case(seed);
@@ -60,6 +62,15 @@ impl Run {
                 false => Err(format!("both gave {answer:?}, the document {:?}", case.answer)),
             });
             self.count(outcome.map_err(|why| format!("desk case, {}: {why}", case.name)));
+        }
+    }
+
+    fn desk_of_intakes(&mut self) {
+        let mut random = Random::new(0);
+        let cases = desk_intakes::cases();
+        println!("{} desk cases of the intake", cases.len());
+        for case in cases {
+            self.count(case.check(&mut random).map_err(|why| format!("desk case, {}: {why}", case.name)));
         }
     }
 

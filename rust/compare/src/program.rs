@@ -1,6 +1,6 @@
-//! What both programs answer: five operations, and a question that is handed to either.
+//! What both programs answer: the operations, and a question that is handed to either.
 
-pub use second::Train;
+pub use second::{Intake, Train};
 
 /// The packet number of a journey.
 pub const JOURNEY: u8 = 4;
@@ -33,26 +33,34 @@ pub enum Operation {
     SpeedFromPacket,
     SpeedFromSheet,
     AltitudeOfPacket,
+    /// The verdict on a packet that an intake took.
+    Completion,
+    /// The sheet that is asked for after it.
+    TakenSheet,
 }
 
-pub const OPERATIONS: [Operation; 5] = [
+pub const OPERATIONS: [Operation; 7] = [
     Operation::PacketToSheet,
     Operation::SheetToPacket,
     Operation::SpeedFromPacket,
     Operation::SpeedFromSheet,
     Operation::AltitudeOfPacket,
+    Operation::Completion,
+    Operation::TakenSheet,
 ];
 
 impl Operation {
     /// The refusals that the operation can give, and 0: of a journey's bytes, or of all others.
     pub fn refusals(self, journey: bool) -> &'static [u32] {
         match (self, journey) {
-            (Operation::PacketToSheet, false) => &[0, 1, 2, 3, 4, 5, 6, 7, 8, 13],
+            (Operation::PacketToSheet | Operation::Completion, false) => &[0, 1, 2, 3, 4, 5, 6, 7, 8, 13],
             (Operation::SheetToPacket, false) => &[0, 2, 4, 5, 8, 9],
             (Operation::SpeedFromPacket, false) => &[0, 1, 2, 3, 4, 5, 6, 7, 10, 11, 13],
             (Operation::SpeedFromSheet, false) => &[0, 2, 4, 5, 9, 10, 11],
             (Operation::AltitudeOfPacket, false) => &[0, 1, 2, 3, 4, 5, 6, 7, 13],
-            (Operation::PacketToSheet, true) => &[0, 1, 3, 4, 5, 6, 7, 8, 13],
+            (Operation::TakenSheet, false) => &[0, 1, 2, 3, 4, 5, 6, 7, 8, 13, 14],
+            (Operation::PacketToSheet | Operation::Completion, true) => &[0, 1, 3, 4, 5, 6, 7, 8, 13],
+            (Operation::TakenSheet, true) => &[0, 1, 3, 4, 5, 6, 7, 8, 13, 14],
             (Operation::SheetToPacket, true) => &[0, 4, 5, 8, 9, 12],
             (Operation::SpeedFromPacket | Operation::AltitudeOfPacket, true) => &[1, 2],
             (Operation::SpeedFromSheet, true) => &[2],
@@ -87,8 +95,12 @@ pub trait Program {
     fn speed_from_packet(packet: &[u8], train: &Train, x: u32) -> Answer;
     fn speed_from_sheet(sheet: &[u8], train: &Train, x: u32) -> Answer;
     fn altitude_of_packet(packet: &[u8]) -> Answer;
+    fn fresh() -> Intake;
+    fn deliver(intake: Intake, delivery: &[u8], room: &mut [u8]) -> Intake;
+    fn complete(intake: Intake, room: &[u8]) -> Intake;
+    fn sheet(intake: Intake, taken: &[u8], room: &mut [u8]) -> Answer;
 
-    /// The answer to a question; the room matters to a conversion alone.
+    /// The answer to a question; the room matters to a conversion and to the sheet of a packet that was taken.
     fn answer(question: &Question, room: &mut [u8]) -> Answer {
         let Question { operation, input, train, x } = question;
         match operation {
@@ -97,6 +109,26 @@ pub trait Program {
             Operation::SpeedFromPacket => Self::speed_from_packet(input, train, *x),
             Operation::SpeedFromSheet => Self::speed_from_sheet(input, train, *x),
             Operation::AltitudeOfPacket => Self::altitude_of_packet(input),
+            Operation::Completion => verdict(Self::taken(input, &mut vec![0; input.len()])),
+            Operation::TakenSheet => {
+                let mut taken = vec![0; input.len()];
+                let judged = Self::taken(input, &mut taken);
+                Self::sheet(judged, &taken, room)
+            }
         }
+    }
+
+    /// The state after a packet was delivered at once, and completed.
+    fn taken(packet: &[u8], room: &mut [u8]) -> Intake {
+        let gathered = Self::deliver(Self::fresh(), packet, room);
+        Self::complete(gathered, room)
+    }
+}
+
+/// The verdict in a state: a packet's length, or its refusal.
+pub fn verdict(Intake { length, refusal, place, .. }: Intake) -> Answer {
+    match refusal {
+        0 => Answer { refusal, place, value: length.into() },
+        _ => Answer::refused(refusal, place),
     }
 }

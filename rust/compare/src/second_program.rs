@@ -1,7 +1,7 @@
 //! The second program under the common interface.
 
-use crate::program::{Answer, Program, Train};
-use second::Refused;
+use crate::program::{Answer, Intake, Program, Train};
+use second::{Refused, Told};
 
 pub struct Second;
 
@@ -24,6 +24,25 @@ impl Program for Second {
 
     fn altitude_of_packet(packet: &[u8]) -> Answer {
         answer(second::altitude_of_packet(packet))
+    }
+
+    fn fresh() -> Intake {
+        Intake::fresh()
+    }
+
+    fn deliver(intake: Intake, delivery: &[u8], room: &mut [u8]) -> Intake {
+        intake.deliver(delivery, room)
+    }
+
+    fn complete(intake: Intake, room: &[u8]) -> Intake {
+        intake.complete(room)
+    }
+
+    fn sheet(intake: Intake, taken: &[u8], room: &mut [u8]) -> Answer {
+        match intake.sheet(taken, room) {
+            Ok(length) => Answer::success(length as i64),
+            Err(Told { refusal, place }) => Answer::refused(refusal, place),
+        }
     }
 }
 

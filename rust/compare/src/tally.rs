@@ -1,12 +1,14 @@
 //! How often each operation gave each refusal and each success, and at how many places, for journeys apart from all else; how many
-//! speeds came by a lower cant deficiency than the train's; and what the conversions answered about journeys with temporary constraints.
+//! speeds came by a lower cant deficiency than the train's; what the conversions answered about journeys with temporary constraints; and
+//! what happened to intakes.
 
+use crate::event::{Event, EVENTS};
 use crate::program::{Answer, Operation, Question, OPERATIONS, PLACED};
 use std::collections::BTreeSet;
 use std::fmt;
 
-/// The refusals are 1 to 13.
-const ANSWERS: usize = 14;
+/// The refusals are 1 to 14.
+const ANSWERS: usize = 15;
 
 /// What one operation answered, about journeys or about all else.
 #[derive(Default)]
@@ -26,9 +28,15 @@ struct Row {
 /// The answers about a journey with constraints that are counted.
 const CONSTRAINED_ANSWERS: [u32; 3] = [0, 4, 5];
 
-#[derive(Default)]
 pub struct Tally {
     rows: [[Row; OPERATIONS.len()]; 2],
+    events: [u64; EVENTS.len()],
+}
+
+impl Default for Tally {
+    fn default() -> Tally {
+        Tally { rows: Default::default(), events: [0; EVENTS.len()] }
+    }
 }
 
 impl Tally {
@@ -58,8 +66,14 @@ impl Tally {
         }
     }
 
+    /// Events that happened or not.
+    pub fn count_events(&mut self, events: &[(Event, bool)]) {
+        events.iter().for_each(|(event, happened)| self.events[*event as usize] += u64::from(*happened));
+    }
+
     /// The answers that an operation can give and that were never met, or never at a place other than 0, each with its row; the speed
-    /// questions of which no random one came by a lower cant deficiency; the conversions that never gave an answer about a constraint.
+    /// questions of which no random one came by a lower cant deficiency; the conversions that never gave an answer about a constraint; what
+    /// never happened to an intake.
     pub fn missing(&self) -> Vec<String> {
         let mut missing = Vec::new();
         for (operation, journey) in rows() {
@@ -81,6 +95,8 @@ impl Tally {
             let none = CONSTRAINED_ANSWERS.iter().zip(counts).filter(|(_, count)| *count == 0);
             missing.extend(none.map(|(refusal, _)| format!("{operation:?}: never answered {refusal} at a random constraint")));
         }
+        let never = EVENTS.iter().filter(|(event, _)| self.events[*event as usize] == 0);
+        missing.extend(never.map(|(_, words)| format!("no {words}")));
         missing
     }
 
@@ -126,6 +142,7 @@ impl fmt::Display for Tally {
             let Row { constrained, constrained_answers: [accepted, field, location], .. } = self.row(operation, true);
             write!(f, "\n{operation:?}: {constrained} random journeys with temporary constraints, {accepted} accepted, ")?;
             write!(f, "{field} refused with 4 and {location} with 5 at a constraint")
-        })
+        })?;
+        EVENTS.iter().try_for_each(|(event, words)| write!(f, "\n{:>9} {words}", self.events[*event as usize]))
     }
 }
