@@ -1,4 +1,4 @@
-// Both conversions of the static library, of segments and journeys, the questions' refusals and speeds by cant deficiency, called from C and held to packets, sheets, places and speeds that are written here from the build definition; timed with 'time'.
+// Both conversions of the static library, of segments and journeys, the intake, the questions' refusals and speeds by cant deficiency, called from C and held to packets, sheets, states, places and speeds that are written here from the build definition; timed with 'time'.
 #define _POSIX_C_SOURCE 200809L
 #include <stdio.h>
 #include <stdlib.h>
@@ -190,13 +190,10 @@ static size_t touched(size_t from, size_t to, uint8_t fill)
     return found;
 }
 
-// One conversion in a room filled with one byte: the answer, each byte of the result, and that no other byte has changed.
-static void run(const char *name, conversion *convert, const struct bytes *in, size_t room, uint8_t fill, uint32_t refusal, uint32_t place, const struct bytes *out)
+// What was answered in a room filled with one byte: the answer, each byte of the result, and that no other byte has changed.
+static void answered(const char *name, const char *way, size_t room, uint8_t fill, seglink_converted c, uint32_t refusal, uint32_t place, const struct bytes *out)
 {
     char what[96];
-    const char *way = convert == seglink_packet_to_sheet ? "packet to sheet" : "sheet to packet";
-    memset(store, fill, sizeof store);
-    seglink_converted c = convert(in->byte, in->length, store + GUARD, room);
     snprintf(what, sizeof what, "%s in a room of %zu: the refusal", way, room);
     check(name, what, c.refusal, refusal);
     snprintf(what, sizeof what, "%s in a room of %zu: the place", way, room);
@@ -211,6 +208,35 @@ static void run(const char *name, conversion *convert, const struct bytes *in, s
     check(name, what, touched(0, GUARD, fill) + touched(GUARD + out->length, sizeof store, fill), 0);
 }
 
+// The sheet of a packet that an intake takes in deliveries of 1, 2, 3 bytes and so on, in a room of the packet's size.
+static seglink_converted deliveries_to_sheet(const uint8_t *packet, size_t packet_len, uint8_t *room, size_t room_len)
+{
+    static uint8_t gathered[ROOM];
+    seglink_intake intake = seglink_intake_fresh();
+    for (size_t at = 0, size = 1; at < packet_len; at += size++) {
+        if (size > packet_len - at)
+            size = packet_len - at;
+        intake = seglink_intake_deliver(intake, packet + at, size, gathered, packet_len);
+    }
+    intake = seglink_intake_complete(intake, gathered, packet_len);
+    return seglink_intake_sheet(intake, gathered, packet_len, room, room_len);
+}
+
+static const char *way_of(conversion *convert)
+{
+    if (convert == seglink_sheet_to_packet)
+        return "sheet to packet";
+    return convert == seglink_packet_to_sheet ? "packet to sheet" : "deliveries to sheet";
+}
+
+static void run(const char *name, conversion *convert, const struct bytes *in, size_t room, uint8_t fill, uint32_t refusal, uint32_t place, const struct bytes *out)
+{
+    memset(store, fill, sizeof store);
+    seglink_converted c = convert(in->byte, in->length, store + GUARD, room);
+    answered(name, way_of(convert), room, fill, c, refusal, place, out);
+}
+
+// A packet's sheet is asked of an intake too.
 static void converts(const char *name, conversion *convert, const struct bytes *in, const struct bytes *out)
 {
     static const struct bytes nothing;
@@ -219,6 +245,8 @@ static void converts(const char *name, conversion *convert, const struct bytes *
     run(name, convert, in, out->length, 0xA5, 0, 0, out);
     run(name, convert, in, out->length - 1, 0xA5, 8, 0, &nothing);
     run(name, convert, in, 0, 0xA5, 8, 0, &nothing);
+    if (convert == seglink_packet_to_sheet)
+        converts(name, deliveries_to_sheet, in, out);
 }
 
 // A refusal of its own comes before 8, so it is the same in no room at all.
@@ -228,6 +256,8 @@ static void refuses(const char *name, conversion *convert, const struct bytes *i
     run(name, convert, in, ROOM, 0xA5, refusal, place, &nothing);
     run(name, convert, in, ROOM, 0x5A, refusal, place, &nothing);
     run(name, convert, in, 0, 0xA5, refusal, place, &nothing);
+    if (convert == seglink_packet_to_sheet)
+        refuses(name, deliveries_to_sheet, in, refusal, place);
 }
 
 // The questions refuse before they look at the train, which is not allowed here.
@@ -1250,6 +1280,193 @@ static void journeys(struct fields *s)
     cut_sheets("a restriction's sheet cut", &restricted_sheet);
 }
 
+// ---- The intake, call by call
+
+// The room that takes packets, of up to 64 bytes, and what it must hold: with the bytes about it.
+enum { TAKEN = 64, NOWHERE = TAKEN + 1 };
+static uint8_t taken[GUARD + TAKEN + GUARD], held[GUARD + TAKEN + GUARD];
+
+// A call, and the state after it. A delivery is bytes from one on up to another, which go to a place of the room or nowhere. A question has
+// so many bytes of the room that took the packet and so many for the sheet; after it stand its answer's numbers, and from is the sheet.
+struct step { const char *name; enum { DELIVER, COMPLETE, ASK } call; const struct bytes *from; size_t begin, end, at; seglink_intake after; };
+
+#define DELIVERS(from, begin, end, at) DELIVER, &from, begin, end, at
+#define COMPLETES COMPLETE, NULL, 0, 0, NOWHERE
+#define ASKS(sheet, taken, room) ASK, &sheet, taken, room, NOWHERE
+#define GATHERING(length) {0, length, 0, 0}
+#define PAST_END {1, 0, 0, 0}
+#define JUDGED(length, refusal, place) {2, length, refusal, place}
+#define LONG JUDGED(0, 8, 0)
+#define GIVEN(length) {0, length, 0, 0}
+#define REFUSED(refusal, place) {0, 0, refusal, place}
+#define EARLY REFUSED(14, 0)
+
+static const struct bytes padded_packet = {
+    39, {0x06, 0x00, 0xB9, 0x00, 0x01, 0x23, 0x45, 0x00, 0x00, 0x01, 0x00, 0x00, 0x00, 0x00, 0x07,
+         0, 0, 0, 0, 0, 0, 0, 0, 0, 0, 0x40, 0, 0, 0, 0, 0, 0x01, 0, 0, 0, 0, 0x3F, 0xF0, 0x24}};
+static const struct bytes noise = {43, {5, 9, 9, 9, 9, 9, 9, 9, 9, 9, 9, 9, 9, 9, 9, 9}};
+
+// One after the other, in a room of 42 bytes.
+static const struct step STEPS[] = {
+    {"a fresh intake asked", ASKS(desk_sheet, 42, 30), EARLY},
+    {"no bytes to a fresh intake", DELIVERS(desk_packet, 0, 0, NOWHERE), GATHERING(0)},
+    {"no bytes completed", COMPLETES, JUDGED(0, 1, 0)},
+    {"no bytes asked", ASKS(desk_sheet, 42, 30), REFUSED(1, 0)},
+    {"the first delivery", DELIVERS(desk_packet, 0, 10, 0), GATHERING(10)},
+    {"no bytes on the way", DELIVERS(desk_packet, 10, 10, NOWHERE), GATHERING(10)},
+    {"asked on the way", ASKS(desk_sheet, 42, 30), EARLY},
+    {"the second delivery", DELIVERS(desk_packet, 10, 38, 10), GATHERING(38)},
+    {"the last delivery", DELIVERS(desk_packet, 38, 39, 38), GATHERING(39)},
+    {"asked before completion", ASKS(desk_sheet, 42, 30), EARLY},
+    {"a packet completed", COMPLETES, JUDGED(39, 0, 0)},
+    {"its sheet", ASKS(desk_sheet, 42, 30), GIVEN(25)},
+    {"its sheet again", ASKS(desk_sheet, 42, 30), GIVEN(25)},
+    {"its sheet from the packet's bytes alone", ASKS(desk_sheet, 39, 25), GIVEN(25)},
+    {"its sheet with the packet's room cut short", ASKS(desk_sheet, 38, 30), EARLY},
+    {"its sheet with no room of the packet", ASKS(desk_sheet, 0, 0), EARLY},
+    {"its sheet in a room too short", ASKS(desk_sheet, 42, 24), REFUSED(8, 0)},
+    {"no bytes after a verdict", DELIVERS(desk_packet, 0, 0, NOWHERE), JUDGED(39, 0, 0)},
+    {"its sheet after no bytes", ASKS(desk_sheet, 42, 30), GIVEN(25)},
+    {"the next packet's first byte", DELIVERS(journey_packet, 0, 1, 0), GATHERING(1)},
+    {"asked after the next delivery", ASKS(desk_sheet, 42, 30), EARLY},
+    {"a journey up to the room's end", DELIVERS(journey_packet, 1, 42, 1), GATHERING(42)},
+    {"a journey completed", COMPLETES, JUDGED(42, 0, 0)},
+    {"the journey's sheet", ASKS(journey_sheet, 42, 52), GIVEN(52)},
+    {"completed a second time", COMPLETES, JUDGED(0, 1, 0)},
+    {"asked after that", ASKS(journey_sheet, 42, 52), REFUSED(1, 0)},
+    {"a delivery before one too many", DELIVERS(padded_packet, 0, 39, 0), GATHERING(39)},
+    {"a delivery past the room's end", DELIVERS(desk_packet, 0, 4, NOWHERE), PAST_END},
+    {"one after it that would fit", DELIVERS(desk_packet, 0, 1, NOWHERE), PAST_END},
+    {"no bytes past the room's end", DELIVERS(desk_packet, 0, 0, NOWHERE), PAST_END},
+    {"asked past the room's end", ASKS(desk_sheet, 42, 30), EARLY},
+    {"completed past the room's end", COMPLETES, LONG},
+    {"a long packet asked", ASKS(desk_sheet, 42, 30), REFUSED(8, 0)},
+    {"no bytes after a long packet", DELIVERS(desk_packet, 0, 0, NOWHERE), LONG},
+    {"a packet after a long one", DELIVERS(padded_packet, 0, 39, 0), GATHERING(39)},
+    {"a damaged packet completed", COMPLETES, JUDGED(39, 7, 306)},
+    {"a damaged packet asked", ASKS(desk_sheet, 42, 30), REFUSED(7, 306)},
+    {"a damaged packet asked again", ASKS(desk_sheet, 42, 30), REFUSED(7, 306)},
+    {"a damaged packet asked with its room cut short", ASKS(desk_sheet, 0, 0), REFUSED(7, 306)},
+    {"no bytes after a refusal", DELIVERS(desk_packet, 0, 0, NOWHERE), JUDGED(39, 7, 306)},
+    {"one delivery longer than the room", DELIVERS(noise, 0, 43, NOWHERE), PAST_END},
+    {"8 before the packet's own refusal", COMPLETES, LONG},
+    {"one delivery as long as the room", DELIVERS(noise, 0, 42, 0), GATHERING(42)},
+    {"the packet's own refusal", COMPLETES, JUDGED(42, 2, 0)},
+    {"a packet after a refusal", DELIVERS(desk_packet, 0, 39, 0), GATHERING(39)},
+    {"a packet after a refusal completed", COMPLETES, JUDGED(39, 0, 0)},
+    {"the sheet of a packet after a refusal", ASKS(desk_sheet, 42, 25), GIVEN(25)},
+};
+
+// States that no call returned, in a room of 45 bytes that begins with the desk packet.
+static const struct { seglink_intake before; struct step step; } WILD_STATES[] = {
+    {{3, 39, 9, 9}, {"phase 3 completed", COMPLETES, JUDGED(39, 0, 0)}},
+    {{0xFFFFFFFF, 38, 0, 0}, {"phase 4,294,967,295 completed, a byte short", COMPLETES, JUDGED(38, 3, 0)}},
+    {{0, 39, 7, 306}, {"phase 0 with a verdict completed", COMPLETES, JUDGED(39, 0, 0)}},
+    {{0, 46, 0, 0}, {"a length past the room's end completed", COMPLETES, LONG}},
+    {{3, 0xFFFFFFFF, 0, 0}, {"length 4,294,967,295 completed", COMPLETES, LONG}},
+    {{1, 39, 0, 5}, {"phase 1 with a length completed", COMPLETES, LONG}},
+    {{2, 39, 0, 0}, {"a verdict completed", COMPLETES, JUDGED(0, 1, 0)}},
+    {{2, 0xFFFFFFFF, 4, 4}, {"a verdict of any length completed", COMPLETES, JUDGED(0, 1, 0)}},
+    {{0, 39, 0, 0}, {"phase 0 asked", ASKS(desk_sheet, 45, 30), EARLY}},
+    {{1, 39, 7, 306}, {"phase 1 asked", ASKS(desk_sheet, 45, 30), EARLY}},
+    {{3, 39, 7, 306}, {"phase 3 asked", ASKS(desk_sheet, 45, 30), EARLY}},
+    {{2, 39, 0, 77}, {"a verdict of 0 with a place asked", ASKS(desk_sheet, 45, 30), GIVEN(25)}},
+    {{2, 38, 0, 0}, {"a verdict of 0 on a packet a byte short asked", ASKS(desk_sheet, 45, 30), REFUSED(3, 0)}},
+    {{2, 46, 0, 0}, {"a length past the room's end asked", ASKS(desk_sheet, 45, 30), EARLY}},
+    {{2, 0xFFFFFFFF, 0, 0}, {"length 4,294,967,295 asked", ASKS(desk_sheet, 45, 30), EARLY}},
+    {{2, 0xFFFFFFFF, 99, 7}, {"refusal 99 asked", ASKS(desk_sheet, 45, 30), REFUSED(99, 7)}},
+    {{2, 39, 0xFFFFFFFF, 0xFFFFFFFF}, {"refusal 4,294,967,295 asked", ASKS(desk_sheet, 0, 0), REFUSED(0xFFFFFFFF, 0xFFFFFFFF)}},
+    {{7, 8, 9, 10}, {"no bytes to phase 7", DELIVERS(noise, 0, 0, NOWHERE), {7, 8, 9, 10}}},
+    {{1, 8, 9, 10}, {"no bytes to phase 1", DELIVERS(noise, 0, 0, NOWHERE), {1, 8, 9, 10}}},
+    {{2, 99, 9, 10}, {"no bytes to phase 2", DELIVERS(noise, 0, 0, NOWHERE), {2, 99, 9, 10}}},
+    {{1, 8, 9, 10}, {"a delivery to phase 1", DELIVERS(noise, 0, 1, NOWHERE), PAST_END}},
+    {{0, 43, 9, 10}, {"a delivery to phase 0 up to the room's end", DELIVERS(noise, 0, 2, 43), GATHERING(45)}},
+    {{7, 43, 9, 10}, {"a delivery to phase 7 up to the room's end", DELIVERS(noise, 0, 2, 43), GATHERING(45)}},
+    {{7, 44, 9, 10}, {"a delivery to phase 7 past the room's end", DELIVERS(noise, 0, 2, NOWHERE), PAST_END}},
+    {{2, 44, 9, 10}, {"a delivery to phase 2", DELIVERS(noise, 0, 2, 0), GATHERING(2)}},
+    {{2, 0xFFFFFFFF, 0, 0}, {"a delivery to phase 2 of length 4,294,967,295", DELIVERS(noise, 0, 2, 0), GATHERING(2)}},
+    {{0, 46, 0, 0}, {"a delivery to a length past the room's end", DELIVERS(noise, 0, 1, NOWHERE), PAST_END}},
+    {{0, 0xFFFFFFFF, 0, 0}, {"a delivery to length 4,294,967,295", DELIVERS(noise, 0, 1, NOWHERE), PAST_END}},
+};
+
+static void lend(const struct bytes *packet)
+{
+    memset(held, 0xA5, sizeof held);
+    memcpy(held + GUARD, packet->byte, packet->length);
+    memcpy(taken, held, sizeof taken);
+}
+
+static void state(const char *name, seglink_intake got, seglink_intake wanted)
+{
+    check(name, "the phase", got.phase, wanted.phase);
+    check(name, "the length", got.length, wanted.length);
+    check(name, "the refusal", got.refusal, wanted.refusal);
+    check(name, "the place", got.place, wanted.place);
+}
+
+static void asked(const struct step *step, seglink_intake intake)
+{
+    struct bytes sheet = *step->from;
+    sheet.length = step->after.length;
+    memset(store, 0xA5, sizeof store);
+    seglink_converted c = seglink_intake_sheet(intake, taken + GUARD, step->begin, store + GUARD, step->end);
+    answered(step->name, "a question", step->end, 0xA5, c, step->after.refusal, step->after.place, &sheet);
+}
+
+// The state after a call, in a room of so many bytes: every byte of the room is looked at, and those about it.
+static seglink_intake stepped(const struct step *step, seglink_intake intake, size_t room)
+{
+    size_t length = step->end - step->begin;
+    if (step->call == ASK) {
+        asked(step, intake);
+    } else if (step->call == COMPLETE) {
+        intake = seglink_intake_complete(intake, taken + GUARD, room);
+        state(step->name, intake, step->after);
+    } else {
+        intake = seglink_intake_deliver(intake, step->from->byte + step->begin, length, taken + GUARD, room);
+        state(step->name, intake, step->after);
+        if (step->at != NOWHERE)
+            memcpy(held + GUARD + step->at, step->from->byte + step->begin, length);
+    }
+    check(step->name, "the count of wrong bytes in the packet's room", differing(taken, held, sizeof taken), 0);
+    return intake;
+}
+
+// A state counts 4,294,967,295 bytes and no more. Of a room of one more the system gives the pages that are written.
+static void counted(void)
+{
+    const char *name = "a room of 4,294,967,296 bytes";
+    size_t room = (size_t)1 << 32, last = room - 2;
+    uint8_t *large = calloc(room, 1), bytes[2] = {1, 2};
+    check(name, "whether there is one", large != NULL, true);
+    if (large == NULL)
+        return;
+    seglink_intake before = {0, 0xFFFFFFFE, 0, 0}, full = {0, 0xFFFFFFFF, 0, 0}, past = PAST_END, judged = JUDGED(0xFFFFFFFF, 2, 0);
+    state(name, seglink_intake_deliver(before, bytes, 2, large, room), past);
+    state(name, seglink_intake_deliver(full, bytes, 1, large, room), past);
+    check(name, "the last bytes", large[last] + large[last + 1], 0);
+    state(name, seglink_intake_deliver(before, bytes, 1, large, room), full);
+    check(name, "the last byte but one", large[last], 1);
+    check(name, "the last byte", large[last + 1], 0);
+    state(name, seglink_intake_complete(full, large, room), judged);
+    free(large);
+}
+
+static void intakes(void)
+{
+    static const struct bytes nothing;
+    seglink_intake intake = seglink_intake_fresh();
+    state("a fresh intake", intake, (seglink_intake){0, 0, 0, 0});
+    lend(&nothing);
+    for (size_t i = 0; i < sizeof STEPS / sizeof *STEPS; ++i)
+        intake = stepped(&STEPS[i], intake, 42);
+    for (size_t i = 0; i < sizeof WILD_STATES / sizeof *WILD_STATES; ++i) {
+        lend(&desk_packet);
+        stepped(&WILD_STATES[i].step, WILD_STATES[i].before, 45);
+    }
+    counted();
+}
+
 static int all_checks(struct fields *s)
 {
     smallest(s);
@@ -1269,6 +1486,7 @@ static int all_checks(struct fields *s)
     damaged_sheets();
     speeds_by_cant();
     journeys(s);
+    intakes();
     printf("%u passed, %u failed\n", passed, failed);
     return failed == 0 ? 0 : 1;
 }
