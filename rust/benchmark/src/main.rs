@@ -1,13 +1,15 @@
-//! The archive's times beside the second program's and asn1c's: conversions and speeds, on small, middle and the largest segments; and
-//! beside the second program's, conversions of small and the largest journeys and of those full of temporary constraints.
+//! The archive's times beside the second program's and asn1c's: conversions and speeds, on small, middle and the largest segments;
+//! beside the second program's, conversions of small and the largest journeys and of those full of temporary constraints; and beside
+//! plain copies, the largest packets taken in deliveries.
 
 mod asn1c;
+mod deliveries;
 mod machine;
 mod measure;
 
 use compare::archive::Archive;
 use compare::draft::{Draft, Kind};
-use compare::journeys::{journey, spread, Size, LONGEST_UNCONSTRAINED};
+use compare::journeys::{journey, spread, Size, LONGEST, LONGEST_UNCONSTRAINED};
 use compare::program::{Operation, Program, Question, Train};
 use compare::random::Random;
 use compare::second_program::Second;
@@ -26,6 +28,9 @@ const JOURNEYS: [(&str, usize, Size); 3] = [
     ("largest without constraints", 12, LONGEST_UNCONSTRAINED),
     ("full of constraints", 12, CONSTRAINED),
 ];
+/// How many of the largest packets are taken in deliveries.
+const TAKEN_SEGMENTS: usize = 30;
+const TAKEN_JOURNEYS: usize = 12;
 const LARGEST_RESULT: usize = 15_226;
 const TRAIN: Train = Train { length: 20_000, cant: 150, freight_p: false, freight_g: true, passenger: false };
 
@@ -44,7 +49,9 @@ Ratio: a program's time by the archive's in the same round.
 asn1c: the codec that Debian's asn1c makes of an ASN.1 module of the packet. It reads a packet into a structure of its own, where
 the others write a sheet, and writes a packet from that structure. Reading, it refuses only a packet that ends too soon; writing, a
 value outside its range; it answers no speeds and has no journeys. Freeing the structures is not counted. The run stops where a packet
-does not come back from it unchanged.";
+does not come back from it unchanged.
+At once and byte by byte: an intake takes a packet in one delivery, and in one for each byte; beside them plain copies of the same bytes, a
+call each. Completion judges the packet. A delivery is to cost what a copy costs, and not what a completion does.";
 
 fn main() {
     println!("Processor: {}", machine::processor());
@@ -61,6 +68,10 @@ fn main() {
         let drafts: Vec<Draft> = (0..count).map(|_| any_journey(&mut random, size)).collect();
         rows(name, &drafts, false);
     }
+    let segments: Vec<_> = (0..TAKEN_SEGMENTS).map(|_| segment(&mut random, LARGEST).packet()).collect();
+    deliveries::rows("largest segments", &segments);
+    let journeys: Vec<_> = (0..TAKEN_JOURNEYS).map(|_| any_journey(&mut random, LONGEST).packet()).collect();
+    deliveries::rows("largest journeys", &journeys);
 }
 
 fn any_journey(random: &mut Random, size: Size) -> Draft {
