@@ -1,6 +1,5 @@
 // The intake: a packet taken in several deliveries into a lent room, and judged when it is complete. Its state is a value that the caller keeps.
 ghost use mathlib.Core.Path.{_≡_};
-ghost use Prim.Native.Nat.{ℕ};
 ghost use Rattle.intake.specs.Intake.{gathering, passed, judgedAs, gathered, gathersAt, delivered, completed, asked};
 use convert::Converted;
 use convert::TOO_LONG;

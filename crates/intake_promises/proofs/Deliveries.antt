@@ -1,7 +1,7 @@
 -- However a packet was cut, and from any state that starts afresh, verdict and sheet are those of the joined bytes, or 8; by induction over the deliveries.
 -- Assumes nothing.
 use mathlib.Core.Path.{_≡_, refl, sym, ap, _∙_}
-use mathlib.Core.Bool.{true, false, _&&_}
+use mathlib.Core.Bool.{true, false}
 use mathlib.Core.List.{List, [], _∷_, _++_, append-nil, append-assoc, flatten}
 use Prim.Native.Nat.{ℕ, _+_, _≤_}
 use native.Mathlib.Omega.{arith}
@@ -14,9 +14,9 @@ use Rattle.format.specs.Format.{Read, accepted, refused}
 use Rattle.segment.proofs.Refusals.{among-positive}
 use Rattle.link.specs.Link.{fromEitherPacket}
 use Rattle.link.proofs.Grounds.{either-packet-grounds, either-packet-listed}
-use Rattle.convert.specs.Convert.{refusedWith, converted, packetToSheet}
+use Rattle.convert.specs.Convert.{refusedWith, packetToSheet}
 use Rattle.intake.specs.declared.Intake.{Intake}
-use Rattle.intake.specs.Intake.{gathering, passed, judgedAs, gathered, holds, Delivered, gathersAt, delivered, judgedOf, completed, asked}
+use Rattle.intake.specs.Intake.{gathering, passed, judgedAs, holds, Delivered, delivered, judgedOf, completed, asked}
 use Rattle.intake_promises.specs.Deliveries.{deliveredAll, Afresh, fresh, afterVerdict, roomAfter, verdictAfter, AsJoined, TooLong}
 
 -- ---- what a room holds
