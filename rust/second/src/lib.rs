@@ -14,6 +14,8 @@ mod desk_intakes;
 #[cfg(test)]
 mod desk_journeys;
 #[cfg(test)]
+mod desk_kinds;
+#[cfg(test)]
 mod desk_places;
 mod intake;
 mod journey;
@@ -42,14 +44,18 @@ pub fn sheet_to_packet(sheet: &[u8], room: &mut [u8]) -> Result<usize, Refused> 
     lay(&packet_writing::packet_of(&carried)?, room)
 }
 
-/// The permitted speed in km/h at location `x`, by the packet's speeds times 5.
-pub fn speed_from_packet(packet: &[u8], train: &Train, x: u32) -> Result<u32, Refused> {
-    speed::permitted(&packet_reading::segment_of(packet)?, train, x)
-}
+/// The kinds of a segment that the speed question takes.
+pub const KIND_PACKET: u32 = 0;
+pub const KIND_SHEET: u32 = 1;
 
-/// The permitted speed in km/h at location `x`, by the sheet's own speeds.
-pub fn speed_from_sheet(sheet: &[u8], train: &Train, x: u32) -> Result<u32, Refused> {
-    speed::permitted(&sheet_reading::segment_of(sheet)?, train, x)
+/// The permitted speed in km/h at location `x` of a segment of a kind: by a packet's speeds times 5, by a sheet's own.
+pub fn permitted_speed(kind: u32, segment: &[u8], train: &Train, x: u32) -> Result<u32, Refused> {
+    let segment = match kind {
+        KIND_PACKET => packet_reading::segment_of(segment)?,
+        KIND_SHEET => sheet_reading::segment_of(segment)?,
+        _ => return Err(Refusal::Kind.nowhere()),
+    };
+    speed::permitted(&segment, train, x)
 }
 
 /// The altitude of a packet in signed centimetres.

@@ -31,6 +31,8 @@ pub enum Refusal {
     Left = 13,
     /// An intake's sheet is asked for before a completion or after the next delivery, or with the packet's room cut short.
     Early = 14,
+    /// The kind of a segment is neither 0, a packet, nor 1, a sheet.
+    Kind = 15,
 }
 
 /// A refusal, and the bit of the packet or the byte of the sheet at which it is given, both counted from 0.
