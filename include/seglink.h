@@ -1,4 +1,4 @@
-// The nine operations of the segment link, for C11 and C++: link with libseglink.a, which `rt staticlib seglink` writes for x86-64.
+// The eight operations of the segment link, for C11 and C++: link with libseglink.a, which `rt staticlib seglink` writes for x86-64.
 // Packets and sheets are a segment's (packet number 6) or a journey's (4): the conversions and the intake take both, the questions a segment's alone.
 //
 // Of a journey's temporary constraint, up to 31 a segment, Q_TC_Type 0 uses Q_FRONT and V_Speed_Level, 1 the adhesion, 2 and 3 neither;
@@ -34,7 +34,14 @@ enum {
     SEGLINK_PAST_END = 11,       // x is at or past L_SP
     SEGLINK_LONG_BODY = 12,      // a sheet's body would exceed 65,535 bits
     SEGLINK_BITS_LEFT = 13,      // bits of the body are left after the last field
-    SEGLINK_TOO_EARLY = 14       // an intake's sheet is asked for before a completion or after the next delivery, or with the packet's room cut short
+    SEGLINK_TOO_EARLY = 14,      // an intake's sheet is asked for before a completion or after the next delivery, or with the packet's room cut short
+    SEGLINK_UNKNOWN_KIND = 15    // the kind is neither 0 nor 1
+};
+
+// The kinds of what a speed question brings: a segment's packet, or its sheet.
+enum {
+    SEGLINK_KIND_PACKET = 0,
+    SEGLINK_KIND_SHEET = 1
 };
 
 // Counts of bytes: a segment's, then a journey's, whose sheet is never longer than the last. A room of a journey's largest is never refused
@@ -51,14 +58,14 @@ enum {
 // of the field at fault (4, 5, 6), the first that is left (13), the first of the padding that is 1 (7). Of a sheet it is a byte, counted from 0:
 // the first of the number at fault (4, 5, 9), also where the sheet ends before or within it, or the first that is left (9).
 // Where a constraint's start is not below its end, the end is at fault.
-// For 1, 2, 3, 8, 10 to 12 and 14 it is 0, and on success.
+// For 1, 2, 3, 8, 10 to 12, 14 and 15 it is 0, and on success.
 
 // What a conversion answers: 0, 0 and the count of bytes that it wrote; or a refusal, its place and 0.
 typedef struct {
     uint32_t refusal, place, length;
 } seglink_converted;
 
-// What a speed question answers: 0, 0 and the speed in km/h; or a refusal, its place and 0.
+// What the speed question answers: 0, 0 and the speed in km/h; or a refusal, its place and 0.
 typedef struct {
     uint32_t refusal, place, speed;
 } seglink_speed;
@@ -94,13 +101,10 @@ seglink_converted seglink_packet_to_sheet(const uint8_t *packet, size_t packet_l
 // Any bytes may be handed over; a refusal (2, 4, 5, 8, 9 or 12) leaves the room as it was.
 seglink_converted seglink_sheet_to_packet(const uint8_t *sheet, size_t sheet_len, uint8_t *room, size_t room_len);
 
-// Returns the permitted speed of a train at x cm from the segment's start, by the packet's speeds: multiples of 5 km/h.
-// Any bytes, train and x may be handed over; a refusal is 1 to 7, 10, 11 or 13.
-seglink_speed seglink_speed_from_packet(const uint8_t *packet, size_t packet_len, seglink_train train, uint32_t x);
-
-// Returns the permitted speed of a train at x cm from the segment's start, by the sheet's own speeds.
-// Any bytes, train and x may be handed over; a refusal is 2, 4, 5, 9, 10 or 11.
-seglink_speed seglink_speed_from_sheet(const uint8_t *sheet, size_t sheet_len, seglink_train train, uint32_t x);
+// Returns the permitted speed of a train at x cm from the segment's start: of kind 0 by a packet's speeds, multiples of 5 km/h, of kind 1 by a
+// sheet's own. Any kind, bytes, train and x may be handed over. A kind that is neither is refused with 15, first of all, whatever the others are; of
+// kind 0 a refusal is 1 to 7, 10, 11 or 13, of kind 1 it is 2, 4, 5, 9, 10 or 11.
+seglink_speed seglink_permitted_speed(uint32_t kind, const uint8_t *segment, size_t segment_len, seglink_train train, uint32_t x);
 
 // Returns the altitude of a packet's segment in signed centimetres.
 // Any bytes may be handed over; a refusal is 1 to 7 or 13.
