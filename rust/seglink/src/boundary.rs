@@ -35,11 +35,13 @@ pub(crate) struct State {
 }
 
 // As in include/seglink.h.
+pub(crate) const KIND_PACKET: u32 = 0;
+pub(crate) const KIND_SHEET: u32 = 1;
+
 extern "C" {
     fn seglink_packet_to_sheet(packet: *const u8, packet_len: usize, room: *mut u8, room_len: usize) -> Converted;
     fn seglink_sheet_to_packet(sheet: *const u8, sheet_len: usize, room: *mut u8, room_len: usize) -> Converted;
-    fn seglink_speed_from_packet(packet: *const u8, packet_len: usize, train: Train, x: u32) -> Speed;
-    fn seglink_speed_from_sheet(sheet: *const u8, sheet_len: usize, train: Train, x: u32) -> Speed;
+    fn seglink_permitted_speed(kind: u32, segment: *const u8, segment_len: usize, train: Train, x: u32) -> Speed;
     fn seglink_altitude_of_packet(packet: *const u8, packet_len: usize) -> Altitude;
     fn seglink_intake_fresh() -> State;
     fn seglink_intake_deliver(intake: State, delivery: *const u8, delivery_len: usize, room: *mut u8, room_len: usize) -> State;
@@ -57,14 +59,9 @@ pub(crate) fn sheet_to_packet(sheet: &[u8], room: &mut [u8]) -> Converted {
     unsafe { seglink_sheet_to_packet(sheet.as_ptr(), sheet.len(), room.as_mut_ptr(), room.len()) }
 }
 
-pub(crate) fn speed_from_packet(packet: &[u8], train: Train, x: u32) -> Speed {
+pub(crate) fn permitted_speed(kind: u32, segment: &[u8], train: Train, x: u32) -> Speed {
     // SAFETY: the pointer comes with its slice's length, is not null and is only read; Train has the C layout.
-    unsafe { seglink_speed_from_packet(packet.as_ptr(), packet.len(), train, x) }
-}
-
-pub(crate) fn speed_from_sheet(sheet: &[u8], train: Train, x: u32) -> Speed {
-    // SAFETY: the pointer comes with its slice's length, is not null and is only read; Train has the C layout.
-    unsafe { seglink_speed_from_sheet(sheet.as_ptr(), sheet.len(), train, x) }
+    unsafe { seglink_permitted_speed(kind, segment.as_ptr(), segment.len(), train, x) }
 }
 
 pub(crate) fn altitude_of_packet(packet: &[u8]) -> Altitude {

@@ -14,7 +14,7 @@
 //! and then a lent room keeps every byte it had.
 //!
 //! ```
-//! use seglink::{Refusal, Refused, Train};
+//! use seglink::{Refusal, Refused, Segment, Train};
 //!
 //! // The build definition's sample sheet: a segment of 1 cm, 80 km/h.
 //! let sheet = [6, 0xC5, 0xC6, 4, 1, 0, 0, 7, 0, 0, 0, 0, 1, 0, 0, 0, 80, 0, 0, 0, 0, 0, 0, 0, 0];
@@ -24,8 +24,9 @@
 //! assert_eq!(seglink::altitude_of_packet(&packet)?, -100_000);
 //!
 //! let train = Train { length: 200, cant: 150, freight_p: false, freight_g: false, passenger: true };
-//! assert_eq!(seglink::speed_from_packet(&packet, train, 0)?, 80);
-//! assert_eq!(seglink::speed_from_packet(&packet, train, 1).unwrap_err().refusal, Refusal::PastEnd);
+//! assert_eq!(seglink::permitted_speed(Segment::Packet(&packet), train, 0)?, 80);
+//! assert_eq!(seglink::permitted_speed(Segment::Sheet(&sheet), train, 0)?, 80);
+//! assert_eq!(seglink::permitted_speed(Segment::Packet(&packet), train, 1).unwrap_err().refusal, Refusal::PastEnd);
 //!
 //! packet[38] = 0x24; // two padding bits
 //! let refused = seglink::sheet_of(&packet).unwrap_err();
@@ -37,13 +38,17 @@
 
 mod boundary;
 mod intake;
+#[cfg(test)]
+mod kinds;
 mod refusal;
 mod refused;
+mod segment;
 mod train;
 
 pub use intake::Intake;
 pub use refusal::Refusal;
 pub use refused::{Refused, Unit};
+pub use segment::Segment;
 pub use train::Train;
 
 /// The count of bytes of a segment's smallest packet.
@@ -79,16 +84,14 @@ pub fn packet_of(sheet: &[u8]) -> Result<Vec<u8>, Refused> {
     filled(LARGEST_JOURNEY_PACKET, |room| sheet_to_packet(sheet, room))
 }
 
-/// The permitted speed in km/h of a train at `x` cm from the segment's start, by the packet's speeds: multiples of 5.
-pub fn speed_from_packet(packet: &[u8], train: Train, x: u32) -> Result<u32, Refused> {
-    let asked = boundary::speed_from_packet(packet, train, x);
-    answer(asked.refusal, asked.place, Unit::Bit, asked.speed)
-}
-
-/// The permitted speed in km/h of a train at `x` cm from the segment's start, by the sheet's own speeds.
-pub fn speed_from_sheet(sheet: &[u8], train: Train, x: u32) -> Result<u32, Refused> {
-    let asked = boundary::speed_from_sheet(sheet, train, x);
-    answer(asked.refusal, asked.place, Unit::Byte, asked.speed)
+/// The permitted speed in km/h of a train at `x` cm from the segment's start: by a packet's speeds, multiples of 5, or by a sheet's own.
+pub fn permitted_speed(segment: Segment<'_>, train: Train, x: u32) -> Result<u32, Refused> {
+    let (kind, bytes, unit) = match segment {
+        Segment::Packet(packet) => (boundary::KIND_PACKET, packet, Unit::Bit),
+        Segment::Sheet(sheet) => (boundary::KIND_SHEET, sheet, Unit::Byte),
+    };
+    let asked = boundary::permitted_speed(kind, bytes, train, x);
+    answer(asked.refusal, asked.place, unit, asked.speed)
 }
 
 /// The altitude of a packet's segment in signed centimetres.

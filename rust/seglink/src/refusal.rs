@@ -34,10 +34,12 @@ pub enum Refusal {
     /// 14: an intake's sheet is asked for before a completion or after the next delivery, or with the packet's room cut short. An
     /// [`Intake`](crate::Intake) never cuts it short.
     TooEarly = 14,
+    /// 15: the kind is neither 0 nor 1. A [`Segment`](crate::Segment) never has another.
+    UnknownKind = 15,
 }
 
 /// Each refusal with its ground, in the words of the C header.
-const GROUNDS: [(Refusal, &str); 14] = [
+const GROUNDS: [(Refusal, &str); 15] = [
     (Refusal::ShortPacket, "a packet has fewer than 15 bytes"),
     (Refusal::PacketNumber, "the packet number is neither 4 nor 6, or is 4 where a segment is needed"),
     (Refusal::PacketLength, "the packet's bytes are not 15 + L_PACKET_ATO / 8, rounded up"),
@@ -65,10 +67,11 @@ const GROUNDS: [(Refusal, &str); 14] = [
         Refusal::TooEarly,
         "an intake's sheet is asked for before a completion or after the next delivery, or with the packet's room cut short",
     ),
+    (Refusal::UnknownKind, "the kind is neither 0 nor 1"),
 ];
 
 impl Refusal {
-    /// The build definition's number, 1 to 14.
+    /// The build definition's number, 1 to 15.
     pub fn number(self) -> u32 {
         self as u32
     }

@@ -1,6 +1,6 @@
-//! The train card of the speed questions.
+//! The train card of the speed question.
 
-/// A train, as the speed questions take it: any values may be handed over, and those not allowed are refused.
+/// A train, as the speed question takes it: any values may be handed over, and those not allowed are refused.
 #[derive(Clone, Copy, Debug, PartialEq, Eq)]
 #[repr(C)]
 pub struct Train {

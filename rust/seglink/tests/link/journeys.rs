@@ -3,8 +3,8 @@ use crate::constraints::constraint;
 use crate::segments::{bit_of, byte_of, packet, same, sheet, Field};
 use crate::told;
 use seglink::{
-    altitude_of_packet, packet_of, packet_to_sheet, sheet_of, sheet_to_packet, speed_from_packet, speed_from_sheet, Refusal,
-    Train, LARGEST_JOURNEY_PACKET, LARGEST_JOURNEY_SHEET,
+    altitude_of_packet, packet_of, packet_to_sheet, permitted_speed, sheet_of, sheet_to_packet, Refusal, Segment, Train,
+    LARGEST_JOURNEY_PACKET, LARGEST_JOURNEY_SHEET,
 };
 
 /// A journey over one segment with one timing point.
@@ -177,8 +177,8 @@ fn a_damaged_journey_is_refused_at_its_place() {
 fn a_question_needs_a_segment() {
     let train = Train { length: 0, cant: 0, freight_p: false, freight_g: false, passenger: false };
     for fields in [journey(0, 0, 0), journey(1, 1, 0), journey(1, 1, 1)] {
-        assert_eq!(told(speed_from_packet(&packet(&fields), train, 0)), Err((Refusal::PacketNumber, 0)));
-        assert_eq!(told(speed_from_sheet(&sheet(&fields), train, 0)), Err((Refusal::PacketNumber, 0)));
+        assert_eq!(told(permitted_speed(Segment::Packet(&packet(&fields)), train, 0)), Err((Refusal::PacketNumber, 0)));
+        assert_eq!(told(permitted_speed(Segment::Sheet(&sheet(&fields)), train, 0)), Err((Refusal::PacketNumber, 0)));
         assert_eq!(told(altitude_of_packet(&packet(&fields))), Err((Refusal::PacketNumber, 0)));
     }
 }
