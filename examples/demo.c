@@ -47,7 +47,7 @@ static void print_speeds(const uint8_t *packet, size_t packet_len)
         printf("Permitted at %u cm:\n", (unsigned)PLACES[i]);
         for (size_t j = 0; j < sizeof TRAINS / sizeof *TRAINS; ++j) {
             printf("    %s: ", TRAINS[j].name);
-            print_speed(seglink_speed_from_packet(packet, packet_len, TRAINS[j].train, PLACES[i]));
+            print_speed(seglink_permitted_speed(SEGLINK_KIND_PACKET, packet, packet_len, TRAINS[j].train, PLACES[i]));
             printf("\n");
         }
     }

@@ -39,9 +39,9 @@ static void ask(const uint8_t *sheet, size_t sheet_len)
     seglink_altitude altitude = seglink_altitude_of_packet(PACKET, sizeof PACKET);
     printf("The segment lies at %d cm (refusal %u).\n", (int)altitude.altitude, (unsigned)altitude.refusal);
     seglink_train train = {.length = 200, .cant = 150, .passenger = true};
-    seglink_speed here = seglink_speed_from_packet(PACKET, sizeof PACKET, train, 0);
+    seglink_speed here = seglink_permitted_speed(SEGLINK_KIND_PACKET, PACKET, sizeof PACKET, train, 0);
     printf("A passenger train of 200 cm may run at %u km/h at 0 cm (refusal %u).\n", (unsigned)here.speed, (unsigned)here.refusal);
-    seglink_speed same = seglink_speed_from_sheet(sheet, sheet_len, train, 0);
+    seglink_speed same = seglink_permitted_speed(SEGLINK_KIND_SHEET, sheet, sheet_len, train, 0);
     printf("From the sheet the answer is %u km/h (refusal %u).\n", (unsigned)same.speed, (unsigned)same.refusal);
 }
 
