@@ -1,4 +1,4 @@
-// Both conversions of the static library, of segments and journeys, the intake, the questions' refusals and speeds by cant deficiency, called from C and held to packets, sheets, states, places and speeds that are written here from the build definition; timed with 'time'.
+// Both conversions of the static library, of segments and journeys, the intake, the questions' refusals, speeds by kind and by cant deficiency, called from C and held to packets, sheets, states, places and speeds that are written here from the build definition; timed with 'time'.
 #define _POSIX_C_SOURCE 200809L
 #include <stdio.h>
 #include <stdlib.h>
@@ -260,6 +260,30 @@ static void refuses(const char *name, conversion *convert, const struct bytes *i
         refuses(name, deliveries_to_sheet, in, refusal, place);
 }
 
+// Kinds that are neither 0 nor 1; the low bits of some are.
+static const uint32_t UNKNOWN_KINDS[] = {2, 3, 255, 256, 257, 65536, 65537, 0x80000000, 0x80000001, 0xFFFFFFFF};
+
+// The answer to the speed question about bytes of a kind.
+static void speed_asked(const char *name, uint32_t kind, const struct bytes *segment, seglink_train train, uint32_t x, seglink_speed wanted)
+{
+    char what[64];
+    seglink_speed got = seglink_permitted_speed(kind, segment->byte, segment->length, train, x);
+    snprintf(what, sizeof what, "the refusal of its speed as kind %u", (unsigned)kind);
+    check(name, what, got.refusal, wanted.refusal);
+    snprintf(what, sizeof what, "the place of its speed's refusal as kind %u", (unsigned)kind);
+    check(name, what, got.place, wanted.place);
+    snprintf(what, sizeof what, "its speed as kind %u", (unsigned)kind);
+    check(name, what, got.speed, wanted.speed);
+}
+
+// The same of its own kind; and an unknown kind is refused first of all, whatever that answer is.
+static void kinds_asked(const char *name, uint32_t kind, const struct bytes *segment, seglink_train train, uint32_t x, seglink_speed wanted)
+{
+    speed_asked(name, kind, segment, train, x, wanted);
+    for (size_t i = 0; i < sizeof UNKNOWN_KINDS / sizeof *UNKNOWN_KINDS; ++i)
+        speed_asked(name, UNKNOWN_KINDS[i], segment, train, x, (seglink_speed){15, 0, 0});
+}
+
 // The questions refuse before they look at the train, which is not allowed here.
 static const seglink_train NO_TRAIN = {.length = 0, .cant = 0};
 
@@ -269,18 +293,12 @@ static void packet_asked(const char *name, const struct bytes *packet, uint32_t 
     check(name, "the refusal of its altitude", altitude.refusal, refusal);
     check(name, "the place of its altitude's refusal", altitude.place, place);
     check(name, "its altitude", (size_t)altitude.altitude, 0);
-    seglink_speed speed = seglink_speed_from_packet(packet->byte, packet->length, NO_TRAIN, 0);
-    check(name, "the refusal of a speed from its packet", speed.refusal, refusal);
-    check(name, "the place of that refusal", speed.place, place);
-    check(name, "its speed from its packet", speed.speed, 0);
+    kinds_asked(name, SEGLINK_KIND_PACKET, packet, NO_TRAIN, 0, (seglink_speed){refusal, place, 0});
 }
 
 static void sheet_asked(const char *name, const struct bytes *sheet, uint32_t refusal, uint32_t place)
 {
-    seglink_speed speed = seglink_speed_from_sheet(sheet->byte, sheet->length, NO_TRAIN, 0);
-    check(name, "the refusal of a speed from its sheet", speed.refusal, refusal);
-    check(name, "the place of that refusal", speed.place, place);
-    check(name, "its speed from its sheet", speed.speed, 0);
+    kinds_asked(name, SEGLINK_KIND_SHEET, sheet, NO_TRAIN, 0, (seglink_speed){refusal, place, 0});
 }
 
 // A segment or a journey both ways: converted where the refusal is 0, else refused with it at a field.
@@ -973,27 +991,45 @@ static const struct { const char *name; uint8_t count; const char *entries; size
     {"a lower figure, and passenger lower", BESIDE_CATEGORIES, {.length = 200, .cant = 150, .passenger = true}, 104, 100},
 };
 
-static void answers(const char *name, const char *medium, seglink_speed got, uint32_t wanted)
-{
-    char what[64];
-    snprintf(what, sizeof what, "the refusal of the speed from its %s", medium);
-    check(name, what, got.refusal, 0);
-    snprintf(what, sizeof what, "the speed from its %s", medium);
-    check(name, what, got.speed, wanted);
-}
-
 static void speeds_by_cant(void)
 {
-    uint8_t packet[SEGLINK_LARGEST_PACKET];
     for (size_t i = 0; i < sizeof BY_CANT / sizeof *BY_CANT; ++i) {
-        struct bytes sheet = desk_sheet;
+        struct bytes sheet = desk_sheet, packet;
         sheet.byte[18] = BY_CANT[i].count;
         memcpy(sheet.byte + 19, BY_CANT[i].entries, BY_CANT[i].length);
         sheet.length += BY_CANT[i].length;
-        seglink_converted made = seglink_sheet_to_packet(sheet.byte, sheet.length, packet, sizeof packet);
+        seglink_converted made = seglink_sheet_to_packet(sheet.byte, sheet.length, packet.byte, sizeof packet.byte);
+        packet.length = made.length;
         check(BY_CANT[i].name, "the refusal of its packet", made.refusal, 0);
-        answers(BY_CANT[i].name, "sheet", seglink_speed_from_sheet(sheet.byte, sheet.length, BY_CANT[i].train, 0), BY_CANT[i].sheet);
-        answers(BY_CANT[i].name, "packet", seglink_speed_from_packet(packet, made.length, BY_CANT[i].train, 0), BY_CANT[i].packet);
+        kinds_asked(BY_CANT[i].name, SEGLINK_KIND_SHEET, &sheet, BY_CANT[i].train, 0, (seglink_speed){0, 0, BY_CANT[i].sheet});
+        kinds_asked(BY_CANT[i].name, SEGLINK_KIND_PACKET, &packet, BY_CANT[i].train, 0, (seglink_speed){0, 0, BY_CANT[i].packet});
+    }
+}
+
+// ---- Speeds by kind
+
+// A packet of 81,924 cm and 105 km/h, and a sheet of 100 cm and 84 km/h with five entries for freight P.
+static const struct bytes packet_and_sheet = {
+    39, {0x06, 0x00, 0xB9, 0x01, 0x00, 0x00, 0x07, 0x00, 0x00, 0x00, 0x00, 0x64, 0x00, 0x00, 0x00, 0x54, 0x00, 0x05,
+         0x01, 0x00, 0x50, 0x01, 0x00, 0x50, 0x01, 0x00, 0x50, 0x01, 0x00, 0x50, 0x01, 0x01, 0x50, 0, 0, 0, 0, 0, 0}};
+
+// What is asked as a packet and as a sheet; a train that is not allowed comes before x.
+static const struct { const char *name; const struct bytes *asked; seglink_train train; uint32_t x; seglink_speed packet, sheet; } BY_KIND[] = {
+    {"a packet that is a sheet too, at 0", &packet_and_sheet, MM(150), 0, {0, 0, 105}, {0, 0, 84}},
+    {"a packet that is a sheet too, freight P", &packet_and_sheet, {.length = 200, .cant = 150, .freight_p = true}, 0, {0, 0, 105}, {0, 0, 80}},
+    {"a packet that is a sheet too, at 99", &packet_and_sheet, MM(150), 99, {0, 0, 105}, {0, 0, 84}},
+    {"a packet that is a sheet too, at 100", &packet_and_sheet, MM(150), 100, {0, 0, 105}, {11, 0, 0}},
+    {"a packet that is a sheet too, at 81,924", &packet_and_sheet, MM(150), 81924, {11, 0, 0}, {11, 0, 0}},
+    {"a packet that is a sheet too, with 151 mm", &packet_and_sheet, MM(151), 81924, {10, 0, 0}, {10, 0, 0}},
+    {"the desk packet", &desk_packet, MM(150), 0, {0, 0, 80}, {9, 2, 0}},
+    {"the desk sheet", &desk_sheet, MM(150), 0, {3, 0, 0}, {0, 0, 80}},
+};
+
+static void speeds_by_kind(void)
+{
+    for (size_t i = 0; i < sizeof BY_KIND / sizeof *BY_KIND; ++i) {
+        speed_asked(BY_KIND[i].name, SEGLINK_KIND_PACKET, BY_KIND[i].asked, BY_KIND[i].train, BY_KIND[i].x, BY_KIND[i].packet);
+        kinds_asked(BY_KIND[i].name, SEGLINK_KIND_SHEET, BY_KIND[i].asked, BY_KIND[i].train, BY_KIND[i].x, BY_KIND[i].sheet);
     }
 }
 
@@ -1485,6 +1521,7 @@ static int all_checks(struct fields *s)
     damaged_packets();
     damaged_sheets();
     speeds_by_cant();
+    speeds_by_kind();
     journeys(s);
     intakes();
     printf("%u passed, %u failed\n", passed, failed);
