@@ -43,8 +43,7 @@ struct State {
 extern "C" {
     fn seglink_packet_to_sheet(packet: *const u8, packet_len: usize, room: *mut u8, room_len: usize) -> Converted;
     fn seglink_sheet_to_packet(sheet: *const u8, sheet_len: usize, room: *mut u8, room_len: usize) -> Converted;
-    fn seglink_speed_from_packet(packet: *const u8, packet_len: usize, train: Card, x: u32) -> Speed;
-    fn seglink_speed_from_sheet(sheet: *const u8, sheet_len: usize, train: Card, x: u32) -> Speed;
+    fn seglink_permitted_speed(kind: u32, segment: *const u8, segment_len: usize, train: Card, x: u32) -> Speed;
     fn seglink_altitude_of_packet(packet: *const u8, packet_len: usize) -> Altitude;
     fn seglink_intake_fresh() -> State;
     fn seglink_intake_deliver(intake: State, delivery: *const u8, delivery_len: usize, room: *mut u8, room_len: usize) -> State;
@@ -64,12 +63,10 @@ impl Program for Archive {
         converted(unsafe { seglink_sheet_to_packet(sheet.as_ptr(), sheet.len(), room.as_mut_ptr(), room.len()) })
     }
 
-    fn speed_from_packet(packet: &[u8], train: &Train, x: u32) -> Answer {
-        speed(unsafe { seglink_speed_from_packet(packet.as_ptr(), packet.len(), card(train), x) })
-    }
-
-    fn speed_from_sheet(sheet: &[u8], train: &Train, x: u32) -> Answer {
-        speed(unsafe { seglink_speed_from_sheet(sheet.as_ptr(), sheet.len(), card(train), x) })
+    fn permitted_speed(kind: u32, segment: &[u8], train: &Train, x: u32) -> Answer {
+        let asked = unsafe { seglink_permitted_speed(kind, segment.as_ptr(), segment.len(), card(train), x) };
+        let Speed { refusal, place, speed } = asked;
+        Answer { refusal, place, value: speed.into() }
     }
 
     fn altitude_of_packet(packet: &[u8]) -> Answer {
@@ -98,10 +95,6 @@ impl Program for Archive {
 
 fn converted(Converted { refusal, place, length }: Converted) -> Answer {
     Answer { refusal, place, value: length.into() }
-}
-
-fn speed(Speed { refusal, place, speed }: Speed) -> Answer {
-    Answer { refusal, place, value: speed.into() }
 }
 
 fn card(train: &Train) -> Card {

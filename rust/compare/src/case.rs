@@ -165,6 +165,15 @@ fn any_cant(random: &mut Random, named: &[u32]) -> u32 {
     CANTS[(place as usize).min(CANTS.len() - 1)]
 }
 
+/// A kind: 0 to 3, or a larger one, whose low bits may be 0 or 1.
+pub fn any_kind(random: &mut Random) -> u32 {
+    match random.between(0, 5) {
+        4 => random.pick(&[255, 256, 257, 65_536, 65_537, 0x8000_0000, 0x8000_0001, u32::MAX]),
+        5 => random.of_any_size(),
+        small => small,
+    }
+}
+
 /// A location: about a mark plus the train's length, about a mark, from 0 to L_SP or anywhere.
 pub fn any_location(random: &mut Random, marks: &[u32], train: &Train) -> u32 {
     let mark = random.pick(marks);

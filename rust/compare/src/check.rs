@@ -1,9 +1,10 @@
 //! One case put to both programs, and the customer's demands looked at directly.
 
 use crate::archive::Archive;
-use crate::case::{any_location, any_train, Case};
+use crate::case::{any_kind, any_location, any_train, Case};
+use crate::event::Event;
 use crate::lowered::lowered;
-use crate::program::{Answer, Operation, Program, Question, Train, JOURNEY};
+use crate::program::{Answer, Operation, Program, Question, Train, JOURNEY, KIND_PACKET, KIND_SHEET, UNKNOWN_KIND};
 use crate::random::Random;
 use crate::rooms::Rooms;
 use crate::second_program::Second;
@@ -91,7 +92,8 @@ fn converted(convert: fn(&[u8], &mut [u8]) -> Answer, input: &[u8], size: usize)
     (answer.refusal == 0).then_some(room)
 }
 
-/// The speeds at one location; from the packet of a sheet, the greatest multiple of 5 not above the sheet's.
+/// The speeds at one location; from the packet of a sheet, the greatest multiple of 5 not above the sheet's. Then the packet or the sheet
+/// as any kind: an unknown one is refused first of all.
 fn speeds(
     random: &mut Random,
     case: &Case,
@@ -99,21 +101,39 @@ fn speeds(
     (train, x): (Train, u32),
     tally: &mut Tally,
 ) -> Result<(), String> {
-    let ask = |operation, input| Question { operation, input, train: train.clone(), x };
-    let by_packet = compare(random, &ask(Operation::SpeedFromPacket, &case.packet), 0, tally)?;
-    let by_sheet = compare(random, &ask(Operation::SpeedFromSheet, &case.sheet), 0, tally)?;
+    let ask = |kind, input| Question { operation: Operation::PermittedSpeed(kind), input, train: train.clone(), x };
+    let by_packet = compare(random, &ask(KIND_PACKET, &case.packet), 0, tally)?;
+    let by_sheet = compare(random, &ask(KIND_SHEET, &case.sheet), 0, tally)?;
     if let Some(draft) = case.whole.as_ref().filter(|_| by_sheet.refusal == 0) {
         let rest = draft.without_lower(train.cant);
         let (packet, sheet) = (rest.packet(), rest.sheet());
-        tally.count_fall(Operation::SpeedFromPacket, by_packet != Second::speed_from_packet(&packet, &train, x));
-        tally.count_fall(Operation::SpeedFromSheet, by_sheet != Second::speed_from_sheet(&sheet, &train, x));
+        tally.count_fall(KIND_PACKET, by_packet != Second::permitted_speed(KIND_PACKET, &packet, &train, x));
+        tally.count_fall(KIND_SHEET, by_sheet != Second::permitted_speed(KIND_SHEET, &sheet, &train, x));
     }
     if let Some(packet) = packet {
-        let by_packet = Archive::speed_from_packet(packet, &train, x);
+        let by_packet = Archive::permitted_speed(KIND_PACKET, packet, &train, x);
         let lowered = Answer { value: by_sheet.value / 5 * 5, ..by_sheet };
         require(by_packet == lowered, "the speed from a sheet's packet is not the lowered speed from the sheet")?;
     }
+    let (kind, (input, own)) = (any_kind(random), random.pick(&[(&case.packet, by_packet), (&case.sheet, by_sheet)]));
+    let answer = compare(random, &ask(kind, input), 0, tally)?;
+    if kind >= UNKNOWN_KIND {
+        require(answer == Answer::refused(15, 0), "an unknown kind is not refused with 15")?;
+        count_unknown(kind, &own, tally);
+    }
     Ok(())
+}
+
+/// A question of an unknown kind, by what the own kind of its bytes answers.
+fn count_unknown(kind: u32, own: &Answer, tally: &mut Tally) {
+    tally.count_events(&[
+        (Event::UnknownSmall, kind <= 3),
+        (Event::UnknownLarge, kind > 3),
+        (Event::UnknownAnswered, own.refusal == 0),
+        (Event::UnknownSegment, ![0, 10, 11].contains(&own.refusal)),
+        (Event::UnknownTrain, own.refusal == 10),
+        (Event::UnknownLocation, own.refusal == 11),
+    ]);
 }
 
 pub fn require(holds: bool, otherwise: &str) -> Result<(), String> {

@@ -3,8 +3,9 @@
 use crate::desk_cants;
 use crate::desk_constraints;
 use crate::desk_journeys;
+use crate::desk_kinds;
 use crate::draft::{Draft, Kind};
-use crate::program::{Answer, Operation, Question, Train};
+use crate::program::{Answer, Operation, Question, Train, KIND_PACKET, KIND_SHEET};
 
 /// An operation's question, the size of its room, and its answer.
 #[derive(Clone)]
@@ -147,8 +148,10 @@ pub fn cases() -> Vec<Desk> {
     questions(&mut cases);
     speeds(&mut cases);
     desk_cants::speeds(&mut cases);
+    desk_kinds::speeds(&mut cases);
     cases.extend(desk_journeys::cases());
     cases.extend(desk_constraints::cases());
+    desk_kinds::unknown(&mut cases);
     taken(&mut cases);
     cases
 }
@@ -165,6 +168,10 @@ pub fn packet(name: &'static str, packet: Vec<u8>, answer: Answer) -> Desk {
 
 pub fn sheet(name: &'static str, sheet: Vec<u8>, answer: Answer) -> Desk {
     converts(name, Operation::SheetToPacket, sheet, answer)
+}
+
+pub fn speed(name: &'static str, kind: u32, input: Vec<u8>, (train, x): (&Train, u32), answer: Answer) -> Desk {
+    Desk { name, operation: Operation::PermittedSpeed(kind), input, room: 0, train: train.clone(), x, answer }
 }
 
 /// A draft's packet and sheet, each of which makes the other.
@@ -266,8 +273,8 @@ fn questions(cases: &mut Vec<Desk>) {
     let mut asked = Vec::new();
     for case in cases.iter().filter(|case| ![0, 8].contains(&case.answer.refusal) && !case.question().is_journey()) {
         let operations: &[Operation] = match case.operation {
-            Operation::PacketToSheet => &[Operation::SpeedFromPacket, Operation::AltitudeOfPacket],
-            _ => &[Operation::SpeedFromSheet],
+            Operation::PacketToSheet => &[Operation::PermittedSpeed(KIND_PACKET), Operation::AltitudeOfPacket],
+            _ => &[Operation::PermittedSpeed(KIND_SHEET)],
         };
         for operation in operations {
             let refused = converts(case.name, *operation, case.input.clone(), case.answer);
@@ -306,9 +313,7 @@ fn speeds(cases: &mut Vec<Desk>) {
 pub fn both_speeds(cases: &mut Vec<Desk>, name: &'static str, plan: Plan, (train, x): (&Train, u32), answer: Answer) {
     let draft = draft(plan);
     let lowered = Answer { value: answer.value / 5 * 5, ..answer };
-    for (operation, input, answer) in
-        [(Operation::SpeedFromPacket, draft.packet(), lowered), (Operation::SpeedFromSheet, draft.sheet(), answer)]
-    {
-        cases.push(Desk { name, operation, input, room: 0, train: train.clone(), x, answer });
+    for (kind, input, answer) in [(KIND_PACKET, draft.packet(), lowered), (KIND_SHEET, draft.sheet(), answer)] {
+        cases.push(speed(name, kind, input, (train, x), answer));
     }
 }

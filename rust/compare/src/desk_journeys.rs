@@ -3,7 +3,7 @@
 use crate::desk::{accepted, packet, refused, rooms, sheet, Desk};
 use crate::draft::{Constraint, Draft, Kind};
 use crate::journeys::{Size, LONGEST, LONGEST_UNCONSTRAINED};
-use crate::program::{Answer, Operation, Train};
+use crate::program::{Answer, Operation, Train, KIND_PACKET, KIND_SHEET};
 
 /// The last eight fields of a timing point: their widths, and their largest values where the train does not pass.
 const HALT: [(u32, u32); 8] = [(2, 3), (1, 1), (1, 1), (1, 1), (15, 32_767), (17, 86_399), (10, 1_023), (1, 1)];
@@ -187,12 +187,12 @@ fn questions(cases: &mut Vec<Desk>) {
     let train = Train { length: 0, cant: 0, freight_p: false, freight_g: false, passenger: false };
     let (bytes, numbers) = (passing().packet(), passing().sheet());
     for (operation, input) in [
-        (Operation::SpeedFromPacket, bytes.clone()),
+        (Operation::PermittedSpeed(KIND_PACKET), bytes.clone()),
         (Operation::AltitudeOfPacket, bytes.clone()),
-        (Operation::SpeedFromPacket, bytes[..16].to_vec()),
+        (Operation::PermittedSpeed(KIND_PACKET), bytes[..16].to_vec()),
         (Operation::AltitudeOfPacket, bytes[..16].to_vec()),
-        (Operation::SpeedFromSheet, numbers),
-        (Operation::SpeedFromSheet, vec![4]),
+        (Operation::PermittedSpeed(KIND_SHEET), numbers),
+        (Operation::PermittedSpeed(KIND_SHEET), vec![4]),
     ] {
         let answer = Answer::refused(2, 0);
         cases.push(Desk { name: "a question about a journey", operation, input, room: 0, train: train.clone(), x: 0, answer });

@@ -1,4 +1,5 @@
-//! What can happen to an intake in the random sequences and states: each kind is counted, and must happen.
+//! What can happen to an intake in the random sequences and states, and to a random speed question of an unknown kind: each is counted, and
+//! must happen.
 
 #[derive(Clone, Copy)]
 pub enum Event {
@@ -38,10 +39,16 @@ pub enum Event {
     WildLengthAsked,
     WildRefusal,
     WildSheet,
+    UnknownSmall,
+    UnknownLarge,
+    UnknownAnswered,
+    UnknownSegment,
+    UnknownTrain,
+    UnknownLocation,
 }
 
 /// Each with its words, in the order of the type.
-pub const EVENTS: [(Event, &str); 36] = [
+pub const EVENTS: [(Event, &str); 42] = [
     (Event::InParts, "packets accepted in several deliveries"),
     (Event::ByteByByte, "packets accepted byte by byte"),
     (Event::NothingOnTheWay, "deliveries of no bytes before a completion"),
@@ -78,4 +85,10 @@ pub const EVENTS: [(Event, &str); 36] = [
     (Event::WildLengthAsked, "questions with a length past the room's end: 14"),
     (Event::WildRefusal, "questions in a state with a number that is no refusal: that number"),
     (Event::WildSheet, "sheets given in a state that no call returned"),
+    (Event::UnknownSmall, "speed questions of kind 2 or 3: 15"),
+    (Event::UnknownLarge, "speed questions of a larger kind: 15"),
+    (Event::UnknownAnswered, "speed questions of an unknown kind that its own would answer: 15"),
+    (Event::UnknownSegment, "speed questions of an unknown kind about a segment that is refused: 15"),
+    (Event::UnknownTrain, "speed questions of an unknown kind with a train that is not allowed: 15"),
+    (Event::UnknownLocation, "speed questions of an unknown kind at or past L_SP: 15"),
 ];

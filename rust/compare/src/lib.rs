@@ -9,6 +9,7 @@ pub mod desk_cants;
 pub mod desk_constraints;
 pub mod desk_intakes;
 pub mod desk_journeys;
+pub mod desk_kinds;
 pub mod draft;
 pub mod event;
 pub mod intakes;

@@ -1,6 +1,6 @@
 //! What both programs answer: the operations, and a question that is handed to either.
 
-pub use second::{Intake, Train};
+pub use second::{Intake, Train, KIND_PACKET, KIND_SHEET};
 
 /// The packet number of a journey.
 pub const JOURNEY: u8 = 4;
@@ -23,6 +23,9 @@ impl Answer {
     }
 }
 
+/// The refusals are 1 to 15; this number and those past it are none.
+pub const NO_REFUSAL: u32 = 16;
+
 /// The refusals that are given at a bit or a byte; the place of every other is 0.
 pub const PLACED: [u32; 6] = [4, 5, 6, 7, 9, 13];
 
@@ -30,8 +33,8 @@ pub const PLACED: [u32; 6] = [4, 5, 6, 7, 9, 13];
 pub enum Operation {
     PacketToSheet,
     SheetToPacket,
-    SpeedFromPacket,
-    SpeedFromSheet,
+    /// About a segment of this kind.
+    PermittedSpeed(u32),
     AltitudeOfPacket,
     /// The verdict on a packet that an intake took.
     Completion,
@@ -39,31 +42,46 @@ pub enum Operation {
     TakenSheet,
 }
 
-pub const OPERATIONS: [Operation; 7] = [
+/// The least kind that is neither a packet nor a sheet.
+pub const UNKNOWN_KIND: u32 = 2;
+
+/// The operations that are told apart: a speed by its kind, of which every unknown one is the same.
+pub const OPERATIONS: [Operation; 8] = [
     Operation::PacketToSheet,
     Operation::SheetToPacket,
-    Operation::SpeedFromPacket,
-    Operation::SpeedFromSheet,
+    Operation::PermittedSpeed(KIND_PACKET),
+    Operation::PermittedSpeed(KIND_SHEET),
+    Operation::PermittedSpeed(UNKNOWN_KIND),
     Operation::AltitudeOfPacket,
     Operation::Completion,
     Operation::TakenSheet,
 ];
 
 impl Operation {
+    /// The place among those that are told apart.
+    pub fn row(self) -> usize {
+        let told = match self {
+            Operation::PermittedSpeed(kind) => Operation::PermittedSpeed(kind.min(UNKNOWN_KIND)),
+            other => other,
+        };
+        OPERATIONS.iter().position(|operation| *operation == told).expect("each operation has its row")
+    }
+
     /// The refusals that the operation can give, and 0: of a journey's bytes, or of all others.
     pub fn refusals(self, journey: bool) -> &'static [u32] {
         match (self, journey) {
             (Operation::PacketToSheet | Operation::Completion, false) => &[0, 1, 2, 3, 4, 5, 6, 7, 8, 13],
             (Operation::SheetToPacket, false) => &[0, 2, 4, 5, 8, 9],
-            (Operation::SpeedFromPacket, false) => &[0, 1, 2, 3, 4, 5, 6, 7, 10, 11, 13],
-            (Operation::SpeedFromSheet, false) => &[0, 2, 4, 5, 9, 10, 11],
+            (Operation::PermittedSpeed(KIND_PACKET), false) => &[0, 1, 2, 3, 4, 5, 6, 7, 10, 11, 13],
+            (Operation::PermittedSpeed(KIND_SHEET), false) => &[0, 2, 4, 5, 9, 10, 11],
             (Operation::AltitudeOfPacket, false) => &[0, 1, 2, 3, 4, 5, 6, 7, 13],
             (Operation::TakenSheet, false) => &[0, 1, 2, 3, 4, 5, 6, 7, 8, 13, 14],
             (Operation::PacketToSheet | Operation::Completion, true) => &[0, 1, 3, 4, 5, 6, 7, 8, 13],
             (Operation::TakenSheet, true) => &[0, 1, 3, 4, 5, 6, 7, 8, 13, 14],
             (Operation::SheetToPacket, true) => &[0, 4, 5, 8, 9, 12],
-            (Operation::SpeedFromPacket | Operation::AltitudeOfPacket, true) => &[1, 2],
-            (Operation::SpeedFromSheet, true) => &[2],
+            (Operation::PermittedSpeed(KIND_PACKET) | Operation::AltitudeOfPacket, true) => &[1, 2],
+            (Operation::PermittedSpeed(KIND_SHEET), true) => &[2],
+            (Operation::PermittedSpeed(_), _) => &[15],
         }
     }
 }
@@ -92,8 +110,7 @@ impl<'a> Question<'a> {
 pub trait Program {
     fn packet_to_sheet(packet: &[u8], room: &mut [u8]) -> Answer;
     fn sheet_to_packet(sheet: &[u8], room: &mut [u8]) -> Answer;
-    fn speed_from_packet(packet: &[u8], train: &Train, x: u32) -> Answer;
-    fn speed_from_sheet(sheet: &[u8], train: &Train, x: u32) -> Answer;
+    fn permitted_speed(kind: u32, segment: &[u8], train: &Train, x: u32) -> Answer;
     fn altitude_of_packet(packet: &[u8]) -> Answer;
     fn fresh() -> Intake;
     fn deliver(intake: Intake, delivery: &[u8], room: &mut [u8]) -> Intake;
@@ -106,8 +123,7 @@ pub trait Program {
         match operation {
             Operation::PacketToSheet => Self::packet_to_sheet(input, room),
             Operation::SheetToPacket => Self::sheet_to_packet(input, room),
-            Operation::SpeedFromPacket => Self::speed_from_packet(input, train, *x),
-            Operation::SpeedFromSheet => Self::speed_from_sheet(input, train, *x),
+            Operation::PermittedSpeed(kind) => Self::permitted_speed(*kind, input, train, *x),
             Operation::AltitudeOfPacket => Self::altitude_of_packet(input),
             Operation::Completion => verdict(Self::taken(input, &mut vec![0; input.len()])),
             Operation::TakenSheet => {

@@ -14,12 +14,8 @@ impl Program for Second {
         answer(second::sheet_to_packet(sheet, room).map(|length| length as i64))
     }
 
-    fn speed_from_packet(packet: &[u8], train: &Train, x: u32) -> Answer {
-        answer(second::speed_from_packet(packet, train, x))
-    }
-
-    fn speed_from_sheet(sheet: &[u8], train: &Train, x: u32) -> Answer {
-        answer(second::speed_from_sheet(sheet, train, x))
+    fn permitted_speed(kind: u32, segment: &[u8], train: &Train, x: u32) -> Answer {
+        answer(second::permitted_speed(kind, segment, train, x))
     }
 
     fn altitude_of_packet(packet: &[u8]) -> Answer {

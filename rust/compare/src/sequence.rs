@@ -6,7 +6,7 @@ use crate::case::Case;
 use crate::check::{require, room_for, LARGEST_PACKET, LARGEST_SHEET};
 use crate::event::Event;
 use crate::intakes::{gathering, judged, Intakes, PASSED};
-use crate::program::{verdict, Answer, Intake, Operation, Program, Question};
+use crate::program::{verdict, Answer, Intake, Operation, Program, Question, NO_REFUSAL};
 use crate::random::Random;
 use crate::rooms::Rooms;
 use crate::second_program::Second;
@@ -14,8 +14,6 @@ use crate::tally::Tally;
 
 /// About the most deliveries of a packet.
 const DELIVERIES: usize = 60;
-/// The numbers past the refusals.
-const NO_REFUSAL: u32 = 15;
 
 /// What a question about the sheet must come to.
 enum Sheet {

@@ -1,14 +1,14 @@
 //! How often each operation gave each refusal and each success, and at how many places, for journeys apart from all else; how many
 //! speeds came by a lower cant deficiency than the train's; what the conversions answered about journeys with temporary constraints; and
-//! what happened to intakes.
+//! what happened to intakes and to speed questions of an unknown kind.
 
 use crate::event::{Event, EVENTS};
-use crate::program::{Answer, Operation, Question, OPERATIONS, PLACED};
+use crate::program::{Answer, Operation, Question, KIND_PACKET, KIND_SHEET, NO_REFUSAL, OPERATIONS, PLACED, UNKNOWN_KIND};
 use std::collections::BTreeSet;
 use std::fmt;
 
-/// The refusals are 1 to 14.
-const ANSWERS: usize = 15;
+/// 0, and the refusals.
+const ANSWERS: usize = NO_REFUSAL as usize;
 
 /// What one operation answered, about journeys or about all else.
 #[derive(Default)]
@@ -41,7 +41,7 @@ impl Default for Tally {
 
 impl Tally {
     pub fn count(&mut self, question: &Question, answer: &Answer) {
-        let row = &mut self.rows[usize::from(question.is_journey())][question.operation as usize];
+        let row = &mut self.rows[usize::from(question.is_journey())][question.operation.row()];
         let refusal = answer.refusal as usize;
         if refusal < ANSWERS {
             row.counts[refusal] += 1;
@@ -50,8 +50,8 @@ impl Tally {
     }
 
     /// A speed of a random whole segment, and whether it would be another without the entries of lower cant deficiencies than the train's.
-    pub fn count_fall(&mut self, operation: Operation, fallen: bool) {
-        let row = &mut self.rows[0][operation as usize];
+    pub fn count_fall(&mut self, kind: u32, fallen: bool) {
+        let row = &mut self.rows[0][Operation::PermittedSpeed(kind).row()];
         row.whole += 1;
         row.fallen += u64::from(fallen);
     }
@@ -59,7 +59,7 @@ impl Tally {
     /// An answer about a random journey whose constraints' fields begin at these bits of its packet and bytes of its sheet.
     pub fn count_constraints(&mut self, operation: Operation, places: &[(u32, u32)], answer: &Answer) {
         let at = |(bit, byte): &(u32, u32)| answer.place == if operation == Operation::SheetToPacket { *byte } else { *bit };
-        let row = &mut self.rows[1][operation as usize];
+        let row = &mut self.rows[1][operation.row()];
         row.constrained += u64::from(!places.is_empty());
         if let Some(nth) = CONSTRAINED_ANSWERS.iter().position(|refusal| *refusal == answer.refusal) {
             row.constrained_answers[nth] += u64::from(!places.is_empty() && (answer.refusal == 0 || places.iter().any(at)));
@@ -73,7 +73,7 @@ impl Tally {
 
     /// The answers that an operation can give and that were never met, or never at a place other than 0, each with its row; the speed
     /// questions of which no random one came by a lower cant deficiency; the conversions that never gave an answer about a constraint; what
-    /// never happened to an intake.
+    /// never happened to an intake or to a question of an unknown kind.
     pub fn missing(&self) -> Vec<String> {
         let mut missing = Vec::new();
         for (operation, journey) in rows() {
@@ -101,12 +101,12 @@ impl Tally {
     }
 
     fn row(&self, operation: Operation, journey: bool) -> &Row {
-        &self.rows[usize::from(journey)][operation as usize]
+        &self.rows[usize::from(journey)][operation.row()]
     }
 }
 
 const CONVERSIONS: [Operation; 2] = [Operation::PacketToSheet, Operation::SheetToPacket];
-const SPEED_OPERATIONS: [Operation; 2] = [Operation::SpeedFromPacket, Operation::SpeedFromSheet];
+const SPEED_OPERATIONS: [Operation; 2] = [Operation::PermittedSpeed(KIND_PACKET), Operation::PermittedSpeed(KIND_SHEET)];
 
 /// Each operation, asked about a journey or not.
 fn rows() -> impl Iterator<Item = (Operation, bool)> {
@@ -114,23 +114,27 @@ fn rows() -> impl Iterator<Item = (Operation, bool)> {
 }
 
 fn title(operation: Operation, journey: bool) -> String {
-    format!("{operation:?}{}", if journey { ", journey" } else { "" })
+    let journey = if journey { ", journey" } else { "" };
+    match operation {
+        Operation::PermittedSpeed(UNKNOWN_KIND) => format!("PermittedSpeed({UNKNOWN_KIND}..){journey}"),
+        other => format!("{other:?}{journey}"),
+    }
 }
 
 impl fmt::Display for Tally {
     fn fmt(&self, f: &mut fmt::Formatter) -> fmt::Result {
-        write!(f, "{:27}{:>9}", "answers", "accepted")?;
+        write!(f, "{:29}{:>9}", "answers", "accepted")?;
         (1..ANSWERS).try_for_each(|refusal| write!(f, "{refusal:>8}"))?;
         for (operation, journey) in rows() {
-            write!(f, "\n{:27}", title(operation, journey))?;
+            write!(f, "\n{:29}", title(operation, journey))?;
             let counts = self.row(operation, journey).counts;
             write!(f, "{:>9}", counts[0])?;
             counts[1..].iter().try_for_each(|count| write!(f, "{count:>8}"))?;
         }
-        write!(f, "\n{:36}", "places other than 0")?;
+        write!(f, "\n{:38}", "places other than 0")?;
         PLACED.iter().try_for_each(|refusal| write!(f, "{refusal:>8}"))?;
         for (operation, journey) in rows() {
-            write!(f, "\n{:36}", title(operation, journey))?;
+            write!(f, "\n{:38}", title(operation, journey))?;
             let places = &self.row(operation, journey).places;
             PLACED.iter().try_for_each(|refusal| write!(f, "{:>8}", places[*refusal as usize].len()))?;
         }

@@ -3,14 +3,13 @@
 use crate::check::LARGEST_SHEET;
 use crate::event::Event;
 use crate::intakes::Intakes;
-use crate::program::Intake;
+use crate::program::{Intake, NO_REFUSAL};
 use crate::random::Random;
 use crate::rooms::Rooms;
 use crate::tally::Tally;
 
-/// The highest phase and the highest refusal.
+/// The highest phase.
 const JUDGED: u32 = 2;
-const EARLY: u32 = 14;
 
 /// One call of each kind, all in one state, with a room that begins with the packet as far as it reaches.
 pub fn check(random: &mut Random, packet: &[u8], tally: &mut Tally) -> Result<(), String> {
@@ -81,7 +80,7 @@ fn asked(intakes: &Intakes, taken: usize, mut lent: Rooms, tally: &mut Tally) ->
     tally.count_events(&[
         (Event::WildPhaseAsked, phase > JUDGED),
         (Event::WildLengthAsked, judged && length as usize > taken),
-        (Event::WildRefusal, phase == JUDGED && refusal > EARLY),
+        (Event::WildRefusal, phase == JUDGED && refusal >= NO_REFUSAL),
         (Event::WildSheet, judged && place > 0 && answer.refusal == 0),
     ]);
     Ok(())
