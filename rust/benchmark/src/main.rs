@@ -10,7 +10,7 @@ mod measure;
 use compare::archive::Archive;
 use compare::draft::{Draft, Kind};
 use compare::journeys::{journey, spread, Size, LONGEST, LONGEST_UNCONSTRAINED};
-use compare::program::{Operation, Program, Question, Train};
+use compare::program::{Operation, Program, Question, Train, KIND_PACKET, KIND_SHEET};
 use compare::random::Random;
 use compare::second_program::Second;
 use compare::segments::{segment, Sizes, LARGEST, SMALLEST};
@@ -38,8 +38,8 @@ const TRAIN: Train = Train { length: 20_000, cant: 150, freight_p: false, freigh
 const OPERATIONS: [(Operation, &str); 4] = [
     (Operation::PacketToSheet, "packet to sheet"),
     (Operation::SheetToPacket, "sheet to packet"),
-    (Operation::SpeedFromPacket, "speed from packet"),
-    (Operation::SpeedFromSheet, "speed from sheet"),
+    (Operation::PermittedSpeed(KIND_PACKET), "speed from packet"),
+    (Operation::PermittedSpeed(KIND_SHEET), "speed from sheet"),
 ];
 const CONVERSIONS: usize = 2;
 
@@ -93,7 +93,7 @@ fn rows(name: &str, drafts: &[Draft], segments: bool) {
     println!("{:>14}{:>12}{:>8}{:>14}{:>12}{:>8}", "second ns", "ns a field", "ratio", "asn1c ns", "ns a field", "ratio");
     for (operation, title) in OPERATIONS.into_iter().take(if segments { OPERATIONS.len() } else { CONVERSIONS }) {
         let inputs = match operation {
-            Operation::PacketToSheet | Operation::SpeedFromPacket => &packets,
+            Operation::PacketToSheet | Operation::PermittedSpeed(KIND_PACKET) => &packets,
             _ => &sheets,
         };
         let questions = drafts.iter().zip(inputs).map(|(draft, input)| question(operation, draft, input)).collect::<Vec<_>>();
