@@ -12,10 +12,10 @@ use Rattle.segment.specs.Judgement.{fromPacket, fromSheet, toPacket, toSheet}
 use Rattle.journey.specs.Journey.{journeyBody}
 use Rattle.link.specs.Link.{linkFields, fromEitherPacket, fromEitherSheet, toEitherPacket, toEitherSheet}
 use Rattle.convert.specs.Convert.{packetToSheet, sheetToPacket}
-use Rattle.question.specs.Question.{speedFromPacket, speedFromSheet}
+use Rattle.question.specs.Question.{permittedSpeed}
 use Rattle.altitude.specs.Altitude.{altitudeOf}
 use Rattle.desk.specs.Desk.{desk}
 
 pub desk-holds : map (λ c. c .said) desk ≡ map (λ c. c .due) desk
-unfolding fieldAt numberOf groupsIn digits place entries changes lists body fields sheetFields fromPacket fromSheet toPacket toSheet times journeyBody linkFields fromEitherPacket fromEitherSheet toEitherPacket toEitherSheet packetToSheet sheetToPacket speedFromPacket speedFromSheet altitudeOf
+unfolding fieldAt numberOf groupsIn digits place entries changes lists body fields sheetFields fromPacket fromSheet toPacket toSheet times journeyBody linkFields fromEitherPacket fromEitherSheet toEitherPacket toEitherSheet packetToSheet sheetToPacket permittedSpeed altitudeOf
 desk-holds = refl

@@ -4,12 +4,12 @@ use mathlib.Core.List.{List, [], _∷_, _++_, map}
 use Prim.Native.Nat.{ℕ, _+_}
 use lib.IntN.{pos, negsuc}
 use lib.ListN.{length, replicate}
-use Rattle.segment.specs.Desk.{Question, askSheetOf, askPacketOf, Reply, bytes, refusal, firstPacket, conversions}
+use Rattle.segment.specs.Desk.{Question, askSheetOf, askPacketOf, Reply, bytes, refusal, firstPacket, firstSheet, conversions}
 use Rattle.speed.specs.declared.Train.{Train}
 use Rattle.speed.specs.Desk.{plain, canted}
 use Rattle.convert.specs.Convert.{Outcome, packetToSheet, sheetToPacket}
 use Rattle.question.specs.declared.Speed.{Speed}
-use Rattle.question.specs.Question.{speedFromPacket, speedFromSheet}
+use Rattle.question.specs.Question.{permittedSpeed}
 use Rattle.altitude.specs.declared.Altitude.{Altitude}
 use Rattle.altitude.specs.Altitude.{altitudeOf}
 
@@ -50,13 +50,13 @@ changeSheet front next =
 abbrev pub changePacket : ℕ → ℕ → List ℕ
 changePacket front next = sheetToPacket (changeSheet front next) (room 43) .room
 
--- "a 200 cm train gets": from the sheet
-abbrev pub getsFromSheet : ℕ → ℕ → ℕ → ℕ → Case
-getsFromSheet front next x v = record { said = speedSaid (speedFromSheet (changeSheet front next) plain x); due = speedSaid (record { refusal = 0; place = 0; speed = v }) }
+-- "a 200 cm train gets": from a packet, 0, or a sheet, 1
+abbrev pub gets : ℕ → List ℕ → ℕ → ℕ → Case
+gets kind s x v = record { said = speedSaid (permittedSpeed kind s plain x); due = speedSaid (record { refusal = 0; place = 0; speed = v }) }
 
--- "a 200 cm train gets": from its packet
-abbrev pub getsFromPacket : ℕ → ℕ → ℕ → ℕ → Case
-getsFromPacket front next x v = record { said = speedSaid (speedFromPacket (changePacket front next) plain x); due = speedSaid (record { refusal = 0; place = 0; speed = v }) }
+-- a question that is refused with r
+abbrev pub refusedSpeed : ℕ → List ℕ → ℕ → ℕ → Case
+refusedSpeed kind s x r = record { said = speedSaid (permittedSpeed kind s plain x); due = speedSaid (record { refusal = r; place = 0; speed = 0 }) }
 
 -- ---- A4: "Cant deficiency falls to the next lower class"
 
@@ -84,13 +84,13 @@ told cant question v = record { said = speedSaid (question (canted cant) 0); due
 abbrev pub cants : List Case
 cants =
     -- "A 150 mm train with entries for 100 and 165 uses the 100 entry"
-    told 150 (speedFromSheet twoSheet) 120 ∷ told 150 (speedFromPacket (sheetToPacket twoSheet (room 42) .room)) 120
+    told 150 (permittedSpeed 1 twoSheet) 120 ∷ told 150 (permittedSpeed 0 (sheetToPacket twoSheet (room 42) .room)) 120
     -- its own beside a lower one, and none at or below its own
-    ∷ told 165 (speedFromSheet twoSheet) 140 ∷ told 165 (speedFromPacket (sheetToPacket twoSheet (room 42) .room)) 140
-    ∷ told 80 (speedFromSheet twoSheet) 100 ∷ told 80 (speedFromPacket (sheetToPacket twoSheet (room 42) .room)) 100
+    ∷ told 165 (permittedSpeed 1 twoSheet) 140 ∷ told 165 (permittedSpeed 0 (sheetToPacket twoSheet (room 42) .room)) 140
+    ∷ told 80 (permittedSpeed 1 twoSheet) 100 ∷ told 80 (permittedSpeed 0 (sheetToPacket twoSheet (room 42) .room)) 100
     -- "the lowest speed of them", in fives from the packet
-    ∷ told 150 (speedFromSheet severalSheet) 112 ∷ told 150 (speedFromPacket (sheetToPacket severalSheet (room 47) .room)) 110
-    ∷ told 130 (speedFromSheet severalSheet) 112 ∷ told 130 (speedFromPacket (sheetToPacket severalSheet (room 47) .room)) 110
+    ∷ told 150 (permittedSpeed 1 severalSheet) 112 ∷ told 150 (permittedSpeed 0 (sheetToPacket severalSheet (room 47) .room)) 110
+    ∷ told 130 (permittedSpeed 1 severalSheet) 112 ∷ told 130 (permittedSpeed 0 (sheetToPacket severalSheet (room 47) .room)) 110
     ∷ []
 
 -- ---- A1: "the journey on the same link, as packet number 4"
@@ -116,8 +116,7 @@ journeys =
     converts (askSheetOf journeyPacket) (bytes journeySheetBytes) ∷ converts (askPacketOf journeySheetBytes) (bytes journeyPacket)
     -- "2 now means neither 4 nor 6, or 4 where a segment is needed (the conversions take both)"
     ∷ refusedSheet (0x05 ∷ replicate 7 0) 2 0
-    ∷ record { said = speedSaid (speedFromPacket journeyPacket plain 0); due = speedSaid (record { refusal = 2; place = 0; speed = 0 }) }
-    ∷ record { said = speedSaid (speedFromSheet journeySheetBytes plain 0); due = speedSaid (record { refusal = 2; place = 0; speed = 0 }) }
+    ∷ refusedSpeed 0 journeyPacket 0 2 ∷ refusedSpeed 1 journeySheetBytes 0 2
     ∷ record { said = altitudeSaid (altitudeOf journeyPacket); due = altitudeSaid (record { refusal = 2; place = 0; altitude = pos 0 }) }
     -- "Latest arrival seconds reach 86,400"
     ∷ refusedSheet (pointSheet (0x80 ∷ 0xA3 ∷ 0x05 ∷ []) 0 (replicate 9 0)) 8 0 ∷ refusedSheet (pointSheet (0x81 ∷ 0xA3 ∷ 0x05 ∷ []) 0 (replicate 9 0)) 4 16
@@ -189,13 +188,16 @@ desk =
     map (λ c. converts (c .ask) (c .answer)) conversions
     -- "is accepted: 39 bytes, length 1 cm, altitude -100,000, 80 km/h, no current limit"
     ++ record { said = altitudeSaid (altitudeOf firstPacket); due = altitudeSaid (record { refusal = 0; place = 0; altitude = negsuc 99999 }) }
-    ∷ record { said = speedSaid (speedFromPacket firstPacket plain 0); due = speedSaid (record { refusal = 0; place = 0; speed = 80 }) }
-    ∷ record { said = speedSaid (speedFromPacket firstPacket plain 1); due = speedSaid (record { refusal = 11; place = 0; speed = 0 }) }
+    ∷ gets 0 firstPacket 0 80 ∷ refusedSpeed 0 firstPacket 1 11
+    -- A7: "15, first of all, for a kind that is neither", where 0 is answered, refused with 1, or with 11
+    ∷ refusedSpeed 2 firstPacket 0 15 ∷ refusedSpeed 4294967295 firstPacket 0 15 ∷ refusedSpeed 2 [] 0 15 ∷ refusedSpeed 4294967295 firstPacket 1 15
+    -- "whether it brings a packet or a sheet": a sheet, and the same bytes as a packet
+    ∷ gets 1 firstSheet 0 80 ∷ refusedSpeed 0 firstSheet 0 3
     -- "a 200 cm train gets 100 at 699 and 140 at 700. With Q_FRONT 1 it gets 140 at 500"
-    ∷ getsFromSheet 0 0 699 100 ∷ getsFromSheet 0 0 700 140 ∷ getsFromSheet 1 1 500 140
-    ∷ getsFromPacket 0 0 699 100 ∷ getsFromPacket 0 0 700 140 ∷ getsFromPacket 1 1 500 140
+    ∷ gets 1 (changeSheet 0 0) 699 100 ∷ gets 1 (changeSheet 0 0) 700 140 ∷ gets 1 (changeSheet 1 1) 500 140
+    ∷ gets 0 (changePacket 0 0) 699 100 ∷ gets 0 (changePacket 0 0) 700 140 ∷ gets 0 (changePacket 1 1) 500 140
     -- wire 4: "Q_FRONT's delay tied to the element that follows instead of the one that ends"
-    ∷ getsFromSheet 0 1 699 100 ∷ getsFromSheet 1 0 500 140 ∷ getsFromPacket 0 1 699 100 ∷ getsFromPacket 1 0 500 140
+    ∷ gets 1 (changeSheet 0 1) 699 100 ∷ gets 1 (changeSheet 1 0) 500 140 ∷ gets 0 (changePacket 0 1) 699 100 ∷ gets 0 (changePacket 1 0) 500 140
     ∷ cants
     ++ journeys
     ++ constraintCases

@@ -9,21 +9,20 @@ use lib.IntN.{pos}
 use lib.ListN.{length}
 use Rattle.bits.specs.Bits.{Bytes}
 use Rattle.format.specs.Grounds.{OneEnding, OneJudgement}
-use Rattle.segment.specs.Segment.{fields, wireChanges}
-use Rattle.segment.specs.Judgement.{segmentNumber, fromPacket, fromSheet, toPacket, toSheet}
+use Rattle.segment.specs.Segment.{wireChanges}
+use Rattle.segment.specs.Judgement.{fromPacket}
 use Rattle.link.specs.Link.{fromEitherPacket, fromEitherSheet, toEitherPacket, toEitherSheet}
 use Rattle.link.specs.Grounds.{EitherPacketGround, EitherSheetGround, EitherPacketValues, EitherSheetValues}
-use Rattle.segment.specs.Grounds.{PacketGround, SheetGround}
 use Rattle.speed.specs.declared.Train.{Train}
-use Rattle.question.specs.Question.{speedFromPacket, speedFromSheet}
+use Rattle.question.specs.Question.{Brought, permittedSpeed}
 use Rattle.altitude.specs.Altitude.{altitudeOf}
 use Rattle.convert.specs.Convert.{refusedWith, packetToSheet, sheetToPacket}
-use Rattle.promises.specs.Promised.{SegmentPacketValues, SegmentSheetValues, PacketOfValues, ConvertiblePacket, ConvertibleSheet, AnswerablePacket, AnswerableSheet, Done}
-use Rattle.promises.specs.Refused.{Refuses, AltitudeGround, PacketToSheetGround, SheetToPacketGround, SpeedFromPacketGround, SpeedFromSheetGround, packetToSheetRefusals, sheetToPacketRefusals, speedFromPacketRefusals, speedFromSheetRefusals, altitudeRefusals}
+use Rattle.promises.specs.Promised.{SegmentValues, segmentOf, SegmentOfValues, ConvertiblePacket, ConvertibleSheet, Answerable, Done}
+use Rattle.promises.specs.Refused.{Refuses, AltitudeGround, PacketToSheetGround, SheetToPacketGround, SegmentGround, SpeedGround, packetToSheetRefusals, sheetToPacketRefusals, altitudeRefusals}
 use Rattle.promises.specs.Ranges.{ConversionEnds, SpeedEnds, AltitudeEnds, OneOutcome}
-use Rattle.promises.proofs.Values.{packets, sheets, either-packets, either-sheets, kept, side-converted, side-answered, speed-none, altitude-none}
-use Rattle.promises.proofs.Refused.{packets-on, sheets-on, either-packets-on, either-sheets-on, one-ending, one-outcome, conversion-refused, conversion-ends, question-refused, question-ends, altitude-refused as altitude-on-ground, altitude-answered, altitude-ends, side-judged}
-use Rattle.promises.proofs.Ranges.{packet-sheet-size, sheet-packet-size, packet-speed-most, sheet-speed-most, altitude-most, packet-to-sheet-listed, sheet-to-packet-listed, speed-from-packet-listed, speed-from-sheet-listed, altitude-listed, packet-not-8, sheet-not-8, never-short}
+use Rattle.promises.proofs.Values.{segments, either-packets, either-sheets, kept, side-converted, question-answered, speed-none, altitude-none}
+use Rattle.promises.proofs.Refused.{segments-on, either-packets-on, either-sheets-on, one-ending, one-outcome, conversion-refused, conversion-ends, question-refused, altitude-refused as altitude-on-ground, altitude-answered, altitude-ends, side-judged}
+use Rattle.promises.proofs.Ranges.{packet-sheet-size, sheet-packet-size, question-ends, altitude-most, packet-to-sheet-listed, sheet-to-packet-listed, altitude-listed, packet-not-8, sheet-not-8, never-short}
 
 module _ (s : List ℕ) (ok : Bytes s) where
   -- ==== "Each refusal is given then and not otherwise": refused with r, and not answered, exactly on the ground of r
@@ -37,18 +36,12 @@ module _ (s : List ℕ) (ok : Bytes s) where
     unfolding sheetToPacket
     sheet-to-packet-refused r place = conversion-refused either-sheets either-sheets-on s ok toEitherPacket room r place
 
-  module _ (t : Train) (x : ℕ) where
-    pub speed-from-packet-refused : (r place : ℕ) → Refuses (speedFromPacket s t x .refusal, speedFromPacket s t x .place) r place ↔ SpeedFromPacketGround s t x r place
-    unfolding speedFromPacket
-    speed-from-packet-refused r place = question-refused packets packets-on s ok t x r place
-
-    pub speed-from-sheet-refused : (r place : ℕ) → Refuses (speedFromSheet s t x .refusal, speedFromSheet s t x .place) r place ↔ SpeedFromSheetGround s t x r place
-    unfolding speedFromSheet
-    speed-from-sheet-refused r place = question-refused sheets sheets-on s ok t x r place
+  pub permitted-speed-refused : (kind : ℕ) (t : Train) (x r place : ℕ) → Refuses (permittedSpeed kind s t x .refusal, permittedSpeed kind s t x .place) r place ↔ SpeedGround kind s t x r place
+  permitted-speed-refused kind t x r place = question-refused s ok t x kind r place
 
   pub altitude-of-packet-refused : (r place : ℕ) → Refuses (altitudeOf s .refusal, altitudeOf s .place) r place ↔ AltitudeGround s r place
   unfolding altitudeOf
-  altitude-of-packet-refused r place = altitude-on-ground packets packets-on s ok r place
+  altitude-of-packet-refused r place = altitude-on-ground (segments Brought.packet) (segments-on Brought.packet) s ok r place
 
   -- ==== "an answer or the one refusal": every input has an answer or one ground, and never both
 
@@ -61,25 +54,16 @@ module _ (s : List ℕ) (ok : Bytes s) where
     unfolding sheetToPacket
     sheet-to-packet-ending = one-ending (sheetToPacket s room .answer .refusal, sheetToPacket s room .answer .place) (side-converted either-sheets toEitherPacket s room ok) (sheet-to-packet-refused room)
 
-  module _ (t : Train) (x : ℕ) where
-    pub speed-from-packet-ending : OneEnding (AnswerablePacket s t x) {I = ℕ × ℕ} (λ p. SpeedFromPacketGround s t x (p .0) (p .1))
-    unfolding speedFromPacket
-    speed-from-packet-ending = one-ending (speedFromPacket s t x .refusal, speedFromPacket s t x .place) (side-answered packets (toSheet wireChanges) s s t x ok) (speed-from-packet-refused t x)
+  pub permitted-speed-ending : (kind : ℕ) (t : Train) (x : ℕ) → OneEnding (Answerable kind s t x) {I = ℕ × ℕ} (λ p. SpeedGround kind s t x (p .0) (p .1))
+  permitted-speed-ending kind t x = one-ending (permittedSpeed kind s t x .refusal, permittedSpeed kind s t x .place) (question-answered s t x ok) (permitted-speed-refused kind t x)
 
-    pub speed-from-sheet-ending : OneEnding (AnswerableSheet s t x) {I = ℕ × ℕ} (λ p. SpeedFromSheetGround s t x (p .0) (p .1))
-    unfolding speedFromSheet
-    speed-from-sheet-ending = one-ending (speedFromSheet s t x .refusal, speedFromSheet s t x .place) (side-answered sheets (toPacket wireChanges) s s t x ok) (speed-from-sheet-refused t x)
-
-  pub altitude-of-packet-ending : OneEnding (PacketOfValues s) {I = ℕ × ℕ} (λ p. AltitudeGround s (p .0) (p .1))
+  pub altitude-of-packet-ending : OneEnding (SegmentOfValues Brought.packet s) {I = ℕ × ℕ} (λ p. AltitudeGround s (p .0) (p .1))
   unfolding altitudeOf
-  altitude-of-packet-ending = one-ending (altitudeOf s .refusal, altitudeOf s .place) (altitude-answered packets packets-on s ok) altitude-of-packet-refused
+  altitude-of-packet-ending = one-ending (altitudeOf s .refusal, altitudeOf s .place) (altitude-answered (segments Brought.packet) (segments-on Brought.packet) s ok) altitude-of-packet-refused
 
-  -- the same of the judgement before 8, 10 and 11
-  pub packet-judged : OneJudgement (λ l. SegmentPacketValues l × (s ≡ toPacket wireChanges l)) (PacketGround segmentNumber (fields wireChanges) s)
-  packet-judged = side-judged packets packets-on s ok
-
-  pub sheet-judged : OneJudgement (λ l. SegmentSheetValues l × (s ≡ toSheet wireChanges l)) (SheetGround wireChanges s)
-  sheet-judged = side-judged sheets sheets-on s ok
+  -- the same of the judgement before 8, 10 and 11, of a segment as it is brought
+  pub segment-judged : (b : Brought) → OneJudgement (λ l. SegmentValues b l × (s ≡ segmentOf b l)) (SegmentGround b s)
+  segment-judged b = side-judged (segments b) (segments-on b) s ok
 
   pub either-packet-judged : OneJudgement (λ l. EitherPacketValues l × (s ≡ toEitherPacket l)) (EitherPacketGround s)
   either-packet-judged = side-judged either-packets either-packets-on s ok
@@ -102,22 +86,12 @@ module _ (s : List ℕ) (ok : Bytes s) where
         one-outcome (sheetToPacket s room)
         (conversion-ends either-sheets either-sheets-on s ok toEitherPacket room sheetToPacketRefusals 17 8207 (sheet-to-packet-listed s room) sheet-packet-size)
 
-  module _ (t : Train) (x : ℕ) where
-    pub speed-from-packet-outcome : OneOutcome (speedFromPacket s t x) (SpeedEnds speedFromPacketRefusals 600)
-    unfolding speedFromPacket
-    speed-from-packet-outcome =
-        one-outcome (speedFromPacket s t x)
-        (question-ends packets packets-on s ok t x speedFromPacketRefusals 600 (speed-from-packet-listed s t x) (packet-speed-most t x))
-
-    pub speed-from-sheet-outcome : OneOutcome (speedFromSheet s t x) (SpeedEnds speedFromSheetRefusals 604)
-    unfolding speedFromSheet
-    speed-from-sheet-outcome =
-        one-outcome (speedFromSheet s t x)
-        (question-ends sheets sheets-on s ok t x speedFromSheetRefusals 604 (speed-from-sheet-listed s t x) (sheet-speed-most t x))
+  pub permitted-speed-outcome : (kind : ℕ) (t : Train) (x : ℕ) → OneOutcome (permittedSpeed kind s t x) (SpeedEnds kind)
+  permitted-speed-outcome kind t x = one-outcome (permittedSpeed kind s t x) (question-ends s ok t x kind)
 
   pub altitude-of-packet-outcome : OneOutcome (altitudeOf s) (AltitudeEnds altitudeRefusals)
   unfolding altitudeOf
-  altitude-of-packet-outcome = one-outcome (altitudeOf s) (altitude-ends packets packets-on s ok altitudeRefusals (altitude-listed s) altitude-most)
+  altitude-of-packet-outcome = one-outcome (altitudeOf s) (altitude-ends (segments Brought.packet) (segments-on Brought.packet) s ok altitudeRefusals (altitude-listed s) altitude-most)
 
 -- so that "a room of the largest is never refused as too short", as the C header says, for whatever is on the link
 pub largest-sheet-room : (s room : List ℕ) → Bytes s → 15226 ≤ length room → packetToSheet s room .answer .refusal ≡ 8 → ⊥
@@ -138,14 +112,9 @@ pub sheet-refused : (s room : List ℕ) → (Done (sheetToPacket s room) → ⊥
 unfolding sheetToPacket
 sheet-refused s room n = kept toEitherPacket (fromEitherSheet s) room n
 
--- the same for the questions: the number comes with speed or altitude 0
-pub packet-speed-refused : (s : List ℕ) (t : Train) (x : ℕ) → (speedFromPacket s t x .refusal ≡ 0 → ⊥) → speedFromPacket s t x .speed ≡ 0
-unfolding speedFromPacket
-packet-speed-refused s t x n = speed-none t x (fromPacket wireChanges s) n
-
-pub sheet-speed-refused : (s : List ℕ) (t : Train) (x : ℕ) → (speedFromSheet s t x .refusal ≡ 0 → ⊥) → speedFromSheet s t x .speed ≡ 0
-unfolding speedFromSheet
-sheet-speed-refused s t x n = speed-none t x (fromSheet wireChanges s) n
+-- the same for the questions: the number comes with speed or altitude 0; 15 too
+pub speed-refused : (kind : ℕ) (s : List ℕ) (t : Train) (x : ℕ) → (permittedSpeed kind s t x .refusal ≡ 0 → ⊥) → permittedSpeed kind s t x .speed ≡ 0
+speed-refused kind s t x n = speed-none kind s t x n
 
 pub altitude-refused : (s : List ℕ) → (altitudeOf s .refusal ≡ 0 → ⊥) → altitudeOf s .altitude ≡ pos 0
 unfolding altitudeOf

@@ -4,6 +4,7 @@ use mathlib.Core.Path.{_≡_, sym, ap, _∙_}
 use mathlib.Core.List.{List}
 use mathlib.Core.Logic.{_↔_}
 use Prim.Native.Nat.{ℕ}
+use native.Mathlib.Omega.{arith}
 use Rattle.bits.specs.Bits.{Bytes}
 use Rattle.kinds.specs.declared.Item.{Item}
 use Rattle.format.specs.Format.{accepted}
@@ -16,11 +17,11 @@ use Rattle.link.proofs.Values.{either-sheet-taken}
 use Rattle.link.proofs.Segments.{on-link}
 use Rattle.speed.specs.declared.Train.{Train}
 use Rattle.question.specs.declared.Speed.{Speed}
-use Rattle.question.specs.Question.{speedFromPacket, speedFromSheet}
+use Rattle.question.specs.Question.{Brought, kindOf, permittedSpeed}
 use Rattle.convert.specs.Convert.{successWith, sheetToPacket}
-use Rattle.promises.specs.Promised.{SegmentSheetValues, ConvertibleSheet, AnswerableSheet, answerInFives, GreatestFive, Agreeing, Done, result}
+use Rattle.promises.specs.Promised.{SegmentValues, segmentOf, ConvertibleSheet, Answerable, answerInFives, GreatestFive, Agreeing, Done, result}
 use Rattle.promises.proofs.Agreeing.{packets-agree, agreeing-packets}
-use Rattle.promises.proofs.DemandTwo.{sheet-converted, sheet-result, sheet-speed}
+use Rattle.promises.proofs.DemandTwo.{sheet-converted, sheet-result, speed-value}
 use Rattle.promises.proofs.Values.{packet-taken, sheet-taken, lowered-packet, lowered-good, in-fives, asked-lowered, placed-result}
 
 -- ==== "Two accepted sheets make the same packet exactly when they agree in every field after that lowering."
@@ -48,9 +49,9 @@ same-outcome s t room c d = (there, back)
 -- ==== "For every accepted sheet, valid train and centimetre, the speed from its packet is the greatest multiple of 5 not above the speed from the sheet."
 
 -- for any values of an accepted sheet; the refusal is the same too, for any train and any x
-pub lowered-speed : (l : List Item) (t : Train) (x : ℕ) → SegmentSheetValues l
-    → speedFromPacket (toPacket wireChanges l) t x ≡ answerInFives (speedFromSheet (toSheet wireChanges l) t x)
-unfolding speedFromPacket speedFromSheet
+pub lowered-speed : (l : List Item) (t : Train) (x : ℕ) → SegmentValues Brought.sheet l
+    → permittedSpeed 0 (toPacket wireChanges l) t x ≡ answerInFives (permittedSpeed 1 (toSheet wireChanges l) t x)
+unfolding permittedSpeed
 lowered-speed l t x c =
     let m : List Item = givenBack (sheetFields wireChanges) l in
     let taken : fromPacket wireChanges (toPacket wireChanges l) ≡ accepted m = ap (fromPacket wireChanges) (sym (lowered-packet l)) ∙ packet-taken m (lowered-good c) in
@@ -58,22 +59,26 @@ lowered-speed l t x c =
 
 -- in the words of the operations
 pub record Lowered (s packet : List ℕ) (t : Train) (x : ℕ) : Type 0 where
-  pub answered : speedFromPacket packet t x .refusal ≡ 0
-  pub greatest : GreatestFive (speedFromSheet s t x .speed) (speedFromPacket packet t x .speed)
+  pub answered : permittedSpeed 0 packet t x .refusal ≡ 0
+  pub greatest : GreatestFive (permittedSpeed 1 s t x .speed) (permittedSpeed 0 packet t x .speed)
 
-pub speed-again : (s room : List ℕ) (t : Train) (x : ℕ) → Bytes s → Done (sheetToPacket s room) → AnswerableSheet s t x
+pub speed-again : (s room : List ℕ) (t : Train) (x : ℕ) → Bytes s → Done (sheetToPacket s room) → Answerable 1 s t x
     → Lowered s (result (sheetToPacket s room)) t x
-speed-again s room t x ok d a =
-    let c = sheet-converted s room ok .0 d in
-    let o = on-link (a .good) in
-    let same : accepted (c .values) ≡ accepted (a .values) =
-    sym (either-sheet-taken (c .values) (c .good)) ∙ ap fromEitherSheet (sym (c .whole) ∙ a .whole ∙ sym (o .sameSheet)) ∙ either-sheet-taken (a .values) (o .values) in
-    let v : c .values ≡ a .values = cc in
-    let p : result (sheetToPacket s room) ≡ toPacket wireChanges (a .values) =
-    ap result (sheet-result s room c) ∙ placed-result (toEitherPacket (c .values)) room ∙ ap toEitherPacket v ∙ o .samePacket in
-    let q : speedFromPacket (result (sheetToPacket s room)) t x ≡ answerInFives (speedFromSheet s t x) =
-    ap (λ (b : List ℕ). speedFromPacket b t x) p ∙ lowered-speed (a .values) t x (a .good) ∙ ap (λ (b : List ℕ). answerInFives (speedFromSheet b t x)) (sym (a .whole)) in
-    record {
-      answered = ap (λ (o : Speed). o .refusal) q ∙ ap (λ (o : Speed). o .refusal) (sheet-speed s t x a);
-      greatest = rw q (in-fives (speedFromSheet s t x .speed));
-    }
+speed-again s room t x ok d a = go (a .brought) (a .named) (a .good) (a .whole)
+  where
+    go : (b : Brought) → 1 ≡ kindOf b → SegmentValues b (a .values) → s ≡ segmentOf b (a .values) → Lowered s (result (sheetToPacket s room)) t x
+    go Brought.packet k good whole = absurd (omega arith)
+    go Brought.sheet k good whole =
+        let c = sheet-converted s room ok .0 d in
+        let o = on-link good in
+        let same : accepted (c .values) ≡ accepted (a .values) =
+        sym (either-sheet-taken (c .values) (c .good)) ∙ ap fromEitherSheet (sym (c .whole) ∙ whole ∙ sym (o .sameSheet)) ∙ either-sheet-taken (a .values) (o .values) in
+        let v : c .values ≡ a .values = cc in
+        let p : result (sheetToPacket s room) ≡ toPacket wireChanges (a .values) =
+        ap result (sheet-result s room c) ∙ placed-result (toEitherPacket (c .values)) room ∙ ap toEitherPacket v ∙ o .samePacket in
+        let q : permittedSpeed 0 (result (sheetToPacket s room)) t x ≡ answerInFives (permittedSpeed 1 s t x) =
+        ap (λ (b : List ℕ). permittedSpeed 0 b t x) p ∙ lowered-speed (a .values) t x good ∙ ap (λ (b : List ℕ). answerInFives (permittedSpeed 1 b t x)) (sym whole) in
+        record {
+          answered = ap (λ (o : Speed). o .refusal) q ∙ ap (λ (o : Speed). o .refusal) (speed-value 1 s t x a);
+          greatest = rw q (in-fives (permittedSpeed 1 s t x .speed));
+        }

@@ -1,7 +1,7 @@
 -- The customer's second demand: "Every packet and sheet that keeps the published widths and ranges and the stated rules is converted if the room holds the result, and nothing else is."
 -- Assumes nothing.
 use mathlib.Core.Path.{_≡_, sym, ap, ap₂, _∙_}
-use mathlib.Core.List.{List, []}
+use mathlib.Core.List.{List}
 use mathlib.Core.Logic.{_↔_}
 use Prim.Native.Nat.{ℕ, _*_, _/_, _≤_}
 use native.Mathlib.Omega.{arith}
@@ -9,28 +9,27 @@ use lib.ListN.{length}
 use Rattle.bits.specs.Bits.{Bytes}
 use Rattle.kinds.specs.declared.Item.{Item}
 use Rattle.format.specs.Format.{Read, sheetNumbers}
-use Rattle.format.specs.Conforming.{InPacket, InSheet, givenBack}
-use Rattle.segment.specs.Segment.{wireChanges}
+use Rattle.format.specs.Conforming.{givenBack}
 use Rattle.segment.specs.Frame.{packetOfBits}
-use Rattle.segment.specs.Judgement.{afterNumber, toPacket, toSheet}
+use Rattle.segment.specs.Judgement.{afterNumber}
 use Rattle.link.specs.Link.{treeFields, treeOf, linkFields, numberAmong, fromEitherPacket, toEitherPacket, toEitherSheet}
 use Rattle.link.specs.Grounds.{EitherPacketValues, EitherSheetValues}
 use Rattle.link.proofs.Trees.{link-lawful}
 use Rattle.link.proofs.Values.{either-packet-taken}
 use Rattle.link.proofs.Ends.{number-kept}
 use Rattle.speed.specs.declared.Train.{Train}
-use Rattle.speed.specs.Speed.{segmentLength, speedIn}
+use Rattle.speed.specs.Speed.{segmentLength, speedIn, inFives}
 use Rattle.question.specs.declared.Speed.{Speed}
-use Rattle.question.specs.Question.{speedFromPacket, speedFromSheet}
+use Rattle.question.specs.Question.{Brought, kindOf, permittedSpeed}
 use Rattle.altitude.specs.declared.Altitude.{Altitude}
 use Rattle.altitude.specs.Altitude.{centimetres, altitudeOf}
 use Rattle.convert.specs.Convert.{successWith, fitted, converted, packetToSheet, sheetToPacket}
-use Rattle.promises.specs.Promised.{SegmentPacketValues, SegmentSheetValues, PacketOfValues, AltitudeOf, LengthOf, heldAt, LowestOf, ConvertiblePacket, ConvertibleSheet, AnswerablePacket, AnswerableSheet, Done, result, spelled, spelledBits, spelledPacket, Lowering}
+use Rattle.promises.specs.Promised.{goodIn, SegmentValues, SegmentOfValues, AltitudeOf, LengthOf, heldAt, LowestOf, ConvertiblePacket, ConvertibleSheet, Answerable, Done, result, spelled, spelledBits, spelledPacket, Lowering}
 use Rattle.promises.proofs.Held.{lowest-held}
 use Rattle.promises.proofs.Standing.{length-stands, altitude-stands}
 use Rattle.promises.proofs.Ranges.{packet-speed-fives}
-use Rattle.promises.proofs.Refused.{packets-on, altitude-values, altitude-answered as answered-altitude}
-use Rattle.promises.proofs.Values.{either-lowered, either-lowered-good, either-good-sheet, packets, sheets, either-packets, either-sheets, side-result, side-converted, side-speed, side-answered, placed-result, numbers-spelled, bits-spelled, lowering}
+use Rattle.promises.proofs.Refused.{segments-on, altitude-values, altitude-answered as answered-altitude}
+use Rattle.promises.proofs.Values.{either-lowered, either-lowered-good, either-good-sheet, segments, either-packets, either-sheets, side-result, side-converted, question-speed, question-answered, placed-result, numbers-spelled, bits-spelled, lowering}
 
 module _ (s room : List ℕ) where
   -- a packet is converted exactly when it is the packet of good values and the room holds their sheet
@@ -104,53 +103,39 @@ sheet-again s room back ok d =
     }
 
 -- "Every permitted speed is the one the speed rules give."
-module _ (s : List ℕ) (t : Train) (x : ℕ) where
-  -- a question is answered exactly for a packet of good values, a valid train and an x below L_SP
-  pub packet-answered : Bytes s → (speedFromPacket s t x .refusal ≡ 0) ↔ AnswerablePacket s t x
-  unfolding speedFromPacket
-  packet-answered ok = side-answered packets (toSheet wireChanges) s [] t x ok
+module _ (kind : ℕ) (s : List ℕ) (t : Train) (x : ℕ) where
+  -- a question is answered exactly for a kind of 0 or 1, a packet or a sheet of good values, a valid train and an x below L_SP
+  pub speed-answered : Bytes s → (permittedSpeed kind s t x .refusal ≡ 0) ↔ Answerable kind s t x
+  speed-answered ok = question-answered s t x ok
 
   -- and then the answer is the permitted speed of those values
-  pub packet-speed : (c : AnswerablePacket s t x) → speedFromPacket s t x ≡ record { refusal = 0; place = 0; speed = speedIn t x (sheetNumbers (c .values)) }
-  unfolding speedFromPacket
-  packet-speed c = side-speed packets (toSheet wireChanges) s [] t x c
+  pub speed-value : (c : Answerable kind s t x) → permittedSpeed kind s t x ≡ record { refusal = 0; place = 0; speed = speedIn t x (sheetNumbers (c .values)) }
+  speed-value c = question-speed s t x c
 
-  -- the same for sheets
-  pub sheet-answered : Bytes s → (speedFromSheet s t x .refusal ≡ 0) ↔ AnswerableSheet s t x
-  unfolding speedFromSheet
-  sheet-answered ok = side-answered sheets (toPacket wireChanges) s [] t x ok
-
-  pub sheet-speed : (c : AnswerableSheet s t x) → speedFromSheet s t x ≡ record { refusal = 0; place = 0; speed = speedIn t x (sheetNumbers (c .values)) }
-  unfolding speedFromSheet
-  sheet-speed c = side-speed sheets (toPacket wireChanges) s [] t x c
-
--- and "the lowest speed of the elements that hold there": some element holds, so it is never a speed that no element has
-module _ (s : List ℕ) (t : Train) (x : ℕ) where
-  pub packet-held : (c : AnswerablePacket s t x) → LowestOf (speedFromPacket s t x .speed) (heldAt t x (sheetNumbers (c .values)))
-  packet-held c = rw (packet-speed s t x c) (lowest-held t x (sheetNumbers (c .values)) (c .inside))
-
-  pub sheet-held : (c : AnswerableSheet s t x) → LowestOf (speedFromSheet s t x .speed) (heldAt t x (sheetNumbers (c .values)))
-  sheet-held c = rw (sheet-speed s t x c) (lowest-held t x (sheetNumbers (c .values)) (c .inside))
+  -- and "the lowest speed of the elements that hold there": some element holds, so it is never a speed that no element has
+  pub speed-held : (c : Answerable kind s t x) → LowestOf (permittedSpeed kind s t x .speed) (heldAt t x (sheetNumbers (c .values)))
+  speed-held c = rw (speed-value c) (lowest-held t x (sheetNumbers (c .values)) (c .inside))
 
 -- "the packet's speeds times 5": a speed from a packet is a multiple of 5
-pub packet-fives : (s : List ℕ) (t : Train) (x : ℕ) → AnswerablePacket s t x → speedFromPacket s t x .speed ≡ speedFromPacket s t x .speed / 5 * 5
-packet-fives s t x c = rw (packet-speed s t x c) (packet-speed-fives t x (c .values) (c .good))
+pub packet-fives : (s : List ℕ) (t : Train) (x : ℕ) → Answerable 0 s t x → permittedSpeed 0 s t x .speed ≡ permittedSpeed 0 s t x .speed / 5 * 5
+packet-fives s t x c = rw (speed-value 0 s t x c) (go (c .brought) (c .named) (c .good))
+  where
+    go : (b : Brought) → 0 ≡ kindOf b → SegmentValues b (c .values) → speedIn t x (sheetNumbers (c .values)) ≡ inFives (speedIn t x (sheetNumbers (c .values)))
+    go Brought.packet e g = packet-speed-fives t x (c .values) g
+    go Brought.sheet e g = absurd (omega arith)
 
 -- the x of a question is below the number of L_SP
-pub packet-length : (l : List Item) → SegmentPacketValues l → LengthOf InPacket l (segmentLength (sheetNumbers l))
-packet-length l c = length-stands l c
-
-pub sheet-length : (l : List Item) → SegmentSheetValues l → LengthOf InSheet l (segmentLength (sheetNumbers l))
-sheet-length l c = length-stands l c
+pub segment-length : (b : Brought) (l : List Item) → SegmentValues b l → LengthOf (goodIn b) l (segmentLength (sheetNumbers l))
+segment-length b l c = length-stands l c
 
 -- "the altitude of a packet in signed centimetres": answered exactly for a packet of good values
-pub altitude-answered : (s : List ℕ) → Bytes s → (altitudeOf s .refusal ≡ 0) ↔ PacketOfValues s
+pub altitude-answered : (s : List ℕ) → Bytes s → (altitudeOf s .refusal ≡ 0) ↔ SegmentOfValues Brought.packet s
 unfolding altitudeOf
-altitude-answered s ok = answered-altitude packets packets-on s ok
+altitude-answered s ok = answered-altitude (segments Brought.packet) (segments-on Brought.packet) s ok
 
 -- and then with the value of their M_SP_Altitude, less 100,000
-pub altitude-value : (s : List ℕ) → Bytes s → (c : PacketOfValues s) → AltitudeOf (c .values) (altitudeOf s .altitude)
+pub altitude-value : (s : List ℕ) → Bytes s → (c : SegmentOfValues Brought.packet s) → AltitudeOf (c .values) (altitudeOf s .altitude)
 unfolding altitudeOf
 altitude-value s ok c =
     let a = altitude-stands (c .values) (c .good) in
-    record { item = a .0; stands = a .1; signed = ap (λ (o : Altitude). o .altitude) (altitude-values packets packets-on s ok c) ∙ ap centimetres (a .3) }
+    record { item = a .0; stands = a .1; signed = ap (λ (o : Altitude). o .altitude) (altitude-values (segments Brought.packet) (segments-on Brought.packet) s ok c) ∙ ap centimetres (a .3) }

@@ -1,4 +1,4 @@
--- "For 1, 2, 3, 8, 10 to 12, success .. it is 0": the refusals that have no place, of every operation.
+-- "For 1, 2, 3, 8, 10 to 12, success and, unless said, numbers above 13 it is 0": the refusals that have no place, of every operation.
 -- Assumes nothing.
 use mathlib.Core.Path.{_≡_, refl, sym, _∙_}
 use mathlib.Core.Bool.{true, false}
@@ -17,7 +17,7 @@ use Rattle.format.specs.Grounds.{Front, here, past, Every, Among, BitsFault, Gr
 use Rattle.format.proofs.Grounds.{every-front}
 use Rattle.segment.specs.Segment.{sheetFields, wireChanges}
 use Rattle.segment.specs.Judgement.{segmentNumber}
-use Rattle.segment.specs.Grounds.{PacketGround, short, otherNumber, otherSize, inFields, inPadding, SheetGround, FieldRefusal}
+use Rattle.segment.specs.Grounds.{PacketGround, short, otherNumber, otherSize, inFields, inPadding, FieldRefusal}
 use Rattle.segment.proofs.Grounds.{fields-refusals, listed}
 use Rattle.segment.proofs.Refusals.{among-positive}
 use Rattle.link.specs.declared.Tree.the-variants.{Segment, Journey}
@@ -25,13 +25,13 @@ use Rattle.link.specs.Link.{treeNumber, treeOf, linkFields}
 use Rattle.link.specs.Grounds.{EitherPacketGround, ofJourney, ofSegment, EitherSheetGround, inNumbers, tooLong}
 use Rattle.link.proofs.Grounds.{tree-refusals}
 use Rattle.speed.specs.declared.Train.{Train}
-use Rattle.question.specs.Question.{speedFromPacket, speedFromSheet}
+use Rattle.question.specs.Question.{Brought, permittedSpeed}
 use Rattle.altitude.specs.Altitude.{altitudeOf}
 use Rattle.convert.specs.Convert.{packetToSheet, sheetToPacket}
-use Rattle.promises.specs.Refused.{Refuses, ConversionGround, QuestionGround, packetToSheetRefusals, sheetToPacketRefusals, speedFromPacketRefusals, speedFromSheetRefusals, altitudeRefusals, placeless}
+use Rattle.promises.specs.Refused.{Refuses, ConversionGround, SegmentGround, SpeedGround, packetToSheetRefusals, sheetToPacketRefusals, speedRefusals, altitudeRefusals, placeless}
 use Rattle.promises.specs.Ranges.{ConversionEnds, SpeedEnds, AltitudeEnds}
 use Rattle.promises.proofs.Refused.{member, among-member}
-use Rattle.promises.proofs.DemandOne.{packet-to-sheet-refused, sheet-to-packet-refused, speed-from-packet-refused, speed-from-sheet-refused, altitude-of-packet-refused, packet-to-sheet-outcome, sheet-to-packet-outcome, speed-from-packet-outcome, speed-from-sheet-outcome, altitude-of-packet-outcome}
+use Rattle.promises.proofs.DemandOne.{packet-to-sheet-refused, sheet-to-packet-refused, permitted-speed-refused, altitude-of-packet-refused, packet-to-sheet-outcome, sheet-to-packet-outcome, permitted-speed-outcome, altitude-of-packet-outcome}
 
 -- a refusal that has a place
 placed : {C : Type 0} {r : ℕ} (n : ℕ) → r ≡ n → Among r placeless → member n placeless ≡ false → C
@@ -78,22 +78,23 @@ unfolding linkFields
 either-sheet-place s r place (inNumbers g) a = numbers-place (λ n. tree-refusals (treeOf n)) s r place g a
 either-sheet-place s r place (tooLong l w long q p) a = p
 
-sheet-place : (s : List ℕ) (r place : ℕ) → SheetGround wireChanges s r place → Among r placeless → place ≡ 0
+segment-place : (b : Brought) (s : List ℕ) (r place : ℕ) → SegmentGround b s r place → Among r placeless → place ≡ 0
 unfolding sheetFields
-sheet-place s r place g a = numbers-place (λ n. fields-refusals wireChanges) s r place g a
+segment-place Brought.packet s r place g a = packet-place segmentNumber (fields-refusals wireChanges) s r place g a
+segment-place Brought.sheet s r place g a = numbers-place (λ n. fields-refusals wireChanges) s r place g a
 
 -- ---- those of the operations
 
-module _ {Own : ℕ → ℕ → Type 0} (none : (r place : ℕ) → Own r place → Among r placeless → place ≡ 0) {Good : List Item → Type 0} {input : List Item → List ℕ} {s : List ℕ}
-    (r place : ℕ) where
-  conversion-place : {result : List Item → List ℕ} {room : List ℕ} → ConversionGround Own Good input result s room r place → Among r placeless → place ≡ 0
-  conversion-place (ConversionGround.own g) a = none r place g a
-  conversion-place (ConversionGround.shortRoom w h e p) a = p
+conversion-place : {Own : ℕ → ℕ → Type 0} → ((r place : ℕ) → Own r place → Among r placeless → place ≡ 0) → {Good : List Item → Type 0} {input result : List Item → List ℕ} {s room : List ℕ} (r place : ℕ)
+    → ConversionGround Own Good input result s room r place → Among r placeless → place ≡ 0
+conversion-place none r place (ConversionGround.own g) a = none r place g a
+conversion-place none r place (ConversionGround.shortRoom w h e p) a = p
 
-  question-place : {t : Train} {x : ℕ} → QuestionGround Own Good input s t x r place → Among r placeless → place ≡ 0
-  question-place (QuestionGround.own g) a = none r place g a
-  question-place (QuestionGround.badTrain w v e p) a = p
-  question-place (QuestionGround.pastEnd w v h e p) a = p
+question-place : {kind : ℕ} {s : List ℕ} {t : Train} {x : ℕ} (r place : ℕ) → SpeedGround kind s t x r place → Among r placeless → place ≡ 0
+question-place r place (SpeedGround.neither n e p) a = p
+question-place {s = s} r place (SpeedGround.own b k g) a = segment-place b s r place g a
+question-place r place (SpeedGround.badTrain b k w v e p) a = p
+question-place r place (SpeedGround.pastEnd b k w v h e p) a = p
 
 -- what an answer says has no place, if its ground has none
 said-place : {On : ℕ → ℕ → Type 0} (said : ℕ × ℕ) → ((r place : ℕ) → Refuses said r place ↔ On r place) → ((r place : ℕ) → On r place → Among r placeless → place ≡ 0)
@@ -120,24 +121,19 @@ module _ (s : List ℕ) (ok : Bytes s) where
             said-place (sheetToPacket s room .answer .refusal, sheetToPacket s room .answer .place) (sheet-to-packet-refused s ok room)
             (λ r place g b. conversion-place (either-sheet-place s) r place g b) (among-positive l refl) a
 
-  module _ (t : Train) (x : ℕ) where
-    pub speed-from-packet-placeless : Among (speedFromPacket s t x .refusal) placeless → speedFromPacket s t x .place ≡ 0
-    speed-from-packet-placeless a = go (speed-from-packet-outcome s ok t x .ends (speedFromPacket s t x) refl)
-      where
-        go : SpeedEnds speedFromPacketRefusals 600 (speedFromPacket s t x) → speedFromPacket s t x .place ≡ 0
-        go (SpeedEnds.success e p v) = p
-        go (SpeedEnds.refusal l n) =
-            said-place (speedFromPacket s t x .refusal, speedFromPacket s t x .place) (speed-from-packet-refused s ok t x)
-            (λ r place g b. question-place (packet-place segmentNumber (fields-refusals wireChanges) s) r place g b) (among-positive l refl) a
+  pub permitted-speed-placeless : (kind : ℕ) (t : Train) (x : ℕ) → Among (permittedSpeed kind s t x .refusal) placeless → permittedSpeed kind s t x .place ≡ 0
+  permitted-speed-placeless kind t x a = go (permitted-speed-outcome s ok kind t x .ends (permittedSpeed kind s t x) refl)
+    where
+      positive : (b : Brought) {r : ℕ} → Among r (speedRefusals b) → 1 ≤ r
+      positive Brought.packet l = among-positive l refl
+      positive Brought.sheet l = among-positive l refl
 
-    pub speed-from-sheet-placeless : Among (speedFromSheet s t x .refusal) placeless → speedFromSheet s t x .place ≡ 0
-    speed-from-sheet-placeless a = go (speed-from-sheet-outcome s ok t x .ends (speedFromSheet s t x) refl)
-      where
-        go : SpeedEnds speedFromSheetRefusals 604 (speedFromSheet s t x) → speedFromSheet s t x .place ≡ 0
-        go (SpeedEnds.success e p v) = p
-        go (SpeedEnds.refusal l n) =
-            said-place (speedFromSheet s t x .refusal, speedFromSheet s t x .place) (speed-from-sheet-refused s ok t x)
-            (λ r place g b. question-place (sheet-place s) r place g b) (among-positive l refl) a
+      go : SpeedEnds kind (permittedSpeed kind s t x) → permittedSpeed kind s t x .place ≡ 0
+      go (SpeedEnds.success b k e p v) = p
+      go (SpeedEnds.neither n e p v) = p
+      go (SpeedEnds.refusal b k l n) =
+          said-place (permittedSpeed kind s t x .refusal, permittedSpeed kind s t x .place) (permitted-speed-refused s ok kind t x)
+          (λ r place g c. question-place r place g c) (positive b l) a
 
   pub altitude-of-packet-placeless : Among (altitudeOf s .refusal) placeless → altitudeOf s .place ≡ 0
   altitude-of-packet-placeless a = go (altitude-of-packet-outcome s ok .ends (altitudeOf s) refl)
@@ -146,4 +142,4 @@ module _ (s : List ℕ) (ok : Bytes s) where
       go (AltitudeEnds.success v h e p z) = p
       go (AltitudeEnds.refusal l n) =
           said-place (altitudeOf s .refusal, altitudeOf s .place) (altitude-of-packet-refused s ok)
-          (packet-place segmentNumber (fields-refusals wireChanges) s) (among-positive l refl) a
+          (segment-place Brought.packet s) (among-positive l refl) a

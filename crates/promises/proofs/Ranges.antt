@@ -7,9 +7,10 @@ use Prim.Native.Nat.{ℕ, _≤_, _<_}
 use native.Mathlib.Omega.{arith}
 use lib.Dec.{lit≤}
 use lib.ListN.{length}
+use Rattle.bits.specs.Bits.{Bytes}
 use Rattle.kinds.specs.declared.Item.{Item}
 use Rattle.format.specs.Format.{sheetNumbers}
-use Rattle.format.specs.Grounds.{Among}
+use Rattle.format.specs.Grounds.{Ending, grounded, Among}
 use Rattle.format.proofs.Lawful.{to-sheet}
 use Rattle.segment.specs.Segment.{wireChanges}
 use Rattle.segment.specs.Judgement.{segmentNumber}
@@ -23,17 +24,21 @@ use Rattle.speed.specs.declared.Train.{Train}
 use Rattle.speed.specs.Speed.{speedIn, inFives}
 use Rattle.speed.proofs.Lowering.{speed-in-fives}
 use Rattle.speed.proofs.Bounds.{speed-most}
+use Rattle.question.specs.declared.Speed.{Speed}
+use Rattle.question.specs.Question.{Brought, kindOf, permittedSpeed}
+use Rattle.question.proofs.Asked.{neither-first}
 use Rattle.altitude.specs.Altitude.{altitudeField}
-use Rattle.promises.specs.Promised.{SegmentPacketValues, SegmentSheetValues}
-use Rattle.promises.specs.Refused.{AltitudeGround, ConversionGround, QuestionGround, PacketToSheetGround, SheetToPacketGround, SpeedFromPacketGround, SpeedFromSheetGround, packetToSheetRefusals, sheetToPacketRefusals, speedFromPacketRefusals, speedFromSheetRefusals, altitudeRefusals}
-use Rattle.promises.proofs.Values.{either-good-sheet}
+use Rattle.promises.specs.Promised.{SegmentValues, Answerable}
+use Rattle.promises.specs.Refused.{AltitudeGround, ConversionGround, SegmentGround, SpeedGround, PacketToSheetGround, SheetToPacketGround, packetToSheetRefusals, sheetToPacketRefusals, speedRefusals, altitudeRefusals}
+use Rattle.promises.specs.Ranges.{highestSpeed, SpeedEnds}
+use Rattle.promises.proofs.Values.{either-good-sheet, question-speed, question-answered, speed-none}
 use Rattle.promises.proofs.Agreeing.{lowered-same}
 use Rattle.promises.proofs.Standing.{altitude-stands}
-use Rattle.promises.proofs.Refused.{among-by, among-member, among-into}
+use Rattle.promises.proofs.Refused.{among-by, among-member, among-into, one-ending, question-refused}
 
 -- ---- how long a result is
 
-pub good-sheet : {l : List Item} → SegmentPacketValues l → SegmentSheetValues l
+pub good-sheet : {l : List Item} → SegmentValues Brought.packet l → SegmentValues Brought.sheet l
 good-sheet c = to-sheet (sheetFields-lawful wireChanges (lit≤ tt)) c
 
 -- "a sheet of 8 bytes"; a journey's sheet has at most 15,226
@@ -47,17 +52,15 @@ sheet-packet-size l v = either-packet-size v
 -- ---- how high a speed is
 
 -- a packet's speeds are multiples of 5
-pub packet-speed-fives : (t : Train) (x : ℕ) (l : List Item) → SegmentPacketValues l → speedIn t x (sheetNumbers l) ≡ inFives (speedIn t x (sheetNumbers l))
+pub packet-speed-fives : (t : Train) (x : ℕ) (l : List Item) → SegmentValues Brought.packet l → speedIn t x (sheetNumbers l) ≡ inFives (speedIn t x (sheetNumbers l))
 packet-speed-fives t x l c = ap (λ (m : List Item). speedIn t x (sheetNumbers m)) (sym (lowered-same c)) ∙ speed-in-fives t x l (good-sheet c)
 
 -- and so the highest is 600
-pub packet-speed-most : (t : Train) (x : ℕ) (l : List Item) → SegmentPacketValues l → speedIn t x (sheetNumbers l) ≤ 600
-packet-speed-most t x l c = omega (arith, packet-speed-fives t x l c, speed-most t x l (good-sheet c))
+highest : (b : Brought) (t : Train) (x : ℕ) (l : List Item) → SegmentValues b l → speedIn t x (sheetNumbers l) ≤ highestSpeed b
+highest Brought.packet t x l c = omega (arith, packet-speed-fives t x l c, speed-most t x l (good-sheet c))
+highest Brought.sheet t x l c = speed-most t x l c
 
-pub sheet-speed-most : (t : Train) (x : ℕ) (l : List Item) → SegmentSheetValues l → speedIn t x (sheetNumbers l) ≤ 604
-sheet-speed-most t x l c = speed-most t x l c
-
-pub altitude-most : (l : List Item) → SegmentPacketValues l → altitudeField l ≤ 1048575
+pub altitude-most : (l : List Item) → SegmentValues Brought.packet l → altitudeField l ≤ 1048575
 altitude-most l c = let a = altitude-stands l c in let h : a .0 .packet < 1048576 = a .2 .fits in omega (arith, a .3)
 
 -- a room that holds the largest result is not too short
@@ -87,13 +90,37 @@ module _ (s : List ℕ) where
     sheet-to-packet-listed (ConversionGround.own g) = among-into sheetToPacketRefusals refl (either-sheet-listed s r place g)
     sheet-to-packet-listed (ConversionGround.shortRoom w h e p) = rw e (among-by 8 sheetToPacketRefusals refl)
 
-  module _ (t : Train) (x r place : ℕ) where
-    pub speed-from-packet-listed : SpeedFromPacketGround s t x r place → Among r speedFromPacketRefusals
-    speed-from-packet-listed (QuestionGround.own g) = among-into speedFromPacketRefusals refl (packet-listed segmentNumber (fields-refusals wireChanges) s r place g)
-    speed-from-packet-listed (QuestionGround.badTrain w v e p) = rw e (among-by 10 speedFromPacketRefusals refl)
-    speed-from-packet-listed (QuestionGround.pastEnd w v h e p) = rw e (among-by 11 speedFromPacketRefusals refl)
+own-listed : (b : Brought) (s : List ℕ) (r place : ℕ) → SegmentGround b s r place → Among r (speedRefusals b)
+own-listed Brought.packet s r place g = among-into (speedRefusals Brought.packet) refl (packet-listed segmentNumber (fields-refusals wireChanges) s r place g)
+own-listed Brought.sheet s r place g = among-into (speedRefusals Brought.sheet) refl (sheet-listed wireChanges s r place g)
 
-    pub speed-from-sheet-listed : SpeedFromSheetGround s t x r place → Among r speedFromSheetRefusals
-    speed-from-sheet-listed (QuestionGround.own g) = among-into speedFromSheetRefusals refl (sheet-listed wireChanges s r place g)
-    speed-from-sheet-listed (QuestionGround.badTrain w v e p) = rw e (among-by 10 speedFromSheetRefusals refl)
-    speed-from-sheet-listed (QuestionGround.pastEnd w v h e p) = rw e (among-by 11 speedFromSheetRefusals refl)
+late-listed : (b : Brought) → Among 10 (speedRefusals b) × Among 11 (speedRefusals b)
+late-listed Brought.packet = (among-by 10 (speedRefusals Brought.packet) refl, among-by 11 (speedRefusals Brought.packet) refl)
+late-listed Brought.sheet = (among-by 10 (speedRefusals Brought.sheet) refl, among-by 11 (speedRefusals Brought.sheet) refl)
+
+-- so a question on speed ends as a caller may rely on
+pub question-ends : (s : List ℕ) → Bytes s → (t : Train) (x kind : ℕ) → SpeedEnds kind (permittedSpeed kind s t x)
+question-ends s ok t x kind = go (one-ending (o .refusal, o .place) (question-answered s t x ok) (question-refused s ok t x kind) .ending)
+  where
+    o : Speed
+    o = permittedSpeed kind s t x
+
+    none : (r place : ℕ) → SpeedGround kind s t x r place → (o .refusal ≡ r) × (o .speed ≡ 0)
+    none r place g =
+        let e = question-refused s ok t x kind r place .1 g in
+        let n : o .refusal ≡ r = ap (λ (u : ℕ × ℕ). u .0) (e .0) in
+        let h = e .1 in
+        (n, speed-none kind s t x (λ d. omega arith))
+
+    listed : (b : Brought) → kind ≡ kindOf b → (r place : ℕ) → SpeedGround kind s t x r place → Among r (speedRefusals b) → SpeedEnds kind o
+    listed b k r place g a = let n = none r place g in SpeedEnds.refusal b k (rw (n .0) a) (n .1)
+
+    by-ground : (r place : ℕ) → SpeedGround kind s t x r place → SpeedEnds kind o
+    by-ground r place (SpeedGround.neither n e p) = rw (neither-first s t x n) (SpeedEnds.neither n refl refl refl)
+    by-ground r place (SpeedGround.own b k g) = listed b k r place (SpeedGround.own b k g) (own-listed b s r place g)
+    by-ground r place (SpeedGround.badTrain b k w v e p) = listed b k r place (SpeedGround.badTrain b k w v e p) (rw e (late-listed b .0))
+    by-ground r place (SpeedGround.pastEnd b k w v h e p) = listed b k r place (SpeedGround.pastEnd b k w v h e p) (rw e (late-listed b .1))
+
+    go : Ending (Answerable kind s t x) {I = ℕ × ℕ} (λ p. SpeedGround kind s t x (p .0) (p .1)) → SpeedEnds kind o
+    go (Ending.answered c) = rw (question-speed s t x c) (SpeedEnds.success (c .brought) (c .named) refl refl (highest (c .brought) t x (c .values) (c .good)))
+    go (grounded p g) = by-ground (p .0) (p .1) g

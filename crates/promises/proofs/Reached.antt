@@ -1,7 +1,7 @@
 -- Each refusal that an operation lists is given: by one table of inputs for each operation.
 -- Assumes nothing.
 use mathlib.Core.Path.{_≡_, refl}
-use mathlib.Core.List.{[], map}
+use mathlib.Core.List.{[], _∷_, _++_, map}
 use Rattle.format.specs.Format.{times}
 use Rattle.bits.specs.Bits.{fieldAt}
 use Rattle.numbers.specs.Numbers.{numberOf, groupsIn}
@@ -11,11 +11,11 @@ use Rattle.segment.specs.Segment.{entries, changes, lists, body, fields, sheetF
 use Rattle.segment.specs.Judgement.{fromPacket, fromSheet, toPacket, toSheet}
 use Rattle.journey.specs.Journey.{journeyBody}
 use Rattle.link.specs.Link.{linkFields, fromEitherPacket, fromEitherSheet, toEitherPacket, toEitherSheet}
-use Rattle.question.specs.Question.{speedFromPacket, speedFromSheet}
+use Rattle.question.specs.Question.{Brought, permittedSpeed}
 use Rattle.altitude.specs.Altitude.{altitudeOf}
 use Rattle.convert.specs.Convert.{packetToSheet, sheetToPacket}
-use Rattle.promises.specs.Refused.{packetToSheetRefusals, sheetToPacketRefusals, speedFromPacketRefusals, speedFromSheetRefusals, altitudeRefusals}
-use Rattle.promises.specs.Samples.{refusedPackets, convertedPackets, convertedSheets, askedPackets, askedSheets}
+use Rattle.promises.specs.Refused.{packetToSheetRefusals, sheetToPacketRefusals, speedRefusals, altitudeRefusals}
+use Rattle.promises.specs.Samples.{refusedPackets, convertedPackets, convertedSheets, asked}
 
 pub packet-to-sheet-reached : map (λ s. packetToSheet s [] .answer .refusal) convertedPackets ≡ packetToSheetRefusals
 unfolding fieldAt numberOf groupsIn digits place entries changes lists body fields sheetFields toPacket toSheet times journeyBody linkFields fromEitherPacket toEitherSheet packetToSheet
@@ -25,13 +25,9 @@ pub sheet-to-packet-reached : map (λ s. sheetToPacket s [] .answer .refusal) co
 unfolding fieldAt numberOf groupsIn digits place entries changes lists body fields sheetFields toPacket toSheet times journeyBody linkFields fromEitherSheet toEitherPacket sheetToPacket
 sheet-to-packet-reached = refl
 
-pub speed-from-packet-reached : map (λ q. speedFromPacket (q .bytes) (q .of) (q .x) .refusal) askedPackets ≡ speedFromPacketRefusals
-unfolding fieldAt numberOf groupsIn digits place entries changes lists body fields sheetFields fromPacket toPacket speedFromPacket
-speed-from-packet-reached = refl
-
-pub speed-from-sheet-reached : map (λ q. speedFromSheet (q .bytes) (q .of) (q .x) .refusal) askedSheets ≡ speedFromSheetRefusals
-unfolding fieldAt numberOf groupsIn digits place entries changes lists body fields sheetFields fromSheet toSheet speedFromSheet
-speed-from-sheet-reached = refl
+pub permitted-speed-reached : map (λ q. permittedSpeed (q .kind) (q .bytes) (q .of) (q .x) .refusal) asked ≡ 15 ∷ speedRefusals Brought.packet ++ speedRefusals Brought.sheet
+unfolding fieldAt numberOf groupsIn digits place entries changes lists body fields sheetFields fromPacket fromSheet toPacket toSheet permittedSpeed
+permitted-speed-reached = refl
 
 pub altitude-of-packet-reached : map (λ s. altitudeOf s .refusal) refusedPackets ≡ altitudeRefusals
 unfolding fieldAt numberOf groupsIn digits place entries changes lists body fields sheetFields fromPacket toPacket altitudeOf

@@ -16,33 +16,33 @@ use Rattle.format.specs.Format.{Read, accepted, refused, answerOf, sheetNumbers
 use Rattle.format.specs.Grounds.{Ending, grounded, OneEnding, OneJudgement, Among, first, later}
 use Rattle.format.proofs.Grounds.{judged}
 use Rattle.segment.specs.Segment.{fields, wireChanges}
-use Rattle.segment.specs.Judgement.{segmentNumber, fromPacket, fromSheet}
-use Rattle.segment.specs.Grounds.{PacketGround, SheetGround}
+use Rattle.segment.specs.Judgement.{segmentNumber, fromPacket}
 use Rattle.segment.proofs.Grounds.{packet-grounds, sheet-grounds}
 use Rattle.link.specs.Link.{fromEitherPacket, fromEitherSheet}
 use Rattle.link.specs.Grounds.{EitherPacketGround, EitherSheetGround}
 use Rattle.link.proofs.Grounds.{either-packet-grounds, either-sheet-grounds}
 use Rattle.speed.specs.declared.Train.{Train}
-use Rattle.speed.specs.Speed.{validTrain, segmentLength, speedIn}
-use Rattle.question.specs.Question.{noSpeed, speedOfValues}
+use Rattle.speed.specs.Speed.{validTrain, segmentLength}
+use Rattle.question.specs.declared.Speed.{Speed}
+use Rattle.question.specs.Question.{Brought, kindOf, noSpeed, speedOfValues, judgedAs, permittedSpeed}
+use Rattle.question.proofs.Asked.{either-kind, asked, neither-first}
 use Rattle.altitude.specs.declared.Altitude.{Altitude}
 use Rattle.altitude.specs.Altitude.{altitudeOfRead, altitudeField, centimetres}
 use Rattle.convert.specs.Convert.{Outcome, fitted, converted}
-use Rattle.promises.specs.Promised.{OfValues, Convertible, Answerable}
-use Rattle.promises.specs.Refused.{Refuses, ConversionGround, QuestionGround}
-use Rattle.promises.specs.Ranges.{ConversionEnds, SpeedEnds, AltitudeEnds, OneOutcome}
-use Rattle.promises.proofs.Values.{Side, kept, side-result, side-converted, side-speed, side-answered, speed-none, altitude-none}
+use Rattle.promises.specs.Promised.{OfValues, SegmentOfValues, Convertible}
+use Rattle.promises.specs.Refused.{Refuses, ConversionGround, SegmentGround, SpeedGround}
+use Rattle.promises.specs.Ranges.{ConversionEnds, AltitudeEnds, OneOutcome}
+use Rattle.promises.proofs.Values.{Side, segments, kept, side-result, side-converted, altitude-none}
 
 -- one side's grounds: what judges it refuses exactly then
 pub record Grounded (judge : List ℕ → Read) (On : List ℕ → ℕ → ℕ → Type 0) : Type 0 where
   pub refused-on : (s : List ℕ) (r place : ℕ) → Bytes s → (judge s ≡ refused r place) ↔ On s r place
 
-pub packets-on : Grounded (fromPacket wireChanges) (PacketGround segmentNumber (fields wireChanges))
+-- a segment's, as it is brought
+pub segments-on : (b : Brought) → Grounded (judgedAs b) (SegmentGround b)
 unfolding fromPacket
-packets-on = record { refused-on = λ s r place ok. packet-grounds segmentNumber (fields wireChanges) s r place }
-
-pub sheets-on : Grounded (fromSheet wireChanges) (SheetGround wireChanges)
-sheets-on = record { refused-on = sheet-grounds wireChanges }
+segments-on Brought.packet = record { refused-on = λ s r place ok. packet-grounds segmentNumber (fields wireChanges) s r place }
+segments-on Brought.sheet = record { refused-on = sheet-grounds wireChanges }
 
 -- a segment's or a journey's
 pub either-packets-on : Grounded fromEitherPacket EitherPacketGround
@@ -154,52 +154,6 @@ module _ {judge : List ℕ → Read} {Good : List Item → Type 0} {input : List
             let k = kept write (judge s) room (λ d. omega arith) in
             ConversionEnds.refusal (rw n (listed (p .0) (p .1) g)) (ap (λ (o : Outcome). o .answer .length) k) (ap (λ (o : Outcome). o .room) k)
 
-  -- ---- a question on speed
-
-  module _ (t : Train) (x : ℕ) where
-    abbrev answer : Read → ℕ × ℕ
-    answer j = let o = answerOf noSpeed (speedOfValues t x) j in (o .refusal, o .place)
-
-    abbrev valuesSaid : List Item → ℕ × ℕ
-    valuesSaid l = let o = speedOfValues t x l in (o .refusal, o .place)
-
-    pub question-refused : (r place : ℕ) → Refuses (answer (judge s)) r place ↔ QuestionGround (On s) Good input s t x r place
-    question-refused r place = (λ e. by-judge answer r place (λ q p. refl) (e .0) QuestionGround.own (λ l a d. inside l a d (e .1)), given)
-      where
-        inside : (l : List Item) → judge s ≡ accepted l → valuesSaid l ≡ (r, place) → 1 ≤ r → QuestionGround (On s) Good input s t x r place
-        inside l a e h =
-            by-cases (validTrain t)
-            (λ v. by-cases (ltb x (segmentLength (sheetNumbers l)))
-            (λ b. let z : _≡_ {A = ℕ × ℕ} (0, 0) (r, place) = rw (v, b) at e in let y : 0 ≡ r = ap (λ (u : ℕ × ℕ). u .0) z in absurd (omega arith))
-            (λ b. let z : _≡_ {A = ℕ × ℕ} (11, 0) (r, place) = rw (v, b) at e in
-            QuestionGround.pastEnd (of-values l a) v (ltb-false x (segmentLength (sheetNumbers l)) b) (sym (ap (λ (u : ℕ × ℕ). u .0) z)) (sym (ap (λ (u : ℕ × ℕ). u .1) z))))
-            (λ v. let z : _≡_ {A = ℕ × ℕ} (10, 0) (r, place) = rw v at e in
-            QuestionGround.badTrain (of-values l a) v (sym (ap (λ (u : ℕ × ℕ). u .0) z)) (sym (ap (λ (u : ℕ × ℕ). u .1) z)))
-
-        bad : (l : List Item) → validTrain t ≡ false → valuesSaid l ≡ (10, 0)
-        bad l v = rw v
-
-        beyond : (l : List Item) → validTrain t ≡ true → segmentLength (sheetNumbers l) ≤ x → valuesSaid l ≡ (11, 0)
-        beyond l v h = rw (v, le-ltb x (segmentLength (sheetNumbers l)) h)
-
-        given : QuestionGround (On s) Good input s t x r place → Refuses (answer (judge s)) r place
-        given (QuestionGround.own g) = let e = own-refused r place g in (ap answer (e .0), e .1)
-        given (QuestionGround.badTrain w v e p) = (ap answer (taken w) ∙ bad (w .values) v ∙ rw (e, p), omega arith)
-        given (QuestionGround.pastEnd w v h e p) = (ap answer (taken w) ∙ beyond (w .values) v h ∙ rw (e, p), omega arith)
-
-    pub question-ends : (refusals : List ℕ) (most : ℕ) → ((r place : ℕ) → QuestionGround (On s) Good input s t x r place → Among r refusals)
-        → ((l : List Item) → Good l → speedIn t x (sheetNumbers l) ≤ most) → SpeedEnds refusals most (answerOf noSpeed (speedOfValues t x) (judge s))
-    question-ends refusals most listed bound = go (one-ending (answer (judge s)) (side-answered side (λ l. []) s [] t x ok) question-refused .ending)
-      where
-        go : Ending (Answerable Good input s t x) {I = ℕ × ℕ} (λ p. QuestionGround (On s) Good input s t x (p .0) (p .1))
-            → SpeedEnds refusals most (answerOf noSpeed (speedOfValues t x) (judge s))
-        go (Ending.answered c) = rw (side-speed side (λ l. []) s [] t x c) (SpeedEnds.success refl refl (bound (c .values) (c .good)))
-        go (grounded p g) =
-            let e = question-refused (p .0) (p .1) .1 g in
-            let n : answerOf noSpeed (speedOfValues t x) (judge s) .refusal ≡ p .0 = ap (λ (u : ℕ × ℕ). u .0) (e .0) in
-            let h = e .1 in
-            SpeedEnds.refusal (rw n (listed (p .0) (p .1) g)) (speed-none t x (judge s) (λ d. omega arith))
-
   -- ---- the altitude
 
   abbrev altitude : Read → ℕ × ℕ
@@ -237,3 +191,52 @@ module _ {judge : List ℕ → Read} {Good : List Item → Type 0} {input : List
 
   pub side-judged : OneJudgement (λ l. Good l × (s ≡ input l)) (On s)
   side-judged = judged (judge s) (λ l. (side .only s l ok, λ p. ap judge (p .1) ∙ side .again l (p .0))) (λ r place. on .refused-on s r place ok)
+
+-- ---- a question on speed, of either kind
+
+module _ (s : List ℕ) (ok : Bytes s) (t : Train) (x kind : ℕ) where
+  abbrev said : Speed → ℕ × ℕ
+  said o = (o .refusal, o .place)
+
+  abbrev answer : Read → ℕ × ℕ
+  answer j = said (answerOf noSpeed (speedOfValues t x) j)
+
+  said-as : (b : Brought) → kind ≡ kindOf b → said (permittedSpeed kind s t x) ≡ answer (judgedAs b s)
+  said-as b k = ap said (asked s t x b k)
+
+  pub question-refused : (r place : ℕ) → Refuses (said (permittedSpeed kind s t x)) r place ↔ SpeedGround kind s t x r place
+  question-refused r place = (only, given)
+    where
+      inside : (b : Brought) → kind ≡ kindOf b → (l : List Item) → judgedAs b s ≡ accepted l → said (speedOfValues t x l) ≡ (r, place) → 1 ≤ r → SpeedGround kind s t x r place
+      inside b k l a e h =
+          let w = of-values (segments b) (segments-on b) s ok l a in
+          by-cases (validTrain t)
+          (λ v. by-cases (ltb x (segmentLength (sheetNumbers l)))
+          (λ c. let z : _≡_ {A = ℕ × ℕ} (0, 0) (r, place) = rw (v, c) at e in let y : 0 ≡ r = ap (λ (u : ℕ × ℕ). u .0) z in absurd (omega arith))
+          (λ c. let z : _≡_ {A = ℕ × ℕ} (11, 0) (r, place) = rw (v, c) at e in
+          SpeedGround.pastEnd b k w v (ltb-false x (segmentLength (sheetNumbers l)) c) (sym (ap (λ (u : ℕ × ℕ). u .0) z)) (sym (ap (λ (u : ℕ × ℕ). u .1) z))))
+          (λ v. let z : _≡_ {A = ℕ × ℕ} (10, 0) (r, place) = rw v at e in
+          SpeedGround.badTrain b k w v (sym (ap (λ (u : ℕ × ℕ). u .0) z)) (sym (ap (λ (u : ℕ × ℕ). u .1) z)))
+
+      only : Refuses (said (permittedSpeed kind s t x)) r place → SpeedGround kind s t x r place
+      only q =
+          either-kind kind
+          (λ b k. by-judge (segments b) (segments-on b) s ok answer r place (λ m p. refl) (sym (said-as b k) ∙ q .0) (SpeedGround.own b k) (λ l a d. inside b k l a d (q .1)))
+          (λ n. let z : _≡_ {A = ℕ × ℕ} (15, 0) (r, place) = sym (ap said (neither-first s t x n)) ∙ q .0 in
+          SpeedGround.neither n (sym (ap (λ (u : ℕ × ℕ). u .0) z)) (sym (ap (λ (u : ℕ × ℕ). u .1) z)))
+
+      bad : (l : List Item) → validTrain t ≡ false → said (speedOfValues t x l) ≡ (10, 0)
+      bad l v = rw v
+
+      beyond : (l : List Item) → validTrain t ≡ true → segmentLength (sheetNumbers l) ≤ x → said (speedOfValues t x l) ≡ (11, 0)
+      beyond l v h = rw (v, le-ltb x (segmentLength (sheetNumbers l)) h)
+
+      -- what is said of values
+      of : (b : Brought) → kind ≡ kindOf b → (w : SegmentOfValues b s) → said (permittedSpeed kind s t x) ≡ said (speedOfValues t x (w .values))
+      of b k w = said-as b k ∙ ap answer (taken (segments b) (segments-on b) s ok w)
+
+      given : SpeedGround kind s t x r place → Refuses (said (permittedSpeed kind s t x)) r place
+      given (SpeedGround.neither n e p) = (ap said (neither-first s t x n) ∙ rw (e, p), omega arith)
+      given (SpeedGround.own b k g) = let u = own-refused (segments b) (segments-on b) s ok r place g in (said-as b k ∙ ap answer (u .0), u .1)
+      given (SpeedGround.badTrain b k w v e p) = (of b k w ∙ bad (w .values) v ∙ rw (e, p), omega arith)
+      given (SpeedGround.pastEnd b k w v h e p) = (of b k w ∙ beyond (w .values) v h ∙ rw (e, p), omega arith)

@@ -28,25 +28,26 @@ use Rattle.link.specs.Trees.{treeSheet, byNumber}
 use Rattle.link.proofs.Grounds.{segment-judged}
 use Rattle.link.proofs.Sheets.{sheet-by-tree}
 use Rattle.link.proofs.Segments.{on-link}
+use Rattle.question.specs.Question.{Brought}
 use Rattle.convert.specs.Convert.{converted, fitted, packetToSheet, sheetToPacket}
-use Rattle.promises.specs.Promised.{SegmentPacketValues, SegmentSheetValues}
+use Rattle.promises.specs.Promised.{SegmentValues}
 use Rattle.promises.proofs.Values.{packet-values, sheet-values, lowered-packet, lowered-good}
 use Rattle.promises.proofs.Ranges.{good-sheet}
 use Rattle.promises.proofs.Refused.{among-member}
 
 -- "A sheet has at most 5,608 bytes", and 23 at least
-pub segment-sheet-size : (l : List Item) → SegmentPacketValues l → (23 ≤ length (toEitherSheet l)) × (length (toEitherSheet l) ≤ 5608)
+pub segment-sheet-size : (l : List Item) → SegmentValues Brought.packet l → (23 ≤ length (toEitherSheet l)) × (length (toEitherSheet l) ≤ 5608)
 unfolding toSheet
 segment-sheet-size l c =
     let g = good-sheet c in
     rw (on-link g .sameSheet) (size-least sheet-priced (sheet-groups wireChanges (lit≤ tt)) g, sheet-most wireChanges (lit≤ tt) g)
 
 -- "packet of 39 bytes", "2,001 bytes"
-own-size : (l : List Item) → SegmentPacketValues l → (39 ≤ length (toPacket wireChanges l)) × (length (toPacket wireChanges l) ≤ 2001)
+own-size : (l : List Item) → SegmentValues Brought.packet l → (39 ≤ length (toPacket wireChanges l)) × (length (toPacket wireChanges l) ≤ 2001)
 unfolding toPacket sheetFields
 own-size (i ∷ l) (also g c) = (packet-least wireChanges (lit≤ tt) c, packet-most wireChanges (lit≤ tt) c)
 
-pub segment-packet-size : (l : List Item) → SegmentSheetValues l → (39 ≤ length (toEitherPacket l)) × (length (toEitherPacket l) ≤ 2001)
+pub segment-packet-size : (l : List Item) → SegmentValues Brought.sheet l → (39 ≤ length (toEitherPacket l)) × (length (toEitherPacket l) ≤ 2001)
 segment-packet-size l c = rw (on-link c .samePacket, ← lowered-packet l) (own-size (givenBack (sheetFields wireChanges) l) (lowered-good c))
 
 never-8 : {r : ℕ} → false ≡ true → r ≡ 8 → ⊥

@@ -39,10 +39,11 @@ use Rattle.speed.specs.declared.Train.{Train}
 use Rattle.speed.specs.Speed.{validTrain, segmentLength, speedIn, inFives}
 use Rattle.speed.proofs.Lowering.{length-stays, speed-in-fives}
 use Rattle.question.specs.declared.Speed.{Speed}
-use Rattle.question.specs.Question.{noSpeed, judgedSpeed, speedOfValues}
+use Rattle.question.specs.Question.{Brought, kindOf, noSpeed, judgedSpeed, speedOfValues, judgedAs, permittedSpeed}
+use Rattle.question.proofs.Asked.{either-kind, asked, neither-first}
 use Rattle.altitude.specs.Altitude.{altitudeOfRead}
 use Rattle.convert.specs.Convert.{Outcome, refusedWith, successWith, fitted, converted}
-use Rattle.promises.specs.Promised.{SegmentPacketValues, SegmentSheetValues, Convertible, Answerable, answerInFives, GreatestFive, Done, result, spelled, spelledBits, LoweredTo, Lowering, over, one}
+use Rattle.promises.specs.Promised.{SegmentValues, segmentOf, Convertible, Answerable, answerInFives, GreatestFive, Done, result, spelled, spelledBits, LoweredTo, Lowering, over, one}
 
 -- ---- packets and sheets of good values
 
@@ -55,14 +56,14 @@ number-is i a r =
     let q : i .sheet ≡ 6 = omega arith in
     λ j. record { sheet = q j; packet = p j }
 
-pub packet-values : (s : List ℕ) (l : List Item) → Bytes s → fromPacket wireChanges s ≡ accepted l → SegmentPacketValues l × (s ≡ toPacket wireChanges l)
+pub packet-values : (s : List ℕ) (l : List Item) → Bytes s → fromPacket wireChanges s ≡ accepted l → SegmentValues Brought.packet l × (s ≡ toPacket wireChanges l)
 unfolding fromPacket toPacket sheetFields
 packet-values s l ok e =
     let r = framed-only segmentNumber (fields wireChanges) s l ok e in
-    let c : SegmentPacketValues (numberItem 6 ∷ r .values) = also {i = numberItem 6} (record { allowed = refl; fits = lit< tt; raised = refl }) (r .good) in
+    let c : SegmentValues Brought.packet (numberItem 6 ∷ r .values) = also {i = numberItem 6} (record { allowed = refl; fits = lit< tt; raised = refl }) (r .good) in
     rw (r .all) (c, r .bytes)
 
-pub packet-taken : (l : List Item) → SegmentPacketValues l → fromPacket wireChanges (toPacket wireChanges l) ≡ accepted l
+pub packet-taken : (l : List Item) → SegmentValues Brought.packet l → fromPacket wireChanges (toPacket wireChanges l) ≡ accepted l
 unfolding fromPacket toPacket sheetFields
 packet-taken (i ∷ l) (also g c) =
     let q : i ≡ numberItem 6 = number-is i (g .allowed) (g .raised) in
@@ -70,11 +71,11 @@ packet-taken (i ∷ l) (also g c) =
     let high = bits-most wireChanges (lit≤ tt) c in
     framed-again segmentNumber (fields wireChanges) l (lit< tt) c (omega arith) (omega arith) ∙ ap (λ (j : Item). accepted (j ∷ l)) (sym q)
 
-pub sheet-values : (s : List ℕ) (l : List Item) → Bytes s → fromSheet wireChanges s ≡ accepted l → SegmentSheetValues l × (s ≡ toSheet wireChanges l)
+pub sheet-values : (s : List ℕ) (l : List Item) → Bytes s → fromSheet wireChanges s ≡ accepted l → SegmentValues Brought.sheet l × (s ≡ toSheet wireChanges l)
 unfolding fromSheet toSheet
 sheet-values s l ok e = sheet-only (sheetFields wireChanges) 0 s l ok e
 
-pub sheet-taken : (l : List Item) → SegmentSheetValues l → fromSheet wireChanges (toSheet wireChanges l) ≡ accepted l
+pub sheet-taken : (l : List Item) → SegmentValues Brought.sheet l → fromSheet wireChanges (toSheet wireChanges l) ≡ accepted l
 unfolding fromSheet toSheet
 sheet-taken l c = sheet-again c 0
 
@@ -84,7 +85,7 @@ unfolding toPacket sheetFields
 lowered-packet [] = refl
 lowered-packet (i ∷ l) = ap (packetOfBits segmentNumber) (lowered-bits (fields wireChanges) l)
 
-pub lowered-good : {l : List Item} → SegmentSheetValues l → SegmentPacketValues (givenBack (sheetFields wireChanges) l)
+pub lowered-good : {l : List Item} → SegmentValues Brought.sheet l → SegmentValues Brought.packet (givenBack (sheetFields wireChanges) l)
 lowered-good c = to-packet (sheetFields-lawful wireChanges (lit≤ tt)) c
 
 -- ---- a conversion's outcomes, whatever judges and writes
@@ -124,11 +125,10 @@ pub record Side (judge : List ℕ → Read) (Good : List Item → Type 0) (input
   pub again : (l : List Item) → Good l → judge (input l) ≡ accepted l
   pub refuses : (s : List ℕ) → Bytes s → (q place : ℕ) → judge s ≡ refused q place → 1 ≤ q
 
-pub packets : Side (fromPacket wireChanges) SegmentPacketValues (toPacket wireChanges)
-packets = record { only = packet-values; again = packet-taken; refuses = λ s ok q place e. packet-refusal wireChanges s q place e }
-
-pub sheets : Side (fromSheet wireChanges) SegmentSheetValues (toSheet wireChanges)
-sheets = record { only = sheet-values; again = sheet-taken; refuses = λ s ok q place e. sheet-refusal wireChanges s q place ok e }
+-- a segment's, as it is brought
+pub segments : (b : Brought) → Side (judgedAs b) (SegmentValues b) (segmentOf b)
+segments Brought.packet = record { only = packet-values; again = packet-taken; refuses = λ s ok q place e. packet-refusal wireChanges s q place e }
+segments Brought.sheet = record { only = sheet-values; again = sheet-taken; refuses = λ s ok q place e. sheet-refusal wireChanges s q place ok e }
 
 -- a segment's or a journey's
 pub either-packets : Side fromEitherPacket EitherPacketValues toEitherPacket
@@ -176,36 +176,50 @@ module _ {judge : List ℕ → Read} {Good : List Item → Type 0} {input : List
           let p = side .only s l ok e in
           record { values = l; good = p .0; whole = p .1; holds = h }
 
-  -- a question on speed is answered exactly where the input is written of good values, the train is valid and x below L_SP
-  module _ (t : Train) (x : ℕ) where
-    pub side-speed : (c : Answerable Good input s t x) → answerOf noSpeed (speedOfValues t x) (judge s) ≡ record { refusal = 0; place = 0; speed = speedIn t x (sheetNumbers (c .values)) }
-    side-speed c =
-        let l = c .values in
-        ap (answerOf noSpeed (speedOfValues t x)) (ap judge (c .whole) ∙ side .again l (c .good)) ∙ rw (c .valid, lt-ltb x (segmentLength (sheetNumbers l)) (c .inside))
+-- ---- a question on speed, of either kind
 
-    pub side-answered : Bytes s → (answerOf noSpeed (speedOfValues t x) (judge s) .refusal ≡ 0) ↔ Answerable Good input s t x
-    side-answered ok = (λ d. go (judge s) refl d, λ c. ap (λ (o : Speed). o .refusal) (side-speed c))
-      where
-        inside : (l : List Item) → judge s ≡ accepted l → speedOfValues t x l .refusal ≡ 0 → Answerable Good input s t x
-        inside l e d =
-            let p = side .only s l ok e in
-            by-cases (validTrain t)
-            (λ v. by-cases (ltb x (segmentLength (sheetNumbers l)))
-            (λ b. record { values = l; good = p .0; whole = p .1; valid = v; inside = ltb-true x (segmentLength (sheetNumbers l)) b })
-            (λ b. let z : _≡_ {A = ℕ} 11 0 = rw (v, b) at d in absurd (omega arith)))
-            (λ v. let z : _≡_ {A = ℕ} 10 0 = rw v at d in absurd (omega arith))
+module _ {kind : ℕ} (s : List ℕ) (t : Train) (x : ℕ) where
+  pub question-speed : (c : Answerable kind s t x) → permittedSpeed kind s t x ≡ record { refusal = 0; place = 0; speed = speedIn t x (sheetNumbers (c .values)) }
+  question-speed c =
+      let b = c .brought in
+      let l = c .values in
+      asked s t x b (c .named) ∙ ap (answerOf noSpeed (speedOfValues t x)) (ap (judgedAs b) (c .whole) ∙ segments b .again l (c .good))
+      ∙ rw (c .valid, lt-ltb x (segmentLength (sheetNumbers l)) (c .inside))
 
-        go : (r : Read) → judge s ≡ r → answerOf noSpeed (speedOfValues t x) r .refusal ≡ 0 → Answerable Good input s t x
-        go (accepted l) e d = inside l e d
-        go (refused q place) e d = absurd (omega (arith, side .refuses s ok q place e))
+  -- it is answered exactly where the kind is 0 or 1, what is brought is written of good values, the train is valid and x below L_SP
+  pub question-answered : Bytes s → (permittedSpeed kind s t x .refusal ≡ 0) ↔ Answerable kind s t x
+  question-answered ok = (
+    λ d. either-kind kind (λ b e. go b e (judgedAs b s) refl (sym (ap (λ (o : Speed). o .refusal) (asked s t x b e)) ∙ d))
+        (λ n. let z : 15 ≡ 0 = sym (ap (λ (o : Speed). o .refusal) (neither-first s t x n)) ∙ d in absurd (omega arith)),
+    λ c. ap (λ (o : Speed). o .refusal) (question-speed c),
+  )
+    where
+      inside : (b : Brought) → kind ≡ kindOf b → (l : List Item) → judgedAs b s ≡ accepted l → speedOfValues t x l .refusal ≡ 0 → Answerable kind s t x
+      inside b k l e d =
+          let p = segments b .only s l ok e in
+          by-cases (validTrain t)
+          (λ v. by-cases (ltb x (segmentLength (sheetNumbers l)))
+          (λ h. record { brought = b; named = k; values = l; good = p .0; whole = p .1; valid = v; inside = ltb-true x (segmentLength (sheetNumbers l)) h })
+          (λ h. let z : _≡_ {A = ℕ} 11 0 = rw (v, h) at d in absurd (omega arith)))
+          (λ v. let z : _≡_ {A = ℕ} 10 0 = rw v at d in absurd (omega arith))
+
+      go : (b : Brought) → kind ≡ kindOf b → (r : Read) → judgedAs b s ≡ r → answerOf noSpeed (speedOfValues t x) r .refusal ≡ 0 → Answerable kind s t x
+      go b k (accepted l) e d = inside b k l e d
+      go b k (refused q place) e d = absurd (omega (arith, segments b .refuses s ok q place e))
 
 -- "a refusal .. returns its number with length, speed or altitude 0"
-pub speed-none : (t : Train) (x : ℕ) (r : Read) → (answerOf noSpeed (speedOfValues t x) r .refusal ≡ 0 → ⊥) → answerOf noSpeed (speedOfValues t x) r .speed ≡ 0
-speed-none t x (refused q place) n = refl
-speed-none t x (accepted l) n =
-    by-cases (validTrain t)
-    (λ v. by-cases (ltb x (segmentLength (sheetNumbers l))) (λ b. absurd (n (rw (v, b)))) (λ b. rw (v, b)))
-    (λ v. rw v)
+pub speed-none : (kind : ℕ) (s : List ℕ) (t : Train) (x : ℕ) → (permittedSpeed kind s t x .refusal ≡ 0 → ⊥) → permittedSpeed kind s t x .speed ≡ 0
+speed-none kind s t x n =
+    either-kind kind
+    (λ b e. ap (λ (o : Speed). o .speed) (asked s t x b e) ∙ go (judgedAs b s) (λ d. n (ap (λ (o : Speed). o .refusal) (asked s t x b e) ∙ d)))
+    (λ m. ap (λ (o : Speed). o .speed) (neither-first s t x m))
+  where
+    go : (r : Read) → (answerOf noSpeed (speedOfValues t x) r .refusal ≡ 0 → ⊥) → answerOf noSpeed (speedOfValues t x) r .speed ≡ 0
+    go (refused q place) m = refl
+    go (accepted l) m =
+        by-cases (validTrain t)
+        (λ v. by-cases (ltb x (segmentLength (sheetNumbers l))) (λ b. absurd (m (rw (v, b)))) (λ b. rw (v, b)))
+        (λ v. rw v)
 
 pub altitude-none : (r : Read) → (altitudeOfRead r .refusal ≡ 0 → ⊥) → altitudeOfRead r .altitude ≡ pos 0
 altitude-none (refused q place) n = refl
@@ -220,7 +234,7 @@ in-fives v = record { fives = v / 5; multiple = refl; notAbove = omega arith; gr
 answered-lowered : (t : Train) (x lsp v : ℕ) → judgedSpeed t x lsp (inFives v) ≡ answerInFives (judgedSpeed t x lsp v)
 answered-lowered t x lsp v = by-cases (validTrain t) (λ e. by-cases (ltb x lsp) (λ b. rw (e, b)) (λ b. rw (e, b))) (λ e. rw e)
 
-pub asked-lowered : (t : Train) (x : ℕ) (l : List Item) → SegmentSheetValues l
+pub asked-lowered : (t : Train) (x : ℕ) (l : List Item) → SegmentValues Brought.sheet l
     → speedOfValues t x (givenBack (sheetFields wireChanges) l) ≡ answerInFives (speedOfValues t x l)
 asked-lowered t x l c =
     ap₂ (judgedSpeed t x) (length-stays l c) (speed-in-fives t x l c) ∙ answered-lowered t x (segmentLength (sheetNumbers l)) (speedIn t x (sheetNumbers l))

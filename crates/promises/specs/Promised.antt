@@ -22,15 +22,22 @@ use Rattle.link.specs.Grounds.{EitherPacketValues, EitherSheetValues}
 use Rattle.speed.specs.declared.Train.{Train}
 use Rattle.speed.specs.Speed.{validTrain, heldSpeeds, elementsFrom, segmentLength, profileOf, inFives}
 use Rattle.question.specs.declared.Speed.{Speed}
+use Rattle.question.specs.Question.{Brought, packet, sheet, kindOf}
 use Rattle.convert.specs.Convert.{Outcome}
 
--- "keeps the published widths and ranges and the stated rules", where a segment is needed: one good value for each field of its tree, and no more
-abbrev pub SegmentPacketValues : List Item → Type 0
-SegmentPacketValues l = Conforming InPacket (sheetFields wireChanges) l
+-- a good value of a field: of a packet's, and of a sheet's
+abbrev pub goodIn : Brought → Kind → Item → Type 0
+goodIn packet = InPacket
+goodIn sheet = InSheet
 
--- "keeps the published widths and ranges and the stated rules": the same of a sheet
-abbrev pub SegmentSheetValues : List Item → Type 0
-SegmentSheetValues l = Conforming InSheet (sheetFields wireChanges) l
+-- "keeps the published widths and ranges and the stated rules", where a segment is needed: one good value for each field of its tree, and no more
+abbrev pub SegmentValues : Brought → List Item → Type 0
+SegmentValues b l = Conforming (goodIn b) (sheetFields wireChanges) l
+
+-- "When a packet is written", "numbers one after the other": the segment of the values, as it is brought
+abbrev pub segmentOf : Brought → List Item → List ℕ
+segmentOf packet = toPacket wireChanges
+segmentOf sheet = toSheet wireChanges
 
 -- the input is written of good values, as "When a packet is written"
 pub record OfValues (Good : List Item → Type 0) (input : List Item → List ℕ) (s : List ℕ) : Type 0 where
@@ -38,9 +45,9 @@ pub record OfValues (Good : List Item → Type 0) (input : List Item → List �
   pub good : Good values
   pub whole : s ≡ input values
 
--- a packet that "keeps the published widths and ranges and the stated rules"
-abbrev pub PacketOfValues : List ℕ → Type 0
-PacketOfValues s = OfValues SegmentPacketValues (toPacket wireChanges) s
+-- a packet or a sheet that "keeps the published widths and ranges and the stated rules"
+abbrev pub SegmentOfValues : Brought → List ℕ → Type 0
+SegmentOfValues b s = OfValues (SegmentValues b) (segmentOf b) s
 
 -- "is converted if the room holds the result": the input is written of good values, and the room holds what is written of them
 pub record Convertible (Good : List Item → Type 0) (input result : List Item → List ℕ) (s room : List ℕ) : Type 0 where
@@ -57,21 +64,15 @@ ConvertiblePacket s room = Convertible EitherPacketValues toEitherPacket toEithe
 abbrev pub ConvertibleSheet : List ℕ → List ℕ → Type 0
 ConvertibleSheet s room = Convertible EitherSheetValues toEitherSheet toEitherPacket s room
 
--- the input is written of good values, the train is valid, and x is "from 0 to L_SP - 1"
-pub record Answerable (Good : List Item → Type 0) (input : List Item → List ℕ) (s : List ℕ) (t : Train) (x : ℕ) : Type 0 where
+-- the kind is that of what is brought, which is written of good values, the train is valid, and x is "from 0 to L_SP - 1"
+pub record Answerable (kind : ℕ) (s : List ℕ) (t : Train) (x : ℕ) : Type 0 where
+  pub brought : Brought
+  pub named : kind ≡ kindOf brought
   pub values : List Item
-  pub good : Good values
-  pub whole : s ≡ input values
+  pub good : SegmentValues brought values
+  pub whole : s ≡ segmentOf brought values
   pub valid : validTrain t ≡ true
   pub inside : x < segmentLength (sheetNumbers values)
-
--- "speed from a packet": when it is answered
-abbrev pub AnswerablePacket : List ℕ → Train → ℕ → Type 0
-AnswerablePacket s t x = Answerable SegmentPacketValues (toPacket wireChanges) s t x
-
--- "speed from a sheet": when it is answered
-abbrev pub AnswerableSheet : List ℕ → Train → ℕ → Type 0
-AnswerableSheet s t x = Answerable SegmentSheetValues (toSheet wireChanges) s t x
 
 -- "the greatest multiple of 5 not above the speed from the sheet": the same answer with its speed lowered so
 abbrev pub answerInFives : Speed → Speed

@@ -8,8 +8,10 @@ use lib.ListN.{length}
 use Rattle.format.specs.Grounds.{Among}
 use Rattle.convert.specs.Convert.{Outcome}
 use Rattle.question.specs.declared.Speed.{Speed}
+use Rattle.question.specs.Question.{Brought, packet, sheet, kindOf, Neither}
 use Rattle.altitude.specs.declared.Altitude.{Altitude}
 use Rattle.altitude.specs.Altitude.{centimetres}
+use Rattle.promises.specs.Refused.{speedRefusals}
 
 -- "one possible outcome for every input: answer, length and all bytes of the room, refusals too"
 pub data ConversionEnds (room refusals : List ℕ) (least most : ℕ) (o : Outcome) : Type 0 where
@@ -19,10 +21,16 @@ pub data ConversionEnds (room refusals : List ℕ) (least most : ℕ) (o : Outco
   -- "It returns its number with length .. 0, and the lent room keeps every byte it had"
   refusal : Among (o .answer .refusal) refusals → o .answer .length ≡ 0 → o .room ≡ room → ConversionEnds room refusals least most o
 
--- "km/h, 0 to 604", or "It returns its number with .. speed .. 0"
-pub data SpeedEnds (refusals : List ℕ) (most : ℕ) (o : Speed) : Type 0 where
-  success : o .refusal ≡ 0 → o .place ≡ 0 → o .speed ≤ most → SpeedEnds refusals most o
-  refusal : Among (o .refusal) refusals → o .speed ≡ 0 → SpeedEnds refusals most o
+-- "km/h, 0 to 604", and "the packet's speeds times 5"
+abbrev pub highestSpeed : Brought → ℕ
+highestSpeed packet = 600
+highestSpeed sheet = 604
+
+-- a speed, or "It returns its number with .. speed .. 0"; 15 for a kind that is neither, and for no other
+pub data SpeedEnds (kind : ℕ) (o : Speed) : Type 0 where
+  success : (b : Brought) → kind ≡ kindOf b → o .refusal ≡ 0 → o .place ≡ 0 → o .speed ≤ highestSpeed b → SpeedEnds kind o
+  refusal : (b : Brought) → kind ≡ kindOf b → Among (o .refusal) (speedRefusals b) → o .speed ≡ 0 → SpeedEnds kind o
+  neither : Neither kind → o .refusal ≡ 15 → o .place ≡ 0 → o .speed ≡ 0 → SpeedEnds kind o
 
 -- "Altitude is -100,000 to 948,575 cm", and 0 to 1,048,575 as it is sent
 pub data AltitudeEnds (refusals : List ℕ) (o : Altitude) : Type 0 where

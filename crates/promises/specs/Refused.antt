@@ -1,4 +1,4 @@
--- The ground of each refusal of each public operation, with its place: the input's own, then 8 of a conversion, 10 and 11 of a question. No operation is run.
+-- The ground of each refusal of each public operation, with its place: 15 of a question, the input's own, then 8 of a conversion, 10 and 11 of a question. No operation is run.
 -- Assumes nothing.
 use mathlib.Core.Path.{_≡_}
 use mathlib.Core.Bool.{true, false}
@@ -8,14 +8,14 @@ use lib.ListN.{length}
 use Rattle.kinds.specs.declared.Item.{Item}
 use Rattle.format.specs.Format.{sheetNumbers}
 use Rattle.segment.specs.Segment.{fields, wireChanges}
-use Rattle.segment.specs.Judgement.{segmentNumber, toPacket, toSheet}
+use Rattle.segment.specs.Judgement.{segmentNumber}
 use Rattle.segment.specs.Grounds.{PacketGround, SheetGround, packetRefusals}
 use Rattle.link.specs.Link.{toEitherPacket, toEitherSheet}
 use Rattle.link.specs.Grounds.{EitherPacketGround, EitherSheetGround, EitherPacketValues, EitherSheetValues}
 use Rattle.speed.specs.declared.Train.{Train}
 use Rattle.speed.specs.Speed.{validTrain, segmentLength}
-use Rattle.question.specs.declared.Speed.{Speed}
-use Rattle.promises.specs.Promised.{SegmentPacketValues, SegmentSheetValues, OfValues}
+use Rattle.question.specs.Question.{Brought, packet, sheet, kindOf, Neither}
+use Rattle.promises.specs.Promised.{OfValues, SegmentOfValues}
 
 -- "Every refusal carries its place": what an answer says is the refusal r at this place, and r is not 0, which is success
 abbrev pub Refuses : ℕ × ℕ → ℕ → ℕ → Type 0
@@ -27,14 +27,21 @@ pub data ConversionGround (Own : ℕ → ℕ → Type 0) (Good : List Item → T
   -- "8: result longer than the lent room"
   shortRoom : (w : OfValues Good input s) → length room < length (result (w .values)) → r ≡ 8 → place ≡ 0 → ConversionGround Own Good input result s room r place
 
--- "speed questions judge 10, then 11"; "For .. 10 to 12 .. it is 0"
-pub data QuestionGround (Own : ℕ → ℕ → Type 0) (Good : List Item → Type 0) (input : List Item → List ℕ) (s : List ℕ) (t : Train) (x r place : ℕ) : Type 0 where
-  own : Own r place → QuestionGround Own Good input s t x r place
+-- "A packet is judged 1, 2, 3, then field by field", "A sheet is judged number by number": the segment's own refusals
+abbrev pub SegmentGround : Brought → List ℕ → ℕ → ℕ → Type 0
+SegmentGround packet = PacketGround segmentNumber (fields wireChanges)
+SegmentGround sheet = SheetGround wireChanges
+
+-- "speed questions judge 10, then 11"; "For .. 10 to 12 .. and, unless said, numbers above 13 it is 0"
+pub data SpeedGround (kind : ℕ) (s : List ℕ) (t : Train) (x r place : ℕ) : Type 0 where
+  -- "15, first of all, for a kind that is neither": nothing is said of the segment, the train and x
+  neither : Neither kind → r ≡ 15 → place ≡ 0 → SpeedGround kind s t x r place
+  own : (b : Brought) → kind ≡ kindOf b → SegmentGround b s r place → SpeedGround kind s t x r place
   -- "10: train length or cant deficiency not allowed"
-  badTrain : OfValues Good input s → validTrain t ≡ false → r ≡ 10 → place ≡ 0 → QuestionGround Own Good input s t x r place
+  badTrain : (b : Brought) → kind ≡ kindOf b → SegmentOfValues b s → validTrain t ≡ false → r ≡ 10 → place ≡ 0 → SpeedGround kind s t x r place
   -- "11: x at or past L_SP"
-  pastEnd : (w : OfValues Good input s) → validTrain t ≡ true → segmentLength (sheetNumbers (w .values)) ≤ x → r ≡ 11 → place ≡ 0
-      → QuestionGround Own Good input s t x r place
+  pastEnd : (b : Brought) → kind ≡ kindOf b → (w : SegmentOfValues b s) → validTrain t ≡ true → segmentLength (sheetNumbers (w .values)) ≤ x → r ≡ 11 → place ≡ 0
+      → SpeedGround kind s t x r place
 
 -- ---- by name, with the refusals that the C header lists
 
@@ -54,21 +61,10 @@ SheetToPacketGround s room r place = ConversionGround (EitherSheetGround s) Eith
 abbrev pub sheetToPacketRefusals : List ℕ
 sheetToPacketRefusals = 2 ∷ 4 ∷ 5 ∷ 8 ∷ 9 ∷ 12 ∷ []
 
--- "speed from a packet"
-abbrev pub SpeedFromPacketGround : List ℕ → Train → ℕ → ℕ → ℕ → Type 0
-SpeedFromPacketGround s t x r place = QuestionGround (PacketGround segmentNumber (fields wireChanges) s) SegmentPacketValues (toPacket wireChanges) s t x r place
-
--- "1 to 7, 10 or 11", and 13
-abbrev pub speedFromPacketRefusals : List ℕ
-speedFromPacketRefusals = 1 ∷ 2 ∷ 3 ∷ 4 ∷ 5 ∷ 6 ∷ 7 ∷ 13 ∷ 10 ∷ 11 ∷ []
-
--- "speed from a sheet"
-abbrev pub SpeedFromSheetGround : List ℕ → Train → ℕ → ℕ → ℕ → Type 0
-SpeedFromSheetGround s t x r place = QuestionGround (SheetGround wireChanges s) SegmentSheetValues (toSheet wireChanges) s t x r place
-
--- "2, 4, 5, 9, 10 or 11"
-abbrev pub speedFromSheetRefusals : List ℕ
-speedFromSheetRefusals = 2 ∷ 4 ∷ 5 ∷ 9 ∷ 10 ∷ 11 ∷ []
+-- a speed question: "1 to 7, 10 or 11", and 13, of a packet; "2, 4, 5, 9, 10 or 11" of a sheet
+abbrev pub speedRefusals : Brought → List ℕ
+speedRefusals packet = 1 ∷ 2 ∷ 3 ∷ 4 ∷ 5 ∷ 6 ∷ 7 ∷ 13 ∷ 10 ∷ 11 ∷ []
+speedRefusals sheet = 2 ∷ 4 ∷ 5 ∷ 9 ∷ 10 ∷ 11 ∷ []
 
 -- "the altitude of a packet"
 abbrev pub AltitudeGround : List ℕ → ℕ → ℕ → Type 0
@@ -78,6 +74,6 @@ AltitudeGround s r place = PacketGround segmentNumber (fields wireChanges) s r p
 abbrev pub altitudeRefusals : List ℕ
 altitudeRefusals = packetRefusals
 
--- "For 1, 2, 3, 8, 10 to 12, success .. it is 0"
+-- "For 1, 2, 3, 8, 10 to 12, success and, unless said, numbers above 13 it is 0"
 abbrev pub placeless : List ℕ
-placeless = 0 ∷ 1 ∷ 2 ∷ 3 ∷ 8 ∷ 10 ∷ 11 ∷ 12 ∷ []
+placeless = 0 ∷ 1 ∷ 2 ∷ 3 ∷ 8 ∷ 10 ∷ 11 ∷ 12 ∷ 15 ∷ []

@@ -33,20 +33,21 @@ refusedSheets = (7 ∷ []) ∷ (6 ∷ 10 ∷ []) ∷ toSheet wireChanges fallen 
 abbrev train : ℕ → Train
 train length = record { length = length; cant = 80; «freight_p» = false; «freight_g» = false; passenger = false }
 
--- "x at or past L_SP": a question of a train at x
+-- "says first, 0 or 1": a question of a train at x
 pub record Sample : Type 0 where
+  pub kind : ℕ
   pub bytes : List ℕ
   pub of : Train
   pub x : ℕ
 
 -- "A packet is judged" before the train: a question with a valid train
-abbrev pub questions : List (List ℕ) → List Sample
-questions [] = []
-questions (s ∷ l) = record { bytes = s; of = train 1; x = 0 } ∷ questions l
+abbrev pub questions : ℕ → List (List ℕ) → List Sample
+questions kind [] = []
+questions kind (s ∷ l) = record { kind = kind; bytes = s; of = train 1; x = 0 } ∷ questions kind l
 
 -- 10, "train length .. not allowed": a train of no length. 11, "x at or past L_SP": L_SP is 1
-abbrev pub lateQuestions : List ℕ → List Sample
-lateQuestions s = record { bytes = s; of = train 0; x = 1 } ∷ record { bytes = s; of = train 1; x = 1 } ∷ []
+abbrev pub lateQuestions : ℕ → List ℕ → List Sample
+lateQuestions kind s = record { kind = kind; bytes = s; of = train 0; x = 1 } ∷ record { kind = kind; bytes = s; of = train 1; x = 1 } ∷ []
 
 -- 8, "result longer than the lent room": a result in no room
 abbrev pub convertedPackets : List (List ℕ)
@@ -65,10 +66,8 @@ tooManyBits = 4 ∷ replicate 6 0 ++ 17 ∷ times 17 (replicate 5 0 ++ 31 ∷ re
 abbrev pub convertedSheets : List (List ℕ)
 convertedSheets = refusedSheets ++ firstSheet ∷ [] ∷ tooManyBits ∷ []
 
--- "speed from a packet"
-abbrev pub askedPackets : List Sample
-askedPackets = questions refusedPackets ++ lateQuestions firstPacket
-
--- "speed from a sheet"
-abbrev pub askedSheets : List Sample
-askedSheets = questions (refusedSheets ++ [] ∷ []) ++ lateQuestions firstSheet
+-- 15, "a kind that is neither": 2, with no byte and a train of no length; then the refusals of a packet and of a sheet
+abbrev pub asked : List Sample
+asked =
+    record { kind = 2; bytes = []; of = train 0; x = 1 } ∷ questions 0 refusedPackets ++ lateQuestions 0 firstPacket
+    ++ questions 1 (refusedSheets ++ [] ∷ []) ++ lateQuestions 1 firstSheet

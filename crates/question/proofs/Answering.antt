@@ -23,7 +23,7 @@ use Rattle.judge.proofs.Accepted.{verdict-accepted, verdict-refused}
 use Rattle.speed.specs.declared.Train.{Train}
 use Rattle.speed.specs.Speed.{validTrain, segmentLength, speedIn}
 use Rattle.question.specs.declared.Speed.{Speed}
-use Rattle.question.specs.Question.{noSpeed, judgedSpeed, speedOfValues, speedFromPacket, speedFromSheet}
+use Rattle.question.specs.Question.{Brought, noSpeed, judgedSpeed, speedOfValues, speedFrom}
 
 module _ (t : Train) (x lsp : ℕ) where
   -- ---- "speed questions judge 10, then 11"
@@ -68,8 +68,8 @@ module _ {B : Type 0} {accepts : ℕ → B} {refuses : ℕ → ℕ → B} (sorts
     answered-so a b = ap₂ (judgedSpeed t x) a b ∙ sym (ap (answerOf noSpeed (speedOfValues t x)) accepted-so)
 
 module _ (s : List ℕ) (t : Train) (x : ℕ) where
-  pub packet-refused : (q place : ℕ) → PacketVerdict.Refused q place ≡ packetVerdict Segment s → noSpeed q place ≡ speedFromPacket s t x
-  unfolding packetVerdict speedFromPacket fromPacket fields sheetFields
+  pub packet-refused : (q place : ℕ) → PacketVerdict.Refused q place ≡ packetVerdict Segment s → noSpeed q place ≡ speedFrom Brought.packet s t x
+  unfolding packetVerdict fromPacket fields sheetFields
   packet-refused q place e = refused-so packet-sorts (sizeFrom sheet (treeSheetFields Segment) 0) t x (fromPacket wireChanges s) q place e
 
   pub packet-accepted : (n : ℕ) → PacketVerdict.SheetBytes n ≡ packetVerdict Segment s → fromPacket wireChanges s ≡ accepted (valuesOf (fromPacket wireChanges s))
@@ -77,12 +77,12 @@ module _ (s : List ℕ) (t : Train) (x : ℕ) where
   packet-accepted n e = accepted-so packet-sorts (sizeFrom sheet (treeSheetFields Segment) 0) t x (fromPacket wireChanges s) n e
 
   pub packet-answered : (n : ℕ) → PacketVerdict.SheetBytes n ≡ packetVerdict Segment s → {lsp v : ℕ} → lsp ≡ segmentLength (sheetNumbers (valuesOf (fromPacket wireChanges s)))
-      → v ≡ speedIn t x (sheetNumbers (valuesOf (fromPacket wireChanges s))) → judgedSpeed t x lsp v ≡ speedFromPacket s t x
-  unfolding packetVerdict speedFromPacket fromPacket fields sheetFields
+      → v ≡ speedIn t x (sheetNumbers (valuesOf (fromPacket wireChanges s))) → judgedSpeed t x lsp v ≡ speedFrom Brought.packet s t x
+  unfolding packetVerdict fromPacket fields sheetFields
   packet-answered n e a b = answered-so packet-sorts (sizeFrom sheet (treeSheetFields Segment) 0) t x (fromPacket wireChanges s) n e a b
 
-  pub sheet-refused : (q place : ℕ) → SheetVerdict.Refused q place ≡ sheetVerdict Segment s → noSpeed q place ≡ speedFromSheet s t x
-  unfolding sheetVerdict speedFromSheet fromSheet fields sheetFields
+  pub sheet-refused : (q place : ℕ) → SheetVerdict.Refused q place ≡ sheetVerdict Segment s → noSpeed q place ≡ speedFrom Brought.sheet s t x
+  unfolding sheetVerdict fromSheet fields sheetFields
   sheet-refused q place e = refused-so sheet-sorts (sizeFrom packet (treeSheetFields Segment) 0) t x (fromSheet wireChanges s) q place e
 
   pub sheet-accepted : (n : ℕ) → SheetVerdict.PacketBits n ≡ sheetVerdict Segment s → fromSheet wireChanges s ≡ accepted (valuesOf (fromSheet wireChanges s))
@@ -90,6 +90,6 @@ module _ (s : List ℕ) (t : Train) (x : ℕ) where
   sheet-accepted n e = accepted-so sheet-sorts (sizeFrom packet (treeSheetFields Segment) 0) t x (fromSheet wireChanges s) n e
 
   pub sheet-answered : (n : ℕ) → SheetVerdict.PacketBits n ≡ sheetVerdict Segment s → {lsp v : ℕ} → lsp ≡ segmentLength (sheetNumbers (valuesOf (fromSheet wireChanges s)))
-      → v ≡ speedIn t x (sheetNumbers (valuesOf (fromSheet wireChanges s))) → judgedSpeed t x lsp v ≡ speedFromSheet s t x
-  unfolding sheetVerdict speedFromSheet fromSheet fields sheetFields
+      → v ≡ speedIn t x (sheetNumbers (valuesOf (fromSheet wireChanges s))) → judgedSpeed t x lsp v ≡ speedFrom Brought.sheet s t x
+  unfolding sheetVerdict fromSheet fields sheetFields
   sheet-answered n e a b = answered-so sheet-sorts (sizeFrom packet (treeSheetFields Segment) 0) t x (fromSheet wireChanges s) n e a b

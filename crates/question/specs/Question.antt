@@ -1,11 +1,12 @@
--- The two questions on speed, as total functions of the bytes, the train and the place.
+-- The question on speed, as a total function of the kind, the bytes, the train and the place.
 -- Assumes nothing.
+use mathlib.Core.Path.{_≡_}
 use mathlib.Core.Bool.{cond}
 use mathlib.Core.List.{List}
 use Prim.Native.Nat.{ℕ}
-use lib.Dec.{ltb}
+use lib.Dec.{eqb, ltb}
 use Rattle.kinds.specs.declared.Item.{Item}
-use Rattle.format.specs.Format.{answerOf, sheetNumbers}
+use Rattle.format.specs.Format.{Read, answerOf, sheetNumbers}
 use Rattle.segment.specs.Segment.{wireChanges}
 use Rattle.segment.specs.Judgement.{fromPacket, fromSheet}
 use Rattle.speed.specs.declared.Train.{Train}
@@ -24,10 +25,31 @@ judgedSpeed t x lsp v = cond (validTrain t) (cond (ltb x lsp) (record { refusal 
 abbrev pub speedOfValues : Train → ℕ → List Item → Speed
 speedOfValues t x l = judgedSpeed t x (segmentLength (sheetNumbers l)) (speedIn t x (sheetNumbers l))
 
--- "speed from a packet": the segment's own refusals come first
-unfoldable pub speedFromPacket : List ℕ → Train → ℕ → Speed
-speedFromPacket s t x = answerOf noSpeed (speedOfValues t x) (fromPacket wireChanges s)
+-- ---- "one question says first, 0 or 1, whether it brings a packet or a sheet"
 
--- "speed from a sheet": the same
-unfoldable pub speedFromSheet : List ℕ → Train → ℕ → Speed
-speedFromSheet s t x = answerOf noSpeed (speedOfValues t x) (fromSheet wireChanges s)
+-- what is brought: "a packet or a sheet"
+pub data Brought : Type 0 where
+  packet : Brought
+  sheet : Brought
+
+-- "0 or 1"
+abbrev pub kindOf : Brought → ℕ
+kindOf packet = 0
+kindOf sheet = 1
+
+-- "a kind that is neither"
+abbrev pub Neither : ℕ → Type 0
+Neither kind = (b : Brought) → kind ≡ kindOf b → ⊥
+
+-- "A packet is judged", "A sheet is judged": the values of what is brought, or its refusal
+abbrev pub judgedAs : Brought → List ℕ → Read
+judgedAs packet = fromPacket wireChanges
+judgedAs sheet = fromSheet wireChanges
+
+-- "Answers stay the same for each kind": the segment's own refusals come first
+abbrev pub speedFrom : Brought → List ℕ → Train → ℕ → Speed
+speedFrom b s t x = answerOf noSpeed (speedOfValues t x) (judgedAs b s)
+
+-- "15, first of all, for a kind that is neither"; "numbers above 13 it is 0"
+unfoldable pub permittedSpeed : ℕ → List ℕ → Train → ℕ → Speed
+permittedSpeed kind s t x = cond (eqb kind (kindOf packet)) (speedFrom packet s t x) (cond (eqb kind (kindOf sheet)) (speedFrom sheet s t x) (noSpeed 15 0))

@@ -1,6 +1,6 @@
-// The permitted speed for a train at a place, from a packet and from a sheet. It is judged whole, then the train and the place; only then the speed is worked out.
+// The permitted speed for a train at a place, from a packet or from a sheet. It is judged whole, then the train and the place; only then the speed is worked out.
 ghost use mathlib.Core.Path.{_≡_};
-ghost use Rattle.question.specs.Question.{noSpeed, judgedSpeed, speedFromPacket, speedFromSheet};
+ghost use Rattle.question.specs.Question.{Brought, noSpeed, judgedSpeed, speedFrom, permittedSpeed};
 use judge::PacketVerdict;
 use judge::SheetVerdict;
 use link::Tree;
@@ -14,10 +14,17 @@ pub struct Speed {
     pub speed: u32,
 }
 
-// The refusals of a question: the train, and the place.
+// What a question brings.
+pub const PACKET: u32 = 0;
+
+pub const SHEET: u32 = 1;
+
+// The refusals of a question: the train, the place, and the kind.
 pub const BAD_TRAIN: u32 = 10;
 
 pub const PAST_END: u32 = 11;
+
+pub const UNKNOWN_KIND: u32 = 15;
 
 fn refused(refusal: u32, place: u32) -> Speed
     ensures { λ r. ⌜ r ≡ noSpeed refusal place ⌝ }
@@ -26,6 +33,16 @@ fn refused(refusal: u32, place: u32) -> Speed
         refusal,
         place,
         speed: 0,
+    }
+}
+
+fn answered(speed: u32) -> Speed
+    ensures { λ r. ⌜ r ≡ record { refusal = 0; place = 0; speed = speed } ⌝ }
+{
+    Speed {
+        refusal: 0,
+        place: 0,
+        speed,
     }
 }
 
@@ -42,9 +59,9 @@ fn refusal_of(train: Train, x: u32, lsp: u32) -> u32
     BAD_TRAIN
 }
 
-// The permitted speed from a packet: its speeds times 5.
-pub fn speed_from_packet(packet: &[u8], train: Train, x: u32) -> Speed
-    ensures { λ r. ⌜ r ≡ speedFromPacket (now (packet .entry)) train x ⌝ }
+// From a packet: its speeds times 5.
+fn from_packet(packet: &[u8], train: Train, x: u32) -> Speed
+    ensures { λ r. ⌜ r ≡ speedFrom Brought.packet (now (packet .entry)) train x ⌝ }
 {
     match judge_packet::judge_packet(Tree::Segment, packet) {
         PacketVerdict::Refused(r, place) => refused(r, place),
@@ -53,19 +70,14 @@ pub fn speed_from_packet(packet: &[u8], train: Train, x: u32) -> Speed
             if refusal != 0 {
                 return refused(refusal, 0);
             }
-            let speed = ask_packet::permitted(packet, train, x);
-            Speed {
-                refusal: 0,
-                place: 0,
-                speed,
-            }
+            answered(ask_packet::permitted(packet, train, x))
         }
     }
 }
 
-// The permitted speed from a sheet: its own speeds.
-pub fn speed_from_sheet(sheet: &[u8], train: Train, x: u32) -> Speed
-    ensures { λ r. ⌜ r ≡ speedFromSheet (now (sheet .entry)) train x ⌝ }
+// From a sheet: its own speeds.
+fn from_sheet(sheet: &[u8], train: Train, x: u32) -> Speed
+    ensures { λ r. ⌜ r ≡ speedFrom Brought.sheet (now (sheet .entry)) train x ⌝ }
 {
     match judge_sheet::judge_sheet(Tree::Segment, sheet) {
         SheetVerdict::Refused(r, place) => refused(r, place),
@@ -75,12 +87,20 @@ pub fn speed_from_sheet(sheet: &[u8], train: Train, x: u32) -> Speed
             if refusal != 0 {
                 return refused(refusal, 0);
             }
-            let speed = ask_sheet::permitted(sheet, start, train, x);
-            Speed {
-                refusal: 0,
-                place: 0,
-                speed,
-            }
+            answered(ask_sheet::permitted(sheet, start, train, x))
         }
     }
+}
+
+// The permitted speed at x for a train, in a segment that is brought as a packet or as a sheet.
+pub fn permitted_speed(kind: u32, segment: &[u8], train: Train, x: u32) -> Speed
+    ensures { λ r. ⌜ r ≡ permittedSpeed kind (now (segment .entry)) train x ⌝ }
+{
+    if kind == PACKET {
+        return from_packet(segment, train, x);
+    }
+    if kind == SHEET {
+        return from_sheet(segment, train, x);
+    }
+    refused(UNKNOWN_KIND, 0)
 }

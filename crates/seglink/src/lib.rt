@@ -1,7 +1,7 @@
 // The public operations, under the names that the customer's server links.
 ghost use mathlib.Core.Path.{_≡_};
 ghost use Rattle.convert.specs.Convert.{packetToSheet, sheetToPacket};
-ghost use Rattle.question.specs.Question.{speedFromPacket, speedFromSheet};
+ghost use Rattle.question.specs.Question.{permittedSpeed};
 ghost use Rattle.altitude.specs.Altitude.{altitudeOf};
 ghost use Rattle.intake.specs.Intake.{gathering, delivered, completed, asked};
 use altitude::Altitude;
@@ -26,20 +26,12 @@ pub extern "C" fn seglink_sheet_to_packet(sheet: &[u8], room: &mut [u8]) -> Conv
     to_packet::sheet_to_packet(sheet, room)
 }
 
-// The permitted speed at x for a train, from a packet: a refusal's number and place, or 0 and the speed in km/h.
+// The permitted speed at x for a train, from a packet, kind 0, or a sheet, kind 1: a refusal's number and place, or 0 and the speed in km/h.
 #[no_mangle]
-pub extern "C" fn seglink_speed_from_packet(packet: &[u8], train: Train, x: u32) -> Speed
-    ensures { λ r. ⌜ r ≡ speedFromPacket (now (packet .entry)) train x ⌝ }
+pub extern "C" fn seglink_permitted_speed(kind: u32, segment: &[u8], train: Train, x: u32) -> Speed
+    ensures { λ r. ⌜ r ≡ permittedSpeed kind (now (segment .entry)) train x ⌝ }
 {
-    question::speed_from_packet(packet, train, x)
-}
-
-// The permitted speed at x for a train, from a sheet: a refusal's number and place, or 0 and the speed in km/h.
-#[no_mangle]
-pub extern "C" fn seglink_speed_from_sheet(sheet: &[u8], train: Train, x: u32) -> Speed
-    ensures { λ r. ⌜ r ≡ speedFromSheet (now (sheet .entry)) train x ⌝ }
-{
-    question::speed_from_sheet(sheet, train, x)
+    question::permitted_speed(kind, segment, train, x)
 }
 
 // The altitude of a packet in signed centimetres: a refusal's number and place, or 0 and the altitude.

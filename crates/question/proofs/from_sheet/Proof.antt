@@ -1,10 +1,10 @@
--- `question::speed_from_sheet` meets its contract.
+-- `question::from_sheet` meets its contract.
 use mathlib.Core.Path.{refl, sym, _∙_}
 use denote.Ref.{now}
 use Rattle.question.proofs.Answering.{no-speed, some-speed, sheet-refused, sheet-accepted, sheet-answered}
 use borrow.Author.Needs.{needs}
-use Rattle.question.proofs.speed_from_sheet.Statement.{statement}
-use Rattle.question.proofs.speed_from_sheet.Tie as tie
+use Rattle.question.proofs.from_sheet.Statement.{statement}
+use Rattle.question.proofs.from_sheet.Tie as tie
 
 judge-sheet-requires : tie.Need-judge-sheet-requires
 judge-sheet-requires c κs = search needs
@@ -41,6 +41,9 @@ returns c =
 permitted-requires : tie.Need-permitted-requires
 permitted-requires c κs = search needs
 
+answered-requires : tie.Need-answered-requires
+answered-requires c κs = search needs
+
 returns-2 : tie.Need-returns-2
 returns-2 c =
     let a = c .before .before .before .before .before .before .args in
@@ -49,14 +52,14 @@ returns-2 c =
 
 returns-3 : tie.Need-returns-3
 returns-3 c =
-    let a = c .before .before .before .before .before .before .before .before .args in
+    let a = c .before .before .before .before .before .before .before .before .before .args in
     let s = now (a .sheet) in
-    let e = (sym (c .before .before .before .before .enum-told .given .1) ∙ c .before .before .before .before .before .before .judge-sheet .ensures) in
-    let r = c .before .before .refusal-of .ensures in
-    some-speed (a .train) (a .x) _ r _ (c .before .if1 .left) ∙ sheet-answered s (a .train) (a .x) _ e (c .before .before .before .head .ensures .length-is) (c .permitted .ensures)
+    let e = (sym (c .before .before .before .before .before .enum-told .given .1) ∙ c .before .before .before .before .before .before .before .judge-sheet .ensures) in
+    let r = c .before .before .before .refusal-of .ensures in
+    c .answered .ensures ∙ some-speed (a .train) (a .x) _ r _ (c .before .before .if1 .left) ∙ sheet-answered s (a .train) (a .x) _ e (c .before .before .before .before .head .ensures .length-is) (c .before .permitted .ensures)
 
-pub speed-from-sheet-spec : {M : Type 1} → statement M
-speed-from-sheet-spec =
+pub from-sheet-spec : {M : Type 1} → statement M
+from-sheet-spec =
     tie.close
     (tie.spec
     judge-sheet-requires
@@ -68,5 +71,6 @@ speed-from-sheet-spec =
     refused-requires-2
     returns
     permitted-requires
+    answered-requires
     returns-2
     returns-3)

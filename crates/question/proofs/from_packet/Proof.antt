@@ -1,10 +1,10 @@
--- `question::speed_from_packet` meets its contract.
+-- `question::from_packet` meets its contract.
 use mathlib.Core.Path.{refl, sym, _∙_}
 use denote.Ref.{now}
 use Rattle.question.proofs.Answering.{no-speed, some-speed, packet-refused, packet-accepted, packet-answered}
 use borrow.Author.Needs.{needs}
-use Rattle.question.proofs.speed_from_packet.Statement.{statement}
-use Rattle.question.proofs.speed_from_packet.Tie as tie
+use Rattle.question.proofs.from_packet.Statement.{statement}
+use Rattle.question.proofs.from_packet.Tie as tie
 
 judge-packet-requires : tie.Need-judge-packet-requires
 judge-packet-requires c κs = search needs
@@ -44,6 +44,9 @@ permitted-requires c κs =
     let s = now (a .packet) in
     packet-accepted s (a .train) (a .x) _ (sym (c .before .before .before .enum-told .given .1) ∙ c .before .before .before .before .before .judge-packet .ensures)
 
+answered-requires : tie.Need-answered-requires
+answered-requires c κs = search needs
+
 returns-2 : tie.Need-returns-2
 returns-2 c =
     let a = c .before .before .before .before .before .before .args in
@@ -52,14 +55,14 @@ returns-2 c =
 
 returns-3 : tie.Need-returns-3
 returns-3 c =
-    let a = c .before .before .before .before .before .before .before .before .args in
+    let a = c .before .before .before .before .before .before .before .before .before .args in
     let s = now (a .packet) in
-    let e = (sym (c .before .before .before .before .enum-told .given .1) ∙ c .before .before .before .before .before .before .judge-packet .ensures) in
-    let r = c .before .before .refusal-of .ensures in
-    some-speed (a .train) (a .x) _ r _ (c .before .if1 .left) ∙ packet-answered s (a .train) (a .x) _ e (c .before .before .before .length-of .ensures) (c .permitted .ensures)
+    let e = (sym (c .before .before .before .before .before .enum-told .given .1) ∙ c .before .before .before .before .before .before .before .judge-packet .ensures) in
+    let r = c .before .before .before .refusal-of .ensures in
+    c .answered .ensures ∙ some-speed (a .train) (a .x) _ r _ (c .before .before .if1 .left) ∙ packet-answered s (a .train) (a .x) _ e (c .before .before .before .before .length-of .ensures) (c .before .permitted .ensures)
 
-pub speed-from-packet-spec : {M : Type 1} → statement M
-speed-from-packet-spec =
+pub from-packet-spec : {M : Type 1} → statement M
+from-packet-spec =
     tie.close
     (tie.spec
     judge-packet-requires
@@ -71,5 +74,6 @@ speed-from-packet-spec =
     refused-requires-2
     returns
     permitted-requires
+    answered-requires
     returns-2
     returns-3)
