@@ -50,13 +50,9 @@ changeSheet front next =
 abbrev pub changePacket : ℕ → ℕ → List ℕ
 changePacket front next = sheetToPacket (changeSheet front next) (room 43) .room
 
--- "a 200 cm train gets": from a packet, 0, or a sheet, 1
-abbrev pub gets : ℕ → List ℕ → ℕ → ℕ → Case
-gets kind s x v = record { said = speedSaid (permittedSpeed kind s plain x); due = speedSaid (record { refusal = 0; place = 0; speed = v }) }
-
--- a question that is refused with r
-abbrev pub refusedSpeed : ℕ → List ℕ → ℕ → ℕ → Case
-refusedSpeed kind s x r = record { said = speedSaid (permittedSpeed kind s plain x); due = speedSaid (record { refusal = r; place = 0; speed = 0 }) }
+-- "one question": its kind, segment, train and x, and the refusal and the speed that are due
+abbrev pub told : ℕ → List ℕ → Train → ℕ → ℕ → ℕ → Case
+told kind s t x r v = record { said = speedSaid (permittedSpeed kind s t x); due = speedSaid (record { refusal = r; place = 0; speed = v }) }
 
 -- ---- A4: "Cant deficiency falls to the next lower class"
 
@@ -76,21 +72,17 @@ severalSheet =
     entriesSheet 5
     (0x00 ∷ 0x82 ∷ 0x01 ∷ 0x73 ∷ 0x00 ∷ 0xA5 ∷ 0x01 ∷ 0x8C ∷ 0x01 ∷ 0x00 ∷ 0x82 ∷ 0x01 ∷ 0x70 ∷ 0x00 ∷ 0x64 ∷ 0x5A ∷ 0x00 ∷ 0x82 ∷ 0x01 ∷ 0x7D ∷ [])
 
--- what a train of this cant deficiency is told, and what it is due
-abbrev pub told : ℕ → (Train → ℕ → Speed) → ℕ → Case
-told cant question v = record { said = speedSaid (question (canted cant) 0); due = speedSaid (record { refusal = 0; place = 0; speed = v }) }
-
 -- from the sheet of two entries and its packet of 42 bytes, and from the sheet of five and its packet of 47
 abbrev pub cants : List Case
 cants =
     -- "A 150 mm train with entries for 100 and 165 uses the 100 entry"
-    told 150 (permittedSpeed 1 twoSheet) 120 ∷ told 150 (permittedSpeed 0 (sheetToPacket twoSheet (room 42) .room)) 120
+    told 1 twoSheet (canted 150) 0 0 120 ∷ told 0 (sheetToPacket twoSheet (room 42) .room) (canted 150) 0 0 120
     -- its own beside a lower one, and none at or below its own
-    ∷ told 165 (permittedSpeed 1 twoSheet) 140 ∷ told 165 (permittedSpeed 0 (sheetToPacket twoSheet (room 42) .room)) 140
-    ∷ told 80 (permittedSpeed 1 twoSheet) 100 ∷ told 80 (permittedSpeed 0 (sheetToPacket twoSheet (room 42) .room)) 100
+    ∷ told 1 twoSheet (canted 165) 0 0 140 ∷ told 0 (sheetToPacket twoSheet (room 42) .room) (canted 165) 0 0 140
+    ∷ told 1 twoSheet (canted 80) 0 0 100 ∷ told 0 (sheetToPacket twoSheet (room 42) .room) (canted 80) 0 0 100
     -- "the lowest speed of them", in fives from the packet
-    ∷ told 150 (permittedSpeed 1 severalSheet) 112 ∷ told 150 (permittedSpeed 0 (sheetToPacket severalSheet (room 47) .room)) 110
-    ∷ told 130 (permittedSpeed 1 severalSheet) 112 ∷ told 130 (permittedSpeed 0 (sheetToPacket severalSheet (room 47) .room)) 110
+    ∷ told 1 severalSheet (canted 150) 0 0 112 ∷ told 0 (sheetToPacket severalSheet (room 47) .room) (canted 150) 0 0 110
+    ∷ told 1 severalSheet (canted 130) 0 0 112 ∷ told 0 (sheetToPacket severalSheet (room 47) .room) (canted 130) 0 0 110
     ∷ []
 
 -- ---- A1: "the journey on the same link, as packet number 4"
@@ -116,7 +108,7 @@ journeys =
     converts (askSheetOf journeyPacket) (bytes journeySheetBytes) ∷ converts (askPacketOf journeySheetBytes) (bytes journeyPacket)
     -- "2 now means neither 4 nor 6, or 4 where a segment is needed (the conversions take both)"
     ∷ refusedSheet (0x05 ∷ replicate 7 0) 2 0
-    ∷ refusedSpeed 0 journeyPacket 0 2 ∷ refusedSpeed 1 journeySheetBytes 0 2
+    ∷ told 0 journeyPacket plain 0 2 0 ∷ told 1 journeySheetBytes plain 0 2 0
     ∷ record { said = altitudeSaid (altitudeOf journeyPacket); due = altitudeSaid (record { refusal = 2; place = 0; altitude = pos 0 }) }
     -- "Latest arrival seconds reach 86,400"
     ∷ refusedSheet (pointSheet (0x80 ∷ 0xA3 ∷ 0x05 ∷ []) 0 (replicate 9 0)) 8 0 ∷ refusedSheet (pointSheet (0x81 ∷ 0xA3 ∷ 0x05 ∷ []) 0 (replicate 9 0)) 4 16
@@ -188,16 +180,16 @@ desk =
     map (λ c. converts (c .ask) (c .answer)) conversions
     -- "is accepted: 39 bytes, length 1 cm, altitude -100,000, 80 km/h, no current limit"
     ++ record { said = altitudeSaid (altitudeOf firstPacket); due = altitudeSaid (record { refusal = 0; place = 0; altitude = negsuc 99999 }) }
-    ∷ gets 0 firstPacket 0 80 ∷ refusedSpeed 0 firstPacket 1 11
+    ∷ told 0 firstPacket plain 0 0 80 ∷ told 0 firstPacket plain 1 11 0
     -- A7: "15, first of all, for a kind that is neither", where 0 is answered, refused with 1, or with 11
-    ∷ refusedSpeed 2 firstPacket 0 15 ∷ refusedSpeed 4294967295 firstPacket 0 15 ∷ refusedSpeed 2 [] 0 15 ∷ refusedSpeed 4294967295 firstPacket 1 15
+    ∷ told 2 firstPacket plain 0 15 0 ∷ told 4294967295 firstPacket plain 0 15 0 ∷ told 2 [] plain 0 15 0 ∷ told 4294967295 firstPacket plain 1 15 0
     -- "whether it brings a packet or a sheet": a sheet, and the same bytes as a packet
-    ∷ gets 1 firstSheet 0 80 ∷ refusedSpeed 0 firstSheet 0 3
+    ∷ told 1 firstSheet plain 0 0 80 ∷ told 0 firstSheet plain 0 3 0
     -- "a 200 cm train gets 100 at 699 and 140 at 700. With Q_FRONT 1 it gets 140 at 500"
-    ∷ gets 1 (changeSheet 0 0) 699 100 ∷ gets 1 (changeSheet 0 0) 700 140 ∷ gets 1 (changeSheet 1 1) 500 140
-    ∷ gets 0 (changePacket 0 0) 699 100 ∷ gets 0 (changePacket 0 0) 700 140 ∷ gets 0 (changePacket 1 1) 500 140
+    ∷ told 1 (changeSheet 0 0) plain 699 0 100 ∷ told 1 (changeSheet 0 0) plain 700 0 140 ∷ told 1 (changeSheet 1 1) plain 500 0 140
+    ∷ told 0 (changePacket 0 0) plain 699 0 100 ∷ told 0 (changePacket 0 0) plain 700 0 140 ∷ told 0 (changePacket 1 1) plain 500 0 140
     -- wire 4: "Q_FRONT's delay tied to the element that follows instead of the one that ends"
-    ∷ gets 1 (changeSheet 0 1) 699 100 ∷ gets 1 (changeSheet 1 0) 500 140 ∷ gets 0 (changePacket 0 1) 699 100 ∷ gets 0 (changePacket 1 0) 500 140
+    ∷ told 1 (changeSheet 0 1) plain 699 0 100 ∷ told 1 (changeSheet 1 0) plain 500 0 140 ∷ told 0 (changePacket 0 1) plain 699 0 100 ∷ told 0 (changePacket 1 0) plain 500 0 140
     ∷ cants
     ++ journeys
     ++ constraintCases

@@ -1,4 +1,4 @@
--- The customer's first demand: "Whatever bytes come in, every public operation ends with an answer or the one refusal the rules name."
+-- The customer's first demand: "Whatever bytes come in, every public operation ends with an answer or the one refusal the rules name." Of a question on speed: `Speeds`.
 -- Assumes nothing.
 use mathlib.Core.Path.{_≡_, ap}
 use mathlib.Core.List.{List}
@@ -13,16 +13,15 @@ use Rattle.segment.specs.Segment.{wireChanges}
 use Rattle.segment.specs.Judgement.{fromPacket}
 use Rattle.link.specs.Link.{fromEitherPacket, fromEitherSheet, toEitherPacket, toEitherSheet}
 use Rattle.link.specs.Grounds.{EitherPacketGround, EitherSheetGround, EitherPacketValues, EitherSheetValues}
-use Rattle.speed.specs.declared.Train.{Train}
-use Rattle.question.specs.Question.{Brought, permittedSpeed}
+use Rattle.question.specs.Question.{Brought}
 use Rattle.altitude.specs.Altitude.{altitudeOf}
 use Rattle.convert.specs.Convert.{refusedWith, packetToSheet, sheetToPacket}
-use Rattle.promises.specs.Promised.{SegmentValues, segmentOf, SegmentOfValues, ConvertiblePacket, ConvertibleSheet, Answerable, Done}
-use Rattle.promises.specs.Refused.{Refuses, AltitudeGround, PacketToSheetGround, SheetToPacketGround, SegmentGround, SpeedGround, packetToSheetRefusals, sheetToPacketRefusals, altitudeRefusals}
-use Rattle.promises.specs.Ranges.{ConversionEnds, SpeedEnds, AltitudeEnds, OneOutcome}
-use Rattle.promises.proofs.Values.{segments, either-packets, either-sheets, kept, side-converted, question-answered, speed-none, altitude-none}
-use Rattle.promises.proofs.Refused.{segments-on, either-packets-on, either-sheets-on, one-ending, one-outcome, conversion-refused, conversion-ends, question-refused, altitude-refused as altitude-on-ground, altitude-answered, altitude-ends, side-judged}
-use Rattle.promises.proofs.Ranges.{packet-sheet-size, sheet-packet-size, question-ends, altitude-most, packet-to-sheet-listed, sheet-to-packet-listed, altitude-listed, packet-not-8, sheet-not-8, never-short}
+use Rattle.promises.specs.Promised.{SegmentValues, segmentOf, SegmentOfValues, ConvertiblePacket, ConvertibleSheet, Done}
+use Rattle.promises.specs.Refused.{Refuses, PacketToSheetGround, SheetToPacketGround, SegmentGround, packetToSheetRefusals, sheetToPacketRefusals, altitudeRefusals}
+use Rattle.promises.specs.Ranges.{ConversionEnds, AltitudeEnds, OneOutcome}
+use Rattle.promises.proofs.Values.{segments, either-packets, either-sheets, kept, side-converted, altitude-none}
+use Rattle.promises.proofs.Refused.{segments-on, either-packets-on, either-sheets-on, one-ending, one-outcome, conversion-refused, conversion-ends, altitude-refused as altitude-on-ground, altitude-answered, altitude-ends, side-judged}
+use Rattle.promises.proofs.Ranges.{packet-sheet-size, sheet-packet-size, altitude-most, packet-to-sheet-listed, sheet-to-packet-listed, altitude-listed, packet-not-8, sheet-not-8, never-short}
 
 module _ (s : List ℕ) (ok : Bytes s) where
   -- ==== "Each refusal is given then and not otherwise": refused with r, and not answered, exactly on the ground of r
@@ -36,10 +35,7 @@ module _ (s : List ℕ) (ok : Bytes s) where
     unfolding sheetToPacket
     sheet-to-packet-refused r place = conversion-refused either-sheets either-sheets-on s ok toEitherPacket room r place
 
-  pub permitted-speed-refused : (kind : ℕ) (t : Train) (x r place : ℕ) → Refuses (permittedSpeed kind s t x .refusal, permittedSpeed kind s t x .place) r place ↔ SpeedGround kind s t x r place
-  permitted-speed-refused kind t x r place = question-refused s ok t x kind r place
-
-  pub altitude-of-packet-refused : (r place : ℕ) → Refuses (altitudeOf s .refusal, altitudeOf s .place) r place ↔ AltitudeGround s r place
+  pub altitude-of-packet-refused : (r place : ℕ) → Refuses (altitudeOf s .refusal, altitudeOf s .place) r place ↔ SegmentGround Brought.packet s r place
   unfolding altitudeOf
   altitude-of-packet-refused r place = altitude-on-ground (segments Brought.packet) (segments-on Brought.packet) s ok r place
 
@@ -54,10 +50,7 @@ module _ (s : List ℕ) (ok : Bytes s) where
     unfolding sheetToPacket
     sheet-to-packet-ending = one-ending (sheetToPacket s room .answer .refusal, sheetToPacket s room .answer .place) (side-converted either-sheets toEitherPacket s room ok) (sheet-to-packet-refused room)
 
-  pub permitted-speed-ending : (kind : ℕ) (t : Train) (x : ℕ) → OneEnding (Answerable kind s t x) {I = ℕ × ℕ} (λ p. SpeedGround kind s t x (p .0) (p .1))
-  permitted-speed-ending kind t x = one-ending (permittedSpeed kind s t x .refusal, permittedSpeed kind s t x .place) (question-answered s t x ok) (permitted-speed-refused kind t x)
-
-  pub altitude-of-packet-ending : OneEnding (SegmentOfValues Brought.packet s) {I = ℕ × ℕ} (λ p. AltitudeGround s (p .0) (p .1))
+  pub altitude-of-packet-ending : OneEnding (SegmentOfValues Brought.packet s) {I = ℕ × ℕ} (λ p. SegmentGround Brought.packet s (p .0) (p .1))
   unfolding altitudeOf
   altitude-of-packet-ending = one-ending (altitudeOf s .refusal, altitudeOf s .place) (altitude-answered (segments Brought.packet) (segments-on Brought.packet) s ok) altitude-of-packet-refused
 
@@ -86,9 +79,6 @@ module _ (s : List ℕ) (ok : Bytes s) where
         one-outcome (sheetToPacket s room)
         (conversion-ends either-sheets either-sheets-on s ok toEitherPacket room sheetToPacketRefusals 17 8207 (sheet-to-packet-listed s room) sheet-packet-size)
 
-  pub permitted-speed-outcome : (kind : ℕ) (t : Train) (x : ℕ) → OneOutcome (permittedSpeed kind s t x) (SpeedEnds kind)
-  permitted-speed-outcome kind t x = one-outcome (permittedSpeed kind s t x) (question-ends s ok t x kind)
-
   pub altitude-of-packet-outcome : OneOutcome (altitudeOf s) (AltitudeEnds altitudeRefusals)
   unfolding altitudeOf
   altitude-of-packet-outcome = one-outcome (altitudeOf s) (altitude-ends (segments Brought.packet) (segments-on Brought.packet) s ok altitudeRefusals (altitude-listed s) altitude-most)
@@ -112,10 +102,7 @@ pub sheet-refused : (s room : List ℕ) → (Done (sheetToPacket s room) → ⊥
 unfolding sheetToPacket
 sheet-refused s room n = kept toEitherPacket (fromEitherSheet s) room n
 
--- the same for the questions: the number comes with speed or altitude 0; 15 too
-pub speed-refused : (kind : ℕ) (s : List ℕ) (t : Train) (x : ℕ) → (permittedSpeed kind s t x .refusal ≡ 0 → ⊥) → permittedSpeed kind s t x .speed ≡ 0
-speed-refused kind s t x n = speed-none kind s t x n
-
+-- the same for the altitude: the number comes with altitude 0
 pub altitude-refused : (s : List ℕ) → (altitudeOf s .refusal ≡ 0 → ⊥) → altitudeOf s .altitude ≡ pos 0
 unfolding altitudeOf
 altitude-refused s n = altitude-none (fromPacket wireChanges s) n

@@ -21,7 +21,8 @@ use Rattle.question.specs.Question.{Brought, kindOf, permittedSpeed}
 use Rattle.convert.specs.Convert.{successWith, sheetToPacket}
 use Rattle.promises.specs.Promised.{SegmentValues, segmentOf, ConvertibleSheet, Answerable, answerInFives, GreatestFive, Agreeing, Done, result}
 use Rattle.promises.proofs.Agreeing.{packets-agree, agreeing-packets}
-use Rattle.promises.proofs.DemandTwo.{sheet-converted, sheet-result, speed-value}
+use Rattle.promises.proofs.DemandTwo.{sheet-converted, sheet-result}
+use Rattle.promises.proofs.Speeds.{permitted-speed-value}
 use Rattle.promises.proofs.Values.{packet-taken, sheet-taken, lowered-packet, lowered-good, in-fives, asked-lowered, placed-result}
 
 -- ==== "Two accepted sheets make the same packet exactly when they agree in every field after that lowering."
@@ -79,6 +80,6 @@ speed-again s room t x ok d a = go (a .brought) (a .named) (a .good) (a .whole)
         let q : permittedSpeed 0 (result (sheetToPacket s room)) t x ≡ answerInFives (permittedSpeed 1 s t x) =
         ap (λ (b : List ℕ). permittedSpeed 0 b t x) p ∙ lowered-speed (a .values) t x good ∙ ap (λ (b : List ℕ). answerInFives (permittedSpeed 1 b t x)) (sym whole) in
         record {
-          answered = ap (λ (o : Speed). o .refusal) q ∙ ap (λ (o : Speed). o .refusal) (speed-value 1 s t x a);
+          answered = ap (λ (o : Speed). o .refusal) q ∙ ap (λ (o : Speed). o .refusal) (permitted-speed-value 1 s t x a);
           greatest = rw q (in-fives (permittedSpeed 1 s t x .speed));
         }

@@ -1,9 +1,9 @@
--- The customer's second demand: "Every packet and sheet that keeps the published widths and ranges and the stated rules is converted if the room holds the result, and nothing else is."
+-- The customer's second demand: "Every packet and sheet that keeps the published widths and ranges and the stated rules is converted if the room holds the result, and nothing else is." Of a question on speed: `Speeds`.
 -- Assumes nothing.
 use mathlib.Core.Path.{_≡_, sym, ap, ap₂, _∙_}
 use mathlib.Core.List.{List}
 use mathlib.Core.Logic.{_↔_}
-use Prim.Native.Nat.{ℕ, _*_, _/_, _≤_}
+use Prim.Native.Nat.{ℕ, _≤_}
 use native.Mathlib.Omega.{arith}
 use lib.ListN.{length}
 use Rattle.bits.specs.Bits.{Bytes}
@@ -17,19 +17,14 @@ use Rattle.link.specs.Grounds.{EitherPacketValues, EitherSheetValues}
 use Rattle.link.proofs.Trees.{link-lawful}
 use Rattle.link.proofs.Values.{either-packet-taken}
 use Rattle.link.proofs.Ends.{number-kept}
-use Rattle.speed.specs.declared.Train.{Train}
-use Rattle.speed.specs.Speed.{segmentLength, speedIn, inFives}
-use Rattle.question.specs.declared.Speed.{Speed}
-use Rattle.question.specs.Question.{Brought, kindOf, permittedSpeed}
+use Rattle.question.specs.Question.{Brought}
 use Rattle.altitude.specs.declared.Altitude.{Altitude}
 use Rattle.altitude.specs.Altitude.{centimetres, altitudeOf}
 use Rattle.convert.specs.Convert.{successWith, fitted, converted, packetToSheet, sheetToPacket}
-use Rattle.promises.specs.Promised.{goodIn, SegmentValues, SegmentOfValues, AltitudeOf, LengthOf, heldAt, LowestOf, ConvertiblePacket, ConvertibleSheet, Answerable, Done, result, spelled, spelledBits, spelledPacket, Lowering}
-use Rattle.promises.proofs.Held.{lowest-held}
-use Rattle.promises.proofs.Standing.{length-stands, altitude-stands}
-use Rattle.promises.proofs.Ranges.{packet-speed-fives}
+use Rattle.promises.specs.Promised.{SegmentOfValues, AltitudeOf, ConvertiblePacket, ConvertibleSheet, Done, result, spelled, spelledBits, spelledPacket, Lowering}
+use Rattle.promises.proofs.Standing.{altitude-stands}
 use Rattle.promises.proofs.Refused.{segments-on, altitude-values, altitude-answered as answered-altitude}
-use Rattle.promises.proofs.Values.{either-lowered, either-lowered-good, either-good-sheet, segments, either-packets, either-sheets, side-result, side-converted, question-speed, question-answered, placed-result, numbers-spelled, bits-spelled, lowering}
+use Rattle.promises.proofs.Values.{either-lowered, either-lowered-good, either-good-sheet, segments, either-packets, either-sheets, side-result, side-converted, placed-result, numbers-spelled, bits-spelled, lowering}
 
 module _ (s room : List ℕ) where
   -- a packet is converted exactly when it is the packet of good values and the room holds their sheet
@@ -101,32 +96,6 @@ sheet-again s room back ok d =
       lowers = lowering link-lawful (c .good .good);
       again = ap (λ (r : Read). converted toEitherSheet r back) (ap fromEitherPacket t ∙ either-packet-taken m (either-lowered-good (c .good)));
     }
-
--- "Every permitted speed is the one the speed rules give."
-module _ (kind : ℕ) (s : List ℕ) (t : Train) (x : ℕ) where
-  -- a question is answered exactly for a kind of 0 or 1, a packet or a sheet of good values, a valid train and an x below L_SP
-  pub speed-answered : Bytes s → (permittedSpeed kind s t x .refusal ≡ 0) ↔ Answerable kind s t x
-  speed-answered ok = question-answered s t x ok
-
-  -- and then the answer is the permitted speed of those values
-  pub speed-value : (c : Answerable kind s t x) → permittedSpeed kind s t x ≡ record { refusal = 0; place = 0; speed = speedIn t x (sheetNumbers (c .values)) }
-  speed-value c = question-speed s t x c
-
-  -- and "the lowest speed of the elements that hold there": some element holds, so it is never a speed that no element has
-  pub speed-held : (c : Answerable kind s t x) → LowestOf (permittedSpeed kind s t x .speed) (heldAt t x (sheetNumbers (c .values)))
-  speed-held c = rw (speed-value c) (lowest-held t x (sheetNumbers (c .values)) (c .inside))
-
--- "the packet's speeds times 5": a speed from a packet is a multiple of 5
-pub packet-fives : (s : List ℕ) (t : Train) (x : ℕ) → Answerable 0 s t x → permittedSpeed 0 s t x .speed ≡ permittedSpeed 0 s t x .speed / 5 * 5
-packet-fives s t x c = rw (speed-value 0 s t x c) (go (c .brought) (c .named) (c .good))
-  where
-    go : (b : Brought) → 0 ≡ kindOf b → SegmentValues b (c .values) → speedIn t x (sheetNumbers (c .values)) ≡ inFives (speedIn t x (sheetNumbers (c .values)))
-    go Brought.packet e g = packet-speed-fives t x (c .values) g
-    go Brought.sheet e g = absurd (omega arith)
-
--- the x of a question is below the number of L_SP
-pub segment-length : (b : Brought) (l : List Item) → SegmentValues b l → LengthOf (goodIn b) l (segmentLength (sheetNumbers l))
-segment-length b l c = length-stands l c
 
 -- "the altitude of a packet in signed centimetres": answered exactly for a packet of good values
 pub altitude-answered : (s : List ℕ) → Bytes s → (altitudeOf s .refusal ≡ 0) ↔ SegmentOfValues Brought.packet s

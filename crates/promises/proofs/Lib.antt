@@ -4,6 +4,7 @@ pub mod Standing
 pub mod Held
 pub mod Refused
 pub mod Ranges
+pub mod Speeds
 pub mod Reached
 pub mod DemandOne
 pub mod DemandTwo

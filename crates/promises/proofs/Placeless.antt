@@ -31,7 +31,8 @@ use Rattle.convert.specs.Convert.{packetToSheet, sheetToPacket}
 use Rattle.promises.specs.Refused.{Refuses, ConversionGround, SegmentGround, SpeedGround, packetToSheetRefusals, sheetToPacketRefusals, speedRefusals, altitudeRefusals, placeless}
 use Rattle.promises.specs.Ranges.{ConversionEnds, SpeedEnds, AltitudeEnds}
 use Rattle.promises.proofs.Refused.{member, among-member}
-use Rattle.promises.proofs.DemandOne.{packet-to-sheet-refused, sheet-to-packet-refused, permitted-speed-refused, altitude-of-packet-refused, packet-to-sheet-outcome, sheet-to-packet-outcome, permitted-speed-outcome, altitude-of-packet-outcome}
+use Rattle.promises.proofs.Speeds.{permitted-speed-refused, permitted-speed-outcome}
+use Rattle.promises.proofs.DemandOne.{packet-to-sheet-refused, sheet-to-packet-refused, altitude-of-packet-refused, packet-to-sheet-outcome, sheet-to-packet-outcome, altitude-of-packet-outcome}
 
 -- a refusal that has a place
 placed : {C : Type 0} {r : ℕ} (n : ℕ) → r ≡ n → Among r placeless → member n placeless ≡ false → C
@@ -122,7 +123,7 @@ module _ (s : List ℕ) (ok : Bytes s) where
             (λ r place g b. conversion-place (either-sheet-place s) r place g b) (among-positive l refl) a
 
   pub permitted-speed-placeless : (kind : ℕ) (t : Train) (x : ℕ) → Among (permittedSpeed kind s t x .refusal) placeless → permittedSpeed kind s t x .place ≡ 0
-  permitted-speed-placeless kind t x a = go (permitted-speed-outcome s ok kind t x .ends (permittedSpeed kind s t x) refl)
+  permitted-speed-placeless kind t x a = go (permitted-speed-outcome kind s t x ok .ends (permittedSpeed kind s t x) refl)
     where
       positive : (b : Brought) {r : ℕ} → Among r (speedRefusals b) → 1 ≤ r
       positive Brought.packet l = among-positive l refl
@@ -132,7 +133,7 @@ module _ (s : List ℕ) (ok : Bytes s) where
       go (SpeedEnds.success b k e p v) = p
       go (SpeedEnds.neither n e p v) = p
       go (SpeedEnds.refusal b k l n) =
-          said-place (permittedSpeed kind s t x .refusal, permittedSpeed kind s t x .place) (permitted-speed-refused s ok kind t x)
+          said-place (permittedSpeed kind s t x .refusal, permittedSpeed kind s t x .place) (permitted-speed-refused kind s t x ok)
           (λ r place g c. question-place r place g c) (positive b l) a
 
   pub altitude-of-packet-placeless : Among (altitudeOf s .refusal) placeless → altitudeOf s .place ≡ 0

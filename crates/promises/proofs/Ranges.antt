@@ -7,10 +7,9 @@ use Prim.Native.Nat.{ℕ, _≤_, _<_}
 use native.Mathlib.Omega.{arith}
 use lib.Dec.{lit≤}
 use lib.ListN.{length}
-use Rattle.bits.specs.Bits.{Bytes}
 use Rattle.kinds.specs.declared.Item.{Item}
 use Rattle.format.specs.Format.{sheetNumbers}
-use Rattle.format.specs.Grounds.{Ending, grounded, Among}
+use Rattle.format.specs.Grounds.{Among}
 use Rattle.format.proofs.Lawful.{to-sheet}
 use Rattle.segment.specs.Segment.{wireChanges}
 use Rattle.segment.specs.Judgement.{segmentNumber}
@@ -25,16 +24,15 @@ use Rattle.speed.specs.Speed.{speedIn, inFives}
 use Rattle.speed.proofs.Lowering.{speed-in-fives}
 use Rattle.speed.proofs.Bounds.{speed-most}
 use Rattle.question.specs.declared.Speed.{Speed}
-use Rattle.question.specs.Question.{Brought, kindOf, permittedSpeed}
-use Rattle.question.proofs.Asked.{neither-first}
+use Rattle.question.specs.Question.{Brought}
 use Rattle.altitude.specs.Altitude.{altitudeField}
-use Rattle.promises.specs.Promised.{SegmentValues, Answerable}
-use Rattle.promises.specs.Refused.{AltitudeGround, ConversionGround, SegmentGround, SpeedGround, PacketToSheetGround, SheetToPacketGround, packetToSheetRefusals, sheetToPacketRefusals, speedRefusals, altitudeRefusals}
-use Rattle.promises.specs.Ranges.{highestSpeed, SpeedEnds}
-use Rattle.promises.proofs.Values.{either-good-sheet, question-speed, question-answered, speed-none}
+use Rattle.promises.specs.Promised.{SegmentValues}
+use Rattle.promises.specs.Refused.{ConversionGround, SegmentGround, PacketToSheetGround, SheetToPacketGround, packetToSheetRefusals, sheetToPacketRefusals, speedRefusals, altitudeRefusals}
+use Rattle.promises.specs.Ranges.{highestSpeed}
+use Rattle.promises.proofs.Values.{either-good-sheet}
 use Rattle.promises.proofs.Agreeing.{lowered-same}
 use Rattle.promises.proofs.Standing.{altitude-stands}
-use Rattle.promises.proofs.Refused.{among-by, among-member, among-into, one-ending, question-refused}
+use Rattle.promises.proofs.Refused.{among-by, among-member, among-into}
 
 -- ---- how long a result is
 
@@ -56,7 +54,7 @@ pub packet-speed-fives : (t : Train) (x : ℕ) (l : List Item) → SegmentValues
 packet-speed-fives t x l c = ap (λ (m : List Item). speedIn t x (sheetNumbers m)) (sym (lowered-same c)) ∙ speed-in-fives t x l (good-sheet c)
 
 -- and so the highest is 600
-highest : (b : Brought) (t : Train) (x : ℕ) (l : List Item) → SegmentValues b l → speedIn t x (sheetNumbers l) ≤ highestSpeed b
+pub highest : (b : Brought) (t : Train) (x : ℕ) (l : List Item) → SegmentValues b l → speedIn t x (sheetNumbers l) ≤ highestSpeed b
 highest Brought.packet t x l c = omega (arith, packet-speed-fives t x l c, speed-most t x l (good-sheet c))
 highest Brought.sheet t x l c = speed-most t x l c
 
@@ -72,7 +70,7 @@ never-short write most room h size none (ConversionGround.shortRoom w short e p)
 -- ---- which refusals
 
 module _ (s : List ℕ) where
-  pub altitude-listed : (r place : ℕ) → AltitudeGround s r place → Among r altitudeRefusals
+  pub altitude-listed : (r place : ℕ) → SegmentGround Brought.packet s r place → Among r altitudeRefusals
   altitude-listed r place g = packet-listed segmentNumber (fields-refusals wireChanges) s r place g
 
   pub packet-not-8 : (place : ℕ) → EitherPacketGround s 8 place → ⊥
@@ -90,37 +88,10 @@ module _ (s : List ℕ) where
     sheet-to-packet-listed (ConversionGround.own g) = among-into sheetToPacketRefusals refl (either-sheet-listed s r place g)
     sheet-to-packet-listed (ConversionGround.shortRoom w h e p) = rw e (among-by 8 sheetToPacketRefusals refl)
 
-own-listed : (b : Brought) (s : List ℕ) (r place : ℕ) → SegmentGround b s r place → Among r (speedRefusals b)
+pub own-listed : (b : Brought) (s : List ℕ) (r place : ℕ) → SegmentGround b s r place → Among r (speedRefusals b)
 own-listed Brought.packet s r place g = among-into (speedRefusals Brought.packet) refl (packet-listed segmentNumber (fields-refusals wireChanges) s r place g)
 own-listed Brought.sheet s r place g = among-into (speedRefusals Brought.sheet) refl (sheet-listed wireChanges s r place g)
 
-late-listed : (b : Brought) → Among 10 (speedRefusals b) × Among 11 (speedRefusals b)
+pub late-listed : (b : Brought) → Among 10 (speedRefusals b) × Among 11 (speedRefusals b)
 late-listed Brought.packet = (among-by 10 (speedRefusals Brought.packet) refl, among-by 11 (speedRefusals Brought.packet) refl)
 late-listed Brought.sheet = (among-by 10 (speedRefusals Brought.sheet) refl, among-by 11 (speedRefusals Brought.sheet) refl)
-
--- so a question on speed ends as a caller may rely on
-pub question-ends : (s : List ℕ) → Bytes s → (t : Train) (x kind : ℕ) → SpeedEnds kind (permittedSpeed kind s t x)
-question-ends s ok t x kind = go (one-ending (o .refusal, o .place) (question-answered s t x ok) (question-refused s ok t x kind) .ending)
-  where
-    o : Speed
-    o = permittedSpeed kind s t x
-
-    none : (r place : ℕ) → SpeedGround kind s t x r place → (o .refusal ≡ r) × (o .speed ≡ 0)
-    none r place g =
-        let e = question-refused s ok t x kind r place .1 g in
-        let n : o .refusal ≡ r = ap (λ (u : ℕ × ℕ). u .0) (e .0) in
-        let h = e .1 in
-        (n, speed-none kind s t x (λ d. omega arith))
-
-    listed : (b : Brought) → kind ≡ kindOf b → (r place : ℕ) → SpeedGround kind s t x r place → Among r (speedRefusals b) → SpeedEnds kind o
-    listed b k r place g a = let n = none r place g in SpeedEnds.refusal b k (rw (n .0) a) (n .1)
-
-    by-ground : (r place : ℕ) → SpeedGround kind s t x r place → SpeedEnds kind o
-    by-ground r place (SpeedGround.neither n e p) = rw (neither-first s t x n) (SpeedEnds.neither n refl refl refl)
-    by-ground r place (SpeedGround.own b k g) = listed b k r place (SpeedGround.own b k g) (own-listed b s r place g)
-    by-ground r place (SpeedGround.badTrain b k w v e p) = listed b k r place (SpeedGround.badTrain b k w v e p) (rw e (late-listed b .0))
-    by-ground r place (SpeedGround.pastEnd b k w v h e p) = listed b k r place (SpeedGround.pastEnd b k w v h e p) (rw e (late-listed b .1))
-
-    go : Ending (Answerable kind s t x) {I = ℕ × ℕ} (λ p. SpeedGround kind s t x (p .0) (p .1)) → SpeedEnds kind o
-    go (Ending.answered c) = rw (question-speed s t x c) (SpeedEnds.success (c .brought) (c .named) refl refl (highest (c .brought) t x (c .values) (c .good)))
-    go (grounded p g) = by-ground (p .0) (p .1) g

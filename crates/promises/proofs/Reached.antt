@@ -25,7 +25,7 @@ pub sheet-to-packet-reached : map (λ s. sheetToPacket s [] .answer .refusal) co
 unfolding fieldAt numberOf groupsIn digits place entries changes lists body fields sheetFields toPacket toSheet times journeyBody linkFields fromEitherSheet toEitherPacket sheetToPacket
 sheet-to-packet-reached = refl
 
-pub permitted-speed-reached : map (λ q. permittedSpeed (q .kind) (q .bytes) (q .of) (q .x) .refusal) asked ≡ 15 ∷ speedRefusals Brought.packet ++ speedRefusals Brought.sheet
+pub permitted-speed-reached : map (λ o. o .refusal) asked ≡ 15 ∷ speedRefusals Brought.packet ++ speedRefusals Brought.sheet
 unfolding fieldAt numberOf groupsIn digits place entries changes lists body fields sheetFields fromPacket fromSheet toPacket toSheet permittedSpeed
 permitted-speed-reached = refl
 

@@ -1,4 +1,4 @@
--- Refused exactly on a ground, whatever judges the input: conversions, questions and the altitude; and the refusals that they have.
+-- Refused exactly on a ground, whatever judges the input: conversions and the altitude; and the refusals that they have.
 -- Assumes nothing.
 use mathlib.Core.Path.{_≡_, refl, sym, ap, _∙_}
 use mathlib.Core.Bool.{Bool, true, false, _&&_, _||_}
@@ -6,13 +6,13 @@ use mathlib.Core.List.{List, [], _∷_}
 use mathlib.Core.Logic.{_↔_}
 use Prim.Native.Nat.{ℕ, zero, suc, _≤_, _<_}
 use native.Mathlib.Omega.{arith}
-use borrow.Author.Tests.{eqb-true, eq-eqb, ltb-true, ltb-false, lt-ltb, le-ltb}
+use borrow.Author.Tests.{eqb-true, eq-eqb, ltb-true, lt-ltb}
 use lib.Dec.{eqb, ltb}
 use lib.ListN.{length}
 use Rattle.bits.specs.Bits.{Bytes}
 use Rattle.bits.proofs.Tests.{by-cases, and-left, and-right, or-cases}
 use Rattle.kinds.specs.declared.Item.{Item}
-use Rattle.format.specs.Format.{Read, accepted, refused, answerOf, sheetNumbers}
+use Rattle.format.specs.Format.{Read, accepted, refused}
 use Rattle.format.specs.Grounds.{Ending, grounded, OneEnding, OneJudgement, Among, first, later}
 use Rattle.format.proofs.Grounds.{judged}
 use Rattle.segment.specs.Segment.{fields, wireChanges}
@@ -21,18 +21,14 @@ use Rattle.segment.proofs.Grounds.{packet-grounds, sheet-grounds}
 use Rattle.link.specs.Link.{fromEitherPacket, fromEitherSheet}
 use Rattle.link.specs.Grounds.{EitherPacketGround, EitherSheetGround}
 use Rattle.link.proofs.Grounds.{either-packet-grounds, either-sheet-grounds}
-use Rattle.speed.specs.declared.Train.{Train}
-use Rattle.speed.specs.Speed.{validTrain, segmentLength}
-use Rattle.question.specs.declared.Speed.{Speed}
-use Rattle.question.specs.Question.{Brought, kindOf, noSpeed, speedOfValues, judgedAs, permittedSpeed}
-use Rattle.question.proofs.Asked.{either-kind, asked, neither-first}
+use Rattle.question.specs.Question.{Brought, judgedAs}
 use Rattle.altitude.specs.declared.Altitude.{Altitude}
 use Rattle.altitude.specs.Altitude.{altitudeOfRead, altitudeField, centimetres}
 use Rattle.convert.specs.Convert.{Outcome, fitted, converted}
-use Rattle.promises.specs.Promised.{OfValues, SegmentOfValues, Convertible}
-use Rattle.promises.specs.Refused.{Refuses, ConversionGround, SegmentGround, SpeedGround}
+use Rattle.promises.specs.Promised.{OfValues, Convertible}
+use Rattle.promises.specs.Refused.{Refuses, ConversionGround, SegmentGround}
 use Rattle.promises.specs.Ranges.{ConversionEnds, AltitudeEnds, OneOutcome}
-use Rattle.promises.proofs.Values.{Side, segments, kept, side-result, side-converted, altitude-none}
+use Rattle.promises.proofs.Values.{Side, kept, side-result, side-converted, altitude-none}
 
 -- one side's grounds: what judges it refuses exactly then
 pub record Grounded (judge : List ℕ → Read) (On : List ℕ → ℕ → ℕ → Type 0) : Type 0 where
@@ -93,17 +89,17 @@ one-ending {Answered} {Ground} said answer ground = record {
 
 module _ {judge : List ℕ → Read} {Good : List Item → Type 0} {input : List Item → List ℕ} (side : Side judge Good input)
     {On : List ℕ → ℕ → ℕ → Type 0} (on : Grounded judge On) (s : List ℕ) (ok : Bytes s) where
-  abbrev of-values : (l : List Item) → judge s ≡ accepted l → OfValues Good input s
+  abbrev pub of-values : (l : List Item) → judge s ≡ accepted l → OfValues Good input s
   of-values l e = let p = side .only s l ok e in record { values = l; good = p .0; whole = p .1 }
 
-  taken : (w : OfValues Good input s) → judge s ≡ accepted (w .values)
+  pub taken : (w : OfValues Good input s) → judge s ≡ accepted (w .values)
   taken w = ap judge (w .whole) ∙ side .again (w .values) (w .good)
 
-  own-refused : (r place : ℕ) → On s r place → (judge s ≡ refused r place) × (1 ≤ r)
+  pub own-refused : (r place : ℕ) → On s r place → (judge s ≡ refused r place) × (1 ≤ r)
   own-refused r place g = let e = on .refused-on s r place ok .1 g in (e, side .refuses s ok r place e)
 
   -- an answer that says what was refused is on the input's own ground, or on one of its values'
-  by-judge : {C : Type 0} (answer : Read → ℕ × ℕ) (r place : ℕ) → ((q p : ℕ) → answer (refused q p) ≡ (q, p)) → answer (judge s) ≡ (r, place)
+  pub by-judge : {C : Type 0} (answer : Read → ℕ × ℕ) (r place : ℕ) → ((q p : ℕ) → answer (refused q p) ≡ (q, p)) → answer (judge s) ≡ (r, place)
       → (On s r place → C) → ((l : List Item) → judge s ≡ accepted l → answer (accepted l) ≡ (r, place) → C) → C
   by-judge {C} answer r place same e mine values = go (judge s) refl e
     where
@@ -191,52 +187,3 @@ module _ {judge : List ℕ → Read} {Good : List Item → Type 0} {input : List
 
   pub side-judged : OneJudgement (λ l. Good l × (s ≡ input l)) (On s)
   side-judged = judged (judge s) (λ l. (side .only s l ok, λ p. ap judge (p .1) ∙ side .again l (p .0))) (λ r place. on .refused-on s r place ok)
-
--- ---- a question on speed, of either kind
-
-module _ (s : List ℕ) (ok : Bytes s) (t : Train) (x kind : ℕ) where
-  abbrev said : Speed → ℕ × ℕ
-  said o = (o .refusal, o .place)
-
-  abbrev answer : Read → ℕ × ℕ
-  answer j = said (answerOf noSpeed (speedOfValues t x) j)
-
-  said-as : (b : Brought) → kind ≡ kindOf b → said (permittedSpeed kind s t x) ≡ answer (judgedAs b s)
-  said-as b k = ap said (asked s t x b k)
-
-  pub question-refused : (r place : ℕ) → Refuses (said (permittedSpeed kind s t x)) r place ↔ SpeedGround kind s t x r place
-  question-refused r place = (only, given)
-    where
-      inside : (b : Brought) → kind ≡ kindOf b → (l : List Item) → judgedAs b s ≡ accepted l → said (speedOfValues t x l) ≡ (r, place) → 1 ≤ r → SpeedGround kind s t x r place
-      inside b k l a e h =
-          let w = of-values (segments b) (segments-on b) s ok l a in
-          by-cases (validTrain t)
-          (λ v. by-cases (ltb x (segmentLength (sheetNumbers l)))
-          (λ c. let z : _≡_ {A = ℕ × ℕ} (0, 0) (r, place) = rw (v, c) at e in let y : 0 ≡ r = ap (λ (u : ℕ × ℕ). u .0) z in absurd (omega arith))
-          (λ c. let z : _≡_ {A = ℕ × ℕ} (11, 0) (r, place) = rw (v, c) at e in
-          SpeedGround.pastEnd b k w v (ltb-false x (segmentLength (sheetNumbers l)) c) (sym (ap (λ (u : ℕ × ℕ). u .0) z)) (sym (ap (λ (u : ℕ × ℕ). u .1) z))))
-          (λ v. let z : _≡_ {A = ℕ × ℕ} (10, 0) (r, place) = rw v at e in
-          SpeedGround.badTrain b k w v (sym (ap (λ (u : ℕ × ℕ). u .0) z)) (sym (ap (λ (u : ℕ × ℕ). u .1) z)))
-
-      only : Refuses (said (permittedSpeed kind s t x)) r place → SpeedGround kind s t x r place
-      only q =
-          either-kind kind
-          (λ b k. by-judge (segments b) (segments-on b) s ok answer r place (λ m p. refl) (sym (said-as b k) ∙ q .0) (SpeedGround.own b k) (λ l a d. inside b k l a d (q .1)))
-          (λ n. let z : _≡_ {A = ℕ × ℕ} (15, 0) (r, place) = sym (ap said (neither-first s t x n)) ∙ q .0 in
-          SpeedGround.neither n (sym (ap (λ (u : ℕ × ℕ). u .0) z)) (sym (ap (λ (u : ℕ × ℕ). u .1) z)))
-
-      bad : (l : List Item) → validTrain t ≡ false → said (speedOfValues t x l) ≡ (10, 0)
-      bad l v = rw v
-
-      beyond : (l : List Item) → validTrain t ≡ true → segmentLength (sheetNumbers l) ≤ x → said (speedOfValues t x l) ≡ (11, 0)
-      beyond l v h = rw (v, le-ltb x (segmentLength (sheetNumbers l)) h)
-
-      -- what is said of values
-      of : (b : Brought) → kind ≡ kindOf b → (w : SegmentOfValues b s) → said (permittedSpeed kind s t x) ≡ said (speedOfValues t x (w .values))
-      of b k w = said-as b k ∙ ap answer (taken (segments b) (segments-on b) s ok w)
-
-      given : SpeedGround kind s t x r place → Refuses (said (permittedSpeed kind s t x)) r place
-      given (SpeedGround.neither n e p) = (ap said (neither-first s t x n) ∙ rw (e, p), omega arith)
-      given (SpeedGround.own b k g) = let u = own-refused (segments b) (segments-on b) s ok r place g in (said-as b k ∙ ap answer (u .0), u .1)
-      given (SpeedGround.badTrain b k w v e p) = (of b k w ∙ bad (w .values) v ∙ rw (e, p), omega arith)
-      given (SpeedGround.pastEnd b k w v h e p) = (of b k w ∙ beyond (w .values) v h ∙ rw (e, p), omega arith)

@@ -8,7 +8,7 @@ use mathlib.Core.Logic.{_↔_}
 use Prim.Native.Nat.{ℕ, _/_, _≤_}
 use lib.IntN.{pos}
 use native.Mathlib.Omega.{arith}
-use borrow.Author.Tests.{leb-true, ltb-true, ltb-false, le-ltb, lt-ltb}
+use borrow.Author.Tests.{leb-true, ltb-false, le-ltb}
 use lib.Dec.{leb, ltb, lit<, lit≤}
 use lib.ListN.{length, drop}
 use lib.Seq.{take-at}
@@ -19,7 +19,7 @@ use Rattle.kinds.specs.declared.Item.{Item}
 use Rattle.kinds.specs.Kind.{Kind}
 use Rattle.kinds.specs.Kinds.{speed, mCurrent}
 use Rattle.fields.proofs.Lawful.{LawfulKind, speed-lowered, current-lowered}
-use Rattle.format.specs.Format.{Format, end, field, Read, accepted, refused, write, answerOf, sheetNumbers}
+use Rattle.format.specs.Format.{Format, end, field, Read, accepted, refused, write, sheetNumbers}
 use Rattle.format.specs.Media.{packet, sheet}
 use Rattle.format.specs.Conforming.{Conforming, done, also, InSheet, givenBack}
 use Rattle.format.proofs.Lawful.{Lawful, goes, to-sheet, to-packet, lowered-bits}
@@ -39,11 +39,10 @@ use Rattle.speed.specs.declared.Train.{Train}
 use Rattle.speed.specs.Speed.{validTrain, segmentLength, speedIn, inFives}
 use Rattle.speed.proofs.Lowering.{length-stays, speed-in-fives}
 use Rattle.question.specs.declared.Speed.{Speed}
-use Rattle.question.specs.Question.{Brought, kindOf, noSpeed, judgedSpeed, speedOfValues, judgedAs, permittedSpeed}
-use Rattle.question.proofs.Asked.{either-kind, asked, neither-first}
+use Rattle.question.specs.Question.{Brought, judgedSpeed, speedOfValues, judgedAs}
 use Rattle.altitude.specs.Altitude.{altitudeOfRead}
 use Rattle.convert.specs.Convert.{Outcome, refusedWith, successWith, fitted, converted}
-use Rattle.promises.specs.Promised.{SegmentValues, segmentOf, Convertible, Answerable, answerInFives, GreatestFive, Done, result, spelled, spelledBits, LoweredTo, Lowering, over, one}
+use Rattle.promises.specs.Promised.{SegmentValues, segmentOf, Convertible, answerInFives, GreatestFive, Done, result, spelled, spelledBits, LoweredTo, Lowering, over, one}
 
 -- ---- packets and sheets of good values
 
@@ -176,51 +175,7 @@ module _ {judge : List ℕ → Read} {Good : List Item → Type 0} {input : List
           let p = side .only s l ok e in
           record { values = l; good = p .0; whole = p .1; holds = h }
 
--- ---- a question on speed, of either kind
-
-module _ {kind : ℕ} (s : List ℕ) (t : Train) (x : ℕ) where
-  pub question-speed : (c : Answerable kind s t x) → permittedSpeed kind s t x ≡ record { refusal = 0; place = 0; speed = speedIn t x (sheetNumbers (c .values)) }
-  question-speed c =
-      let b = c .brought in
-      let l = c .values in
-      asked s t x b (c .named) ∙ ap (answerOf noSpeed (speedOfValues t x)) (ap (judgedAs b) (c .whole) ∙ segments b .again l (c .good))
-      ∙ rw (c .valid, lt-ltb x (segmentLength (sheetNumbers l)) (c .inside))
-
-  -- it is answered exactly where the kind is 0 or 1, what is brought is written of good values, the train is valid and x below L_SP
-  pub question-answered : Bytes s → (permittedSpeed kind s t x .refusal ≡ 0) ↔ Answerable kind s t x
-  question-answered ok = (
-    λ d. either-kind kind (λ b e. go b e (judgedAs b s) refl (sym (ap (λ (o : Speed). o .refusal) (asked s t x b e)) ∙ d))
-        (λ n. let z : 15 ≡ 0 = sym (ap (λ (o : Speed). o .refusal) (neither-first s t x n)) ∙ d in absurd (omega arith)),
-    λ c. ap (λ (o : Speed). o .refusal) (question-speed c),
-  )
-    where
-      inside : (b : Brought) → kind ≡ kindOf b → (l : List Item) → judgedAs b s ≡ accepted l → speedOfValues t x l .refusal ≡ 0 → Answerable kind s t x
-      inside b k l e d =
-          let p = segments b .only s l ok e in
-          by-cases (validTrain t)
-          (λ v. by-cases (ltb x (segmentLength (sheetNumbers l)))
-          (λ h. record { brought = b; named = k; values = l; good = p .0; whole = p .1; valid = v; inside = ltb-true x (segmentLength (sheetNumbers l)) h })
-          (λ h. let z : _≡_ {A = ℕ} 11 0 = rw (v, h) at d in absurd (omega arith)))
-          (λ v. let z : _≡_ {A = ℕ} 10 0 = rw v at d in absurd (omega arith))
-
-      go : (b : Brought) → kind ≡ kindOf b → (r : Read) → judgedAs b s ≡ r → answerOf noSpeed (speedOfValues t x) r .refusal ≡ 0 → Answerable kind s t x
-      go b k (accepted l) e d = inside b k l e d
-      go b k (refused q place) e d = absurd (omega (arith, segments b .refuses s ok q place e))
-
 -- "a refusal .. returns its number with length, speed or altitude 0"
-pub speed-none : (kind : ℕ) (s : List ℕ) (t : Train) (x : ℕ) → (permittedSpeed kind s t x .refusal ≡ 0 → ⊥) → permittedSpeed kind s t x .speed ≡ 0
-speed-none kind s t x n =
-    either-kind kind
-    (λ b e. ap (λ (o : Speed). o .speed) (asked s t x b e) ∙ go (judgedAs b s) (λ d. n (ap (λ (o : Speed). o .refusal) (asked s t x b e) ∙ d)))
-    (λ m. ap (λ (o : Speed). o .speed) (neither-first s t x m))
-  where
-    go : (r : Read) → (answerOf noSpeed (speedOfValues t x) r .refusal ≡ 0 → ⊥) → answerOf noSpeed (speedOfValues t x) r .speed ≡ 0
-    go (refused q place) m = refl
-    go (accepted l) m =
-        by-cases (validTrain t)
-        (λ v. by-cases (ltb x (segmentLength (sheetNumbers l))) (λ b. absurd (m (rw (v, b)))) (λ b. rw (v, b)))
-        (λ v. rw v)
-
 pub altitude-none : (r : Read) → (altitudeOfRead r .refusal ≡ 0 → ⊥) → altitudeOfRead r .altitude ≡ pos 0
 altitude-none (refused q place) n = refl
 altitude-none (accepted l) n = absurd (n refl)

@@ -66,11 +66,7 @@ abbrev pub speedRefusals : Brought → List ℕ
 speedRefusals packet = 1 ∷ 2 ∷ 3 ∷ 4 ∷ 5 ∷ 6 ∷ 7 ∷ 13 ∷ 10 ∷ 11 ∷ []
 speedRefusals sheet = 2 ∷ 4 ∷ 5 ∷ 9 ∷ 10 ∷ 11 ∷ []
 
--- "the altitude of a packet"
-abbrev pub AltitudeGround : List ℕ → ℕ → ℕ → Type 0
-AltitudeGround s r place = PacketGround segmentNumber (fields wireChanges) s r place
-
--- "1 to 7", and 13
+-- "the altitude of a packet": "1 to 7", and 13
 abbrev pub altitudeRefusals : List ℕ
 altitudeRefusals = packetRefusals
 

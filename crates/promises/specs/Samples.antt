@@ -1,4 +1,4 @@
--- An input for each refusal that an operation lists, in the order of the list.
+-- An input for each refusal that an operation lists, in the order of the list; of a question on speed its answer.
 -- Assumes nothing.
 use mathlib.Core.Bool.{false}
 use mathlib.Core.List.{List, [], _∷_, _++_}
@@ -8,7 +8,9 @@ use Rattle.kinds.specs.declared.Item.{Item}
 use Rattle.segment.specs.Segment.{wireChanges}
 use Rattle.segment.specs.Judgement.{toPacket, toSheet}
 use Rattle.segment.specs.Desk.{packetWith, firstPacket, firstSheet, counting}
-use Rattle.speed.specs.declared.Train.{Train}
+use Rattle.speed.specs.Desk.{trainOf, plain}
+use Rattle.question.specs.declared.Speed.{Speed}
+use Rattle.question.specs.Question.{permittedSpeed}
 
 -- "They equal the packet fields": a value that is the same number in both
 abbrev item : ℕ → Item
@@ -29,26 +31,6 @@ refusedPackets =
 abbrev pub refusedSheets : List (List ℕ)
 refusedSheets = (7 ∷ []) ∷ (6 ∷ 10 ∷ []) ∷ toSheet wireChanges fallen ∷ []
 
--- "A train has a length (1 to 150,000 cm)": one of this length
-abbrev train : ℕ → Train
-train length = record { length = length; cant = 80; «freight_p» = false; «freight_g» = false; passenger = false }
-
--- "says first, 0 or 1": a question of a train at x
-pub record Sample : Type 0 where
-  pub kind : ℕ
-  pub bytes : List ℕ
-  pub of : Train
-  pub x : ℕ
-
--- "A packet is judged" before the train: a question with a valid train
-abbrev pub questions : ℕ → List (List ℕ) → List Sample
-questions kind [] = []
-questions kind (s ∷ l) = record { kind = kind; bytes = s; of = train 1; x = 0 } ∷ questions kind l
-
--- 10, "train length .. not allowed": a train of no length. 11, "x at or past L_SP": L_SP is 1
-abbrev pub lateQuestions : ℕ → List ℕ → List Sample
-lateQuestions kind s = record { kind = kind; bytes = s; of = train 0; x = 1 } ∷ record { kind = kind; bytes = s; of = train 1; x = 1 } ∷ []
-
 -- 8, "result longer than the lent room": a result in no room
 abbrev pub convertedPackets : List (List ℕ)
 convertedPackets = refusedPackets ++ firstPacket ∷ []
@@ -66,8 +48,12 @@ tooManyBits = 4 ∷ replicate 6 0 ++ 17 ∷ times 17 (replicate 5 0 ++ 31 ∷ re
 abbrev pub convertedSheets : List (List ℕ)
 convertedSheets = refusedSheets ++ firstSheet ∷ [] ∷ tooManyBits ∷ []
 
+-- the segment is judged before the train: a valid train is told of each that is refused. Of one that is not, with L_SP 1:
+-- 10, "train length .. not allowed", by a train of no length; 11, "x at or past L_SP", at 1
+abbrev questions : ℕ → List (List ℕ) → List ℕ → List Speed
+questions kind [] s = permittedSpeed kind s (trainOf 0 80 false false false) 1 ∷ permittedSpeed kind s plain 1 ∷ []
+questions kind (r ∷ l) s = permittedSpeed kind r plain 0 ∷ questions kind l s
+
 -- 15, "a kind that is neither": 2, with no byte and a train of no length; then the refusals of a packet and of a sheet
-abbrev pub asked : List Sample
-asked =
-    record { kind = 2; bytes = []; of = train 0; x = 1 } ∷ questions 0 refusedPackets ++ lateQuestions 0 firstPacket
-    ++ questions 1 (refusedSheets ++ [] ∷ []) ++ lateQuestions 1 firstSheet
+abbrev pub asked : List Speed
+asked = permittedSpeed 2 [] (trainOf 0 80 false false false) 1 ∷ questions 0 refusedPackets firstPacket ++ questions 1 (refusedSheets ++ [] ∷ []) firstSheet

@@ -8,8 +8,7 @@ use native.Mathlib.Omega.{arith}
 use borrow.Author.Tests.{lt-ltb, le-ltb}
 use lib.Dec.{ltb}
 use Rattle.bits.proofs.Tests.{by-cases}
-use Rattle.kinds.specs.declared.Item.{Item}
-use Rattle.format.specs.Format.{Read, accepted, valuesOf, answerOf, sheetNumbers}
+use Rattle.format.specs.Format.{accepted, refused, valuesOf, answerOf, sheetNumbers}
 use Rattle.format.specs.Media.{packet, sheet}
 use Rattle.segment.specs.Segment.{fields, sheetFields, wireChanges}
 use Rattle.link.specs.declared.Tree.the-variants.{Segment}
@@ -17,13 +16,12 @@ use Rattle.link.specs.Trees.{treeSheetFields}
 use Rattle.segment.specs.Judgement.{fromPacket, fromSheet}
 use Rattle.judge.specs.declared.PacketVerdict.the-variants as PacketVerdict
 use Rattle.judge.specs.declared.SheetVerdict.the-variants as SheetVerdict
-use Rattle.judge.specs.Verdict.{verdictOf, sizeFrom, packetVerdict, sheetVerdict}
-use Rattle.judge.proofs.Sizes.{Sorts, packet-sorts, sheet-sorts}
+use Rattle.judge.specs.Verdict.{sizeFrom, packetVerdict, sheetVerdict}
+use Rattle.judge.proofs.Sizes.{packet-sorts, sheet-sorts}
 use Rattle.judge.proofs.Accepted.{verdict-accepted, verdict-refused}
 use Rattle.speed.specs.declared.Train.{Train}
 use Rattle.speed.specs.Speed.{validTrain, segmentLength, speedIn}
-use Rattle.question.specs.declared.Speed.{Speed}
-use Rattle.question.specs.Question.{Brought, noSpeed, judgedSpeed, speedOfValues, speedFrom}
+use Rattle.question.specs.Question.{Brought, noSpeed, judgedSpeed, speedOfValues, judgedAs, speedFrom}
 
 module _ (t : Train) (x lsp : ℕ) where
   -- ---- "speed questions judge 10, then 11"
@@ -56,40 +54,27 @@ module _ (t : Train) (x lsp : ℕ) where
 
 -- ---- the answer by the verdict
 
-module _ {B : Type 0} {accepts : ℕ → B} {refuses : ℕ → ℕ → B} (sorts : Sorts accepts refuses) (size : List Item → ℕ) (t : Train) (x : ℕ) (r : Read) where
-  refused-so : (q place : ℕ) → refuses q place ≡ verdictOf accepts refuses size r → noSpeed q place ≡ answerOf noSpeed (speedOfValues t x) r
-  refused-so q place e = sym (ap (answerOf noSpeed (speedOfValues t x)) (verdict-refused sorts size r q place e))
-
-  module _ (n : ℕ) (e : accepts n ≡ verdictOf accepts refuses size r) where
-    accepted-so : r ≡ accepted (valuesOf r)
-    accepted-so = verdict-accepted sorts size r n e λ p q. p
-
-    answered-so : {lsp v : ℕ} → lsp ≡ segmentLength (sheetNumbers (valuesOf r)) → v ≡ speedIn t x (sheetNumbers (valuesOf r)) → judgedSpeed t x lsp v ≡ answerOf noSpeed (speedOfValues t x) r
-    answered-so a b = ap₂ (judgedSpeed t x) a b ∙ sym (ap (answerOf noSpeed (speedOfValues t x)) accepted-so)
-
-module _ (s : List ℕ) (t : Train) (x : ℕ) where
-  pub packet-refused : (q place : ℕ) → PacketVerdict.Refused q place ≡ packetVerdict Segment s → noSpeed q place ≡ speedFrom Brought.packet s t x
+module _ (s : List ℕ) where
+  pub packet-refused : (q place : ℕ) → PacketVerdict.Refused q place ≡ packetVerdict Segment s → judgedAs Brought.packet s ≡ refused q place
   unfolding packetVerdict fromPacket fields sheetFields
-  packet-refused q place e = refused-so packet-sorts (sizeFrom sheet (treeSheetFields Segment) 0) t x (fromPacket wireChanges s) q place e
+  packet-refused q place e = verdict-refused packet-sorts (sizeFrom sheet (treeSheetFields Segment) 0) (fromPacket wireChanges s) q place e
 
-  pub packet-accepted : (n : ℕ) → PacketVerdict.SheetBytes n ≡ packetVerdict Segment s → fromPacket wireChanges s ≡ accepted (valuesOf (fromPacket wireChanges s))
+  pub packet-accepted : (n : ℕ) → PacketVerdict.SheetBytes n ≡ packetVerdict Segment s → judgedAs Brought.packet s ≡ accepted (valuesOf (judgedAs Brought.packet s))
   unfolding packetVerdict fromPacket fields sheetFields
-  packet-accepted n e = accepted-so packet-sorts (sizeFrom sheet (treeSheetFields Segment) 0) t x (fromPacket wireChanges s) n e
+  packet-accepted n e = verdict-accepted packet-sorts (sizeFrom sheet (treeSheetFields Segment) 0) (fromPacket wireChanges s) n e λ p q. p
 
-  pub packet-answered : (n : ℕ) → PacketVerdict.SheetBytes n ≡ packetVerdict Segment s → {lsp v : ℕ} → lsp ≡ segmentLength (sheetNumbers (valuesOf (fromPacket wireChanges s)))
-      → v ≡ speedIn t x (sheetNumbers (valuesOf (fromPacket wireChanges s))) → judgedSpeed t x lsp v ≡ speedFrom Brought.packet s t x
-  unfolding packetVerdict fromPacket fields sheetFields
-  packet-answered n e a b = answered-so packet-sorts (sizeFrom sheet (treeSheetFields Segment) 0) t x (fromPacket wireChanges s) n e a b
-
-  pub sheet-refused : (q place : ℕ) → SheetVerdict.Refused q place ≡ sheetVerdict Segment s → noSpeed q place ≡ speedFrom Brought.sheet s t x
+  pub sheet-refused : (q place : ℕ) → SheetVerdict.Refused q place ≡ sheetVerdict Segment s → judgedAs Brought.sheet s ≡ refused q place
   unfolding sheetVerdict fromSheet fields sheetFields
-  sheet-refused q place e = refused-so sheet-sorts (sizeFrom packet (treeSheetFields Segment) 0) t x (fromSheet wireChanges s) q place e
+  sheet-refused q place e = verdict-refused sheet-sorts (sizeFrom packet (treeSheetFields Segment) 0) (fromSheet wireChanges s) q place e
 
-  pub sheet-accepted : (n : ℕ) → SheetVerdict.PacketBits n ≡ sheetVerdict Segment s → fromSheet wireChanges s ≡ accepted (valuesOf (fromSheet wireChanges s))
+  pub sheet-accepted : (n : ℕ) → SheetVerdict.PacketBits n ≡ sheetVerdict Segment s → judgedAs Brought.sheet s ≡ accepted (valuesOf (judgedAs Brought.sheet s))
   unfolding sheetVerdict fromSheet fields sheetFields
-  sheet-accepted n e = accepted-so sheet-sorts (sizeFrom packet (treeSheetFields Segment) 0) t x (fromSheet wireChanges s) n e
+  sheet-accepted n e = verdict-accepted sheet-sorts (sizeFrom packet (treeSheetFields Segment) 0) (fromSheet wireChanges s) n e λ p q. p
 
-  pub sheet-answered : (n : ℕ) → SheetVerdict.PacketBits n ≡ sheetVerdict Segment s → {lsp v : ℕ} → lsp ≡ segmentLength (sheetNumbers (valuesOf (fromSheet wireChanges s)))
-      → v ≡ speedIn t x (sheetNumbers (valuesOf (fromSheet wireChanges s))) → judgedSpeed t x lsp v ≡ speedFrom Brought.sheet s t x
-  unfolding sheetVerdict fromSheet fields sheetFields
-  sheet-answered n e a b = answered-so sheet-sorts (sizeFrom packet (treeSheetFields Segment) 0) t x (fromSheet wireChanges s) n e a b
+module _ (b : Brought) (s : List ℕ) (t : Train) (x : ℕ) where
+  pub of-refusal : (q place : ℕ) → judgedAs b s ≡ refused q place → noSpeed q place ≡ speedFrom b s t x
+  of-refusal q place e = sym (ap (answerOf noSpeed (speedOfValues t x)) e)
+
+  pub of-values : judgedAs b s ≡ accepted (valuesOf (judgedAs b s)) → {lsp v : ℕ} → lsp ≡ segmentLength (sheetNumbers (valuesOf (judgedAs b s)))
+      → v ≡ speedIn t x (sheetNumbers (valuesOf (judgedAs b s))) → judgedSpeed t x lsp v ≡ speedFrom b s t x
+  of-values e l v = ap₂ (judgedSpeed t x) l v ∙ sym (ap (answerOf noSpeed (speedOfValues t x)) e)

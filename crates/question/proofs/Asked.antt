@@ -1,6 +1,6 @@
--- The question by its kind: what is brought by 0 or 1 is judged as before, and a kind that is neither is refused, first of all.
+-- The question by its kind: what is brought by 0 or 1 is answered as before, and a kind that is neither is refused, first of all.
 -- Assumes nothing.
-use mathlib.Core.Path.{_≡_, refl, ap, _∙_}
+use mathlib.Core.Path.{_≡_, refl}
 use mathlib.Core.List.{List}
 use Prim.Native.Nat.{ℕ}
 use borrow.Author.Tests.{eqb-true, eqb-false, ne-eqb}
@@ -13,34 +13,22 @@ use Rattle.speed.specs.declared.Train.{Train}
 use Rattle.question.specs.Question.{Brought, packet, sheet, kindOf, Neither, noSpeed, speedOfValues, speedFrom, permittedSpeed}
 
 -- a kind is 0 or 1, or neither
-pub neither : {kind : ℕ} → (kind ≡ 0 → ⊥) → (kind ≡ 1 → ⊥) → Neither kind
-neither m n packet = m
-neither m n sheet = n
-
 pub either-kind : {C : Type 0} (kind : ℕ) → ((b : Brought) → kind ≡ kindOf b → C) → (Neither kind → C) → C
 either-kind kind f g =
     by-cases (eqb kind 0) (λ d. f packet (eqb-true kind 0 d))
-    (λ d. by-cases (eqb kind 1) (λ e. f sheet (eqb-true kind 1 e)) (λ e. g (neither (eqb-false kind 0 d) (eqb-false kind 1 e))))
+    (λ d. by-cases (eqb kind 1) (λ e. f sheet (eqb-true kind 1 e)) (λ e. g (eqb-false kind 0 d, eqb-false kind 1 e)))
 
 module _ (s : List ℕ) (t : Train) (x : ℕ) where
-  asked-as : (b : Brought) → permittedSpeed (kindOf b) s t x ≡ speedFrom b s t x
-  unfolding permittedSpeed
-  asked-as packet = refl
-  asked-as sheet = refl
-
   pub asked : {kind : ℕ} (b : Brought) → kind ≡ kindOf b → permittedSpeed kind s t x ≡ speedFrom b s t x
-  asked b e = ap (λ (k : ℕ). permittedSpeed k s t x) e ∙ asked-as b
+  unfolding permittedSpeed
+  asked packet e = rw e
+  asked sheet e = rw e
 
   -- "15, first of all, for a kind that is neither"
   pub neither-first : {kind : ℕ} → Neither kind → permittedSpeed kind s t x ≡ noSpeed 15 0
   unfolding permittedSpeed
-  neither-first {kind} n = rw (ne-eqb kind 0 (n packet), ne-eqb kind 1 (n sheet))
+  neither-first {kind} n = rw (ne-eqb kind 0 (n .0), ne-eqb kind 1 (n .1))
 
--- "Answers stay the same for each kind": the new question is what speed from a packet and speed from a sheet were
-pub record SameAnswers (s : List ℕ) (t : Train) (x : ℕ) : Type 0 where
-  pub fromPackets : permittedSpeed 0 s t x ≡ answerOf noSpeed (speedOfValues t x) (fromPacket wireChanges s)
-  pub fromSheets : permittedSpeed 1 s t x ≡ answerOf noSpeed (speedOfValues t x) (fromSheet wireChanges s)
-  pub others : (kind : ℕ) → Neither kind → permittedSpeed kind s t x ≡ noSpeed 15 0
-
-pub same-answers : (s : List ℕ) (t : Train) (x : ℕ) → SameAnswers s t x
-same-answers s t x = record { fromPackets = asked-as s t x packet; fromSheets = asked-as s t x sheet; others = λ kind n. neither-first s t x n }
+  -- "Answers stay the same for each kind": what speed from a packet and speed from a sheet were
+  pub same-answers : (permittedSpeed 0 s t x ≡ answerOf noSpeed (speedOfValues t x) (fromPacket wireChanges s)) × (permittedSpeed 1 s t x ≡ answerOf noSpeed (speedOfValues t x) (fromSheet wireChanges s))
+  same-answers = (asked packet refl, asked sheet refl)

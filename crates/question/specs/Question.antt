@@ -39,7 +39,7 @@ kindOf sheet = 1
 
 -- "a kind that is neither"
 abbrev pub Neither : ℕ → Type 0
-Neither kind = (b : Brought) → kind ≡ kindOf b → ⊥
+Neither kind = (kind ≡ kindOf packet → ⊥) × (kind ≡ kindOf sheet → ⊥)
 
 -- "A packet is judged", "A sheet is judged": the values of what is brought, or its refusal
 abbrev pub judgedAs : Brought → List ℕ → Read

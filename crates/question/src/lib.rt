@@ -1,6 +1,6 @@
 // The permitted speed for a train at a place, from a packet or from a sheet. It is judged whole, then the train and the place; only then the speed is worked out.
 ghost use mathlib.Core.Path.{_≡_};
-ghost use Rattle.question.specs.Question.{Brought, noSpeed, judgedSpeed, speedFrom, permittedSpeed};
+ghost use Rattle.question.specs.Question.{Brought, judgedSpeed, speedFrom, permittedSpeed};
 use judge::PacketVerdict;
 use judge::SheetVerdict;
 use link::Tree;
@@ -26,22 +26,12 @@ pub const PAST_END: u32 = 11;
 
 pub const UNKNOWN_KIND: u32 = 15;
 
-fn refused(refusal: u32, place: u32) -> Speed
-    ensures { λ r. ⌜ r ≡ noSpeed refusal place ⌝ }
+fn answer(refusal: u32, place: u32, speed: u32) -> Speed
+    ensures { λ r. ⌜ r ≡ record { refusal = refusal; place = place; speed = speed } ⌝ }
 {
     Speed {
         refusal,
         place,
-        speed: 0,
-    }
-}
-
-fn answered(speed: u32) -> Speed
-    ensures { λ r. ⌜ r ≡ record { refusal = 0; place = 0; speed = speed } ⌝ }
-{
-    Speed {
-        refusal: 0,
-        place: 0,
         speed,
     }
 }
@@ -64,13 +54,13 @@ fn from_packet(packet: &[u8], train: Train, x: u32) -> Speed
     ensures { λ r. ⌜ r ≡ speedFrom Brought.packet (now (packet .entry)) train x ⌝ }
 {
     match judge_packet::judge_packet(Tree::Segment, packet) {
-        PacketVerdict::Refused(r, place) => refused(r, place),
+        PacketVerdict::Refused(r, place) => answer(r, place, 0),
         PacketVerdict::SheetBytes(_) => {
             let refusal = refusal_of(train, x, ask_packet::length_of(packet));
             if refusal != 0 {
-                return refused(refusal, 0);
+                return answer(refusal, 0, 0);
             }
-            answered(ask_packet::permitted(packet, train, x))
+            answer(0, 0, ask_packet::permitted(packet, train, x))
         }
     }
 }
@@ -80,14 +70,14 @@ fn from_sheet(sheet: &[u8], train: Train, x: u32) -> Speed
     ensures { λ r. ⌜ r ≡ speedFrom Brought.sheet (now (sheet .entry)) train x ⌝ }
 {
     match judge_sheet::judge_sheet(Tree::Segment, sheet) {
-        SheetVerdict::Refused(r, place) => refused(r, place),
+        SheetVerdict::Refused(r, place) => answer(r, place, 0),
         SheetVerdict::PacketBits(_) => {
             let start = ask_sheet::head(sheet);
             let refusal = refusal_of(train, x, start.lsp);
             if refusal != 0 {
-                return refused(refusal, 0);
+                return answer(refusal, 0, 0);
             }
-            answered(ask_sheet::permitted(sheet, start, train, x))
+            answer(0, 0, ask_sheet::permitted(sheet, start, train, x))
         }
     }
 }
@@ -102,5 +92,5 @@ pub fn permitted_speed(kind: u32, segment: &[u8], train: Train, x: u32) -> Speed
     if kind == SHEET {
         return from_sheet(segment, train, x);
     }
-    refused(UNKNOWN_KIND, 0)
+    answer(UNKNOWN_KIND, 0, 0)
 }

@@ -2,7 +2,7 @@
 use mathlib.Core.Path.{sym, _∙_}
 use denote.Ref.{now}
 use Rattle.question.specs.Question.{Brought}
-use Rattle.question.proofs.Asked.{neither, asked, neither-first}
+use Rattle.question.proofs.Asked.{asked, neither-first}
 use borrow.Author.Needs.{needs}
 use Rattle.question.proofs.permitted_speed.Statement.{statement}
 use Rattle.question.proofs.permitted_speed.Tie as tie
@@ -19,13 +19,13 @@ from-sheet-requires c κs = search needs
 returns-2 : tie.Need-returns-2
 returns-2 c = let a = c .before .before .before .before .args in c .from-sheet .ensures ∙ sym (asked (now (a .segment)) (a .train) (a .x) Brought.sheet (c .before .if2 .taken))
 
-refused-requires : tie.Need-refused-requires
-refused-requires c κs = search needs
+answer-requires : tie.Need-answer-requires
+answer-requires c κs = search needs
 
 returns-3 : tie.Need-returns-3
 returns-3 c =
     let a = c .before .before .before .before .args in
-    c .refused .ensures ∙ sym (neither-first (now (a .segment)) (a .train) (a .x) (neither (c .before .before .if1 .left) (c .before .if2 .left)))
+    c .answer .ensures ∙ sym (neither-first (now (a .segment)) (a .train) (a .x) (c .before .before .if1 .left, c .before .if2 .left))
 
 pub permitted-speed-spec : {M : Type 1} → statement M
-permitted-speed-spec = tie.close (tie.spec from-packet-requires returns from-sheet-requires returns-2 refused-requires returns-3)
+permitted-speed-spec = tie.close (tie.spec from-packet-requires returns from-sheet-requires returns-2 answer-requires returns-3)
