@@ -15,7 +15,7 @@ use Rattle.question.specs.Question.{Brought, permittedSpeed}
 use Rattle.altitude.specs.Altitude.{altitudeOf}
 use Rattle.convert.specs.Convert.{packetToSheet, sheetToPacket}
 use Rattle.promises.specs.Refused.{packetToSheetRefusals, sheetToPacketRefusals, speedRefusals, altitudeRefusals}
-use Rattle.promises.specs.Samples.{refusedPackets, convertedPackets, convertedSheets, asked}
+use Rattle.promises.specs.Samples.{refusedPackets, convertedPackets, convertedSheets, askedSpeeds}
 
 pub packet-to-sheet-reached : map (λ s. packetToSheet s [] .answer .refusal) convertedPackets ≡ packetToSheetRefusals
 unfolding fieldAt numberOf groupsIn digits place entries changes lists body fields sheetFields toPacket toSheet times journeyBody linkFields fromEitherPacket toEitherSheet packetToSheet
@@ -25,7 +25,7 @@ pub sheet-to-packet-reached : map (λ s. sheetToPacket s [] .answer .refusal) co
 unfolding fieldAt numberOf groupsIn digits place entries changes lists body fields sheetFields toPacket toSheet times journeyBody linkFields fromEitherSheet toEitherPacket sheetToPacket
 sheet-to-packet-reached = refl
 
-pub permitted-speed-reached : map (λ o. o .refusal) asked ≡ 15 ∷ speedRefusals Brought.packet ++ speedRefusals Brought.sheet
+pub permitted-speed-reached : map (λ o. o .refusal) askedSpeeds ≡ 15 ∷ speedRefusals Brought.packet ++ speedRefusals Brought.sheet
 unfolding fieldAt numberOf groupsIn digits place entries changes lists body fields sheetFields fromPacket fromSheet toPacket toSheet permittedSpeed
 permitted-speed-reached = refl
 

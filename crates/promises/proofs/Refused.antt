@@ -21,7 +21,7 @@ use Rattle.segment.proofs.Grounds.{packet-grounds, sheet-grounds}
 use Rattle.link.specs.Link.{fromEitherPacket, fromEitherSheet}
 use Rattle.link.specs.Grounds.{EitherPacketGround, EitherSheetGround}
 use Rattle.link.proofs.Grounds.{either-packet-grounds, either-sheet-grounds}
-use Rattle.question.specs.Question.{Brought, judgedAs}
+use Rattle.question.specs.Question.{Brought, readAs}
 use Rattle.altitude.specs.declared.Altitude.{Altitude}
 use Rattle.altitude.specs.Altitude.{altitudeOfRead, altitudeField, centimetres}
 use Rattle.convert.specs.Convert.{Outcome, fitted, converted}
@@ -35,7 +35,7 @@ pub record Grounded (judge : List ℕ → Read) (On : List ℕ → ℕ → ℕ �
   pub refused-on : (s : List ℕ) (r place : ℕ) → Bytes s → (judge s ≡ refused r place) ↔ On s r place
 
 -- a segment's, as it is brought
-pub segments-on : (b : Brought) → Grounded (judgedAs b) (SegmentGround b)
+pub segments-on : (b : Brought) → Grounded (readAs b) (SegmentGround b)
 unfolding fromPacket
 segments-on Brought.packet = record { refused-on = λ s r place ok. packet-grounds segmentNumber (fields wireChanges) s r place }
 segments-on Brought.sheet = record { refused-on = sheet-grounds wireChanges }

@@ -16,7 +16,7 @@ use Rattle.format.specs.Grounds.{Ending, grounded, OneEnding}
 use Rattle.speed.specs.declared.Train.{Train}
 use Rattle.speed.specs.Speed.{validTrain, segmentLength, speedIn, inFives}
 use Rattle.question.specs.declared.Speed.{Speed}
-use Rattle.question.specs.Question.{Brought, kindOf, noSpeed, speedOfValues, judgedAs, permittedSpeed}
+use Rattle.question.specs.Question.{Brought, kindOf, noSpeed, speedOfValues, readAs, permittedSpeed}
 use Rattle.question.proofs.Asked.{either-kind, asked, neither-first}
 use Rattle.promises.specs.Promised.{goodIn, SegmentValues, SegmentOfValues, Answerable, LengthOf, heldAt, LowestOf}
 use Rattle.promises.specs.Refused.{Refuses, SpeedGround}
@@ -35,18 +35,18 @@ module _ (kind : ℕ) (s : List ℕ) (t : Train) (x : ℕ) where
   permitted-speed-value c =
       let b = c .brought in
       let l = c .values in
-      asked s t x b (c .named) ∙ ap (answerOf noSpeed (speedOfValues t x)) (ap (judgedAs b) (c .whole) ∙ segments b .again l (c .good))
+      asked s t x b (c .named) ∙ ap (answerOf noSpeed (speedOfValues t x)) (ap (readAs b) (c .whole) ∙ segments b .again l (c .good))
       ∙ rw (c .valid, lt-ltb x (segmentLength (sheetNumbers l)) (c .inside))
 
   -- and it is answered exactly for a kind of 0 or 1, a packet or a sheet of good values, a valid train and an x below L_SP
   pub permitted-speed-answered : Bytes s → (permittedSpeed kind s t x .refusal ≡ 0) ↔ Answerable kind s t x
   permitted-speed-answered ok = (
-    λ d. either-kind kind (λ b e. go b e (judgedAs b s) refl (sym (ap (λ (o : Speed). o .refusal) (asked s t x b e)) ∙ d))
+    λ d. either-kind kind (λ b e. go b e (readAs b s) refl (sym (ap (λ (o : Speed). o .refusal) (asked s t x b e)) ∙ d))
         (λ n. let z : 15 ≡ 0 = sym (ap (λ (o : Speed). o .refusal) (neither-first s t x n)) ∙ d in absurd (omega arith)),
     λ c. ap (λ (o : Speed). o .refusal) (permitted-speed-value c),
   )
     where
-      inside : (b : Brought) → kind ≡ kindOf b → (l : List Item) → judgedAs b s ≡ accepted l → speedOfValues t x l .refusal ≡ 0 → Answerable kind s t x
+      inside : (b : Brought) → kind ≡ kindOf b → (l : List Item) → readAs b s ≡ accepted l → speedOfValues t x l .refusal ≡ 0 → Answerable kind s t x
       inside b k l e d =
           let p = segments b .only s l ok e in
           by-cases (validTrain t)
@@ -55,7 +55,7 @@ module _ (kind : ℕ) (s : List ℕ) (t : Train) (x : ℕ) where
           (λ h. let z : _≡_ {A = ℕ} 11 0 = rw (v, h) at d in absurd (omega arith)))
           (λ v. let z : _≡_ {A = ℕ} 10 0 = rw v at d in absurd (omega arith))
 
-      go : (b : Brought) → kind ≡ kindOf b → (r : Read) → judgedAs b s ≡ r → answerOf noSpeed (speedOfValues t x) r .refusal ≡ 0 → Answerable kind s t x
+      go : (b : Brought) → kind ≡ kindOf b → (r : Read) → readAs b s ≡ r → answerOf noSpeed (speedOfValues t x) r .refusal ≡ 0 → Answerable kind s t x
       go b k (accepted l) e d = inside b k l e d
       go b k (refused q place) e d = absurd (omega (arith, segments b .refuses s ok q place e))
 
@@ -67,7 +67,7 @@ module _ (kind : ℕ) (s : List ℕ) (t : Train) (x : ℕ) where
   pub permitted-speed-none : (permittedSpeed kind s t x .refusal ≡ 0 → ⊥) → permittedSpeed kind s t x .speed ≡ 0
   permitted-speed-none n =
       either-kind kind
-      (λ b e. ap (λ (o : Speed). o .speed) (asked s t x b e) ∙ go (judgedAs b s) (λ d. n (ap (λ (o : Speed). o .refusal) (asked s t x b e) ∙ d)))
+      (λ b e. ap (λ (o : Speed). o .speed) (asked s t x b e) ∙ go (readAs b s) (λ d. n (ap (λ (o : Speed). o .refusal) (asked s t x b e) ∙ d)))
       (λ m. ap (λ (o : Speed). o .speed) (neither-first s t x m))
     where
       go : (r : Read) → (answerOf noSpeed (speedOfValues t x) r .refusal ≡ 0 → ⊥) → answerOf noSpeed (speedOfValues t x) r .speed ≡ 0
@@ -89,7 +89,7 @@ module _ (kind : ℕ) (s : List ℕ) (t : Train) (x : ℕ) where
     pub permitted-speed-refused : (r place : ℕ) → Refuses (said (permittedSpeed kind s t x)) r place ↔ SpeedGround kind s t x r place
     permitted-speed-refused r place = (only, given)
       where
-        inside : (b : Brought) → kind ≡ kindOf b → (l : List Item) → judgedAs b s ≡ accepted l → said (speedOfValues t x l) ≡ (r, place) → 1 ≤ r → SpeedGround kind s t x r place
+        inside : (b : Brought) → kind ≡ kindOf b → (l : List Item) → readAs b s ≡ accepted l → said (speedOfValues t x l) ≡ (r, place) → 1 ≤ r → SpeedGround kind s t x r place
         inside b k l a e h =
             let w = of-values (segments b) (segments-on b) s ok l a in
             by-cases (validTrain t)

@@ -39,7 +39,7 @@ use Rattle.speed.specs.declared.Train.{Train}
 use Rattle.speed.specs.Speed.{validTrain, segmentLength, speedIn, inFives}
 use Rattle.speed.proofs.Lowering.{length-stays, speed-in-fives}
 use Rattle.question.specs.declared.Speed.{Speed}
-use Rattle.question.specs.Question.{Brought, judgedSpeed, speedOfValues, judgedAs}
+use Rattle.question.specs.Question.{Brought, judgedSpeed, speedOfValues, readAs}
 use Rattle.altitude.specs.Altitude.{altitudeOfRead}
 use Rattle.convert.specs.Convert.{Outcome, refusedWith, successWith, fitted, converted}
 use Rattle.promises.specs.Promised.{SegmentValues, segmentOf, Convertible, answerInFives, GreatestFive, Done, result, spelled, spelledBits, LoweredTo, Lowering, over, one}
@@ -125,7 +125,7 @@ pub record Side (judge : List ℕ → Read) (Good : List Item → Type 0) (input
   pub refuses : (s : List ℕ) → Bytes s → (q place : ℕ) → judge s ≡ refused q place → 1 ≤ q
 
 -- a segment's, as it is brought
-pub segments : (b : Brought) → Side (judgedAs b) (SegmentValues b) (segmentOf b)
+pub segments : (b : Brought) → Side (readAs b) (SegmentValues b) (segmentOf b)
 segments Brought.packet = record { only = packet-values; again = packet-taken; refuses = λ s ok q place e. packet-refusal wireChanges s q place e }
 segments Brought.sheet = record { only = sheet-values; again = sheet-taken; refuses = λ s ok q place e. sheet-refusal wireChanges s q place ok e }
 

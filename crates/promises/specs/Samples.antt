@@ -55,5 +55,5 @@ questions kind [] s = permittedSpeed kind s (trainOf 0 80 false false false) 1 �
 questions kind (r ∷ l) s = permittedSpeed kind r plain 0 ∷ questions kind l s
 
 -- 15, "a kind that is neither": 2, with no byte and a train of no length; then the refusals of a packet and of a sheet
-abbrev pub asked : List Speed
-asked = permittedSpeed 2 [] (trainOf 0 80 false false false) 1 ∷ questions 0 refusedPackets firstPacket ++ questions 1 (refusedSheets ++ [] ∷ []) firstSheet
+abbrev pub askedSpeeds : List Speed
+askedSpeeds = permittedSpeed 2 [] (trainOf 0 80 false false false) 1 ∷ questions 0 refusedPackets firstPacket ++ questions 1 (refusedSheets ++ [] ∷ []) firstSheet

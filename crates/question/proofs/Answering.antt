@@ -21,7 +21,7 @@ use Rattle.judge.proofs.Sizes.{packet-sorts, sheet-sorts}
 use Rattle.judge.proofs.Accepted.{verdict-accepted, verdict-refused}
 use Rattle.speed.specs.declared.Train.{Train}
 use Rattle.speed.specs.Speed.{validTrain, segmentLength, speedIn}
-use Rattle.question.specs.Question.{Brought, noSpeed, judgedSpeed, speedOfValues, judgedAs, speedFrom}
+use Rattle.question.specs.Question.{Brought, noSpeed, judgedSpeed, speedOfValues, readAs, speedFrom}
 
 module _ (t : Train) (x lsp : ℕ) where
   -- ---- "speed questions judge 10, then 11"
@@ -55,26 +55,26 @@ module _ (t : Train) (x lsp : ℕ) where
 -- ---- the answer by the verdict
 
 module _ (s : List ℕ) where
-  pub packet-refused : (q place : ℕ) → PacketVerdict.Refused q place ≡ packetVerdict Segment s → judgedAs Brought.packet s ≡ refused q place
+  pub packet-refused : (q place : ℕ) → PacketVerdict.Refused q place ≡ packetVerdict Segment s → readAs Brought.packet s ≡ refused q place
   unfolding packetVerdict fromPacket fields sheetFields
   packet-refused q place e = verdict-refused packet-sorts (sizeFrom sheet (treeSheetFields Segment) 0) (fromPacket wireChanges s) q place e
 
-  pub packet-accepted : (n : ℕ) → PacketVerdict.SheetBytes n ≡ packetVerdict Segment s → judgedAs Brought.packet s ≡ accepted (valuesOf (judgedAs Brought.packet s))
+  pub packet-accepted : (n : ℕ) → PacketVerdict.SheetBytes n ≡ packetVerdict Segment s → readAs Brought.packet s ≡ accepted (valuesOf (readAs Brought.packet s))
   unfolding packetVerdict fromPacket fields sheetFields
   packet-accepted n e = verdict-accepted packet-sorts (sizeFrom sheet (treeSheetFields Segment) 0) (fromPacket wireChanges s) n e λ p q. p
 
-  pub sheet-refused : (q place : ℕ) → SheetVerdict.Refused q place ≡ sheetVerdict Segment s → judgedAs Brought.sheet s ≡ refused q place
+  pub sheet-refused : (q place : ℕ) → SheetVerdict.Refused q place ≡ sheetVerdict Segment s → readAs Brought.sheet s ≡ refused q place
   unfolding sheetVerdict fromSheet fields sheetFields
   sheet-refused q place e = verdict-refused sheet-sorts (sizeFrom packet (treeSheetFields Segment) 0) (fromSheet wireChanges s) q place e
 
-  pub sheet-accepted : (n : ℕ) → SheetVerdict.PacketBits n ≡ sheetVerdict Segment s → judgedAs Brought.sheet s ≡ accepted (valuesOf (judgedAs Brought.sheet s))
+  pub sheet-accepted : (n : ℕ) → SheetVerdict.PacketBits n ≡ sheetVerdict Segment s → readAs Brought.sheet s ≡ accepted (valuesOf (readAs Brought.sheet s))
   unfolding sheetVerdict fromSheet fields sheetFields
   sheet-accepted n e = verdict-accepted sheet-sorts (sizeFrom packet (treeSheetFields Segment) 0) (fromSheet wireChanges s) n e λ p q. p
 
 module _ (b : Brought) (s : List ℕ) (t : Train) (x : ℕ) where
-  pub of-refusal : (q place : ℕ) → judgedAs b s ≡ refused q place → noSpeed q place ≡ speedFrom b s t x
+  pub of-refusal : (q place : ℕ) → readAs b s ≡ refused q place → noSpeed q place ≡ speedFrom b s t x
   of-refusal q place e = sym (ap (answerOf noSpeed (speedOfValues t x)) e)
 
-  pub of-values : judgedAs b s ≡ accepted (valuesOf (judgedAs b s)) → {lsp v : ℕ} → lsp ≡ segmentLength (sheetNumbers (valuesOf (judgedAs b s)))
-      → v ≡ speedIn t x (sheetNumbers (valuesOf (judgedAs b s))) → judgedSpeed t x lsp v ≡ speedFrom b s t x
+  pub of-values : readAs b s ≡ accepted (valuesOf (readAs b s)) → {lsp v : ℕ} → lsp ≡ segmentLength (sheetNumbers (valuesOf (readAs b s)))
+      → v ≡ speedIn t x (sheetNumbers (valuesOf (readAs b s))) → judgedSpeed t x lsp v ≡ speedFrom b s t x
   of-values e l v = ap₂ (judgedSpeed t x) l v ∙ sym (ap (answerOf noSpeed (speedOfValues t x)) e)

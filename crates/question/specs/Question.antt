@@ -42,13 +42,13 @@ abbrev pub Neither : ℕ → Type 0
 Neither kind = (kind ≡ kindOf packet → ⊥) × (kind ≡ kindOf sheet → ⊥)
 
 -- "A packet is judged", "A sheet is judged": the values of what is brought, or its refusal
-abbrev pub judgedAs : Brought → List ℕ → Read
-judgedAs packet = fromPacket wireChanges
-judgedAs sheet = fromSheet wireChanges
+abbrev pub readAs : Brought → List ℕ → Read
+readAs packet = fromPacket wireChanges
+readAs sheet = fromSheet wireChanges
 
 -- "Answers stay the same for each kind": the segment's own refusals come first
 abbrev pub speedFrom : Brought → List ℕ → Train → ℕ → Speed
-speedFrom b s t x = answerOf noSpeed (speedOfValues t x) (judgedAs b s)
+speedFrom b s t x = answerOf noSpeed (speedOfValues t x) (readAs b s)
 
 -- "15, first of all, for a kind that is neither"; "numbers above 13 it is 0"
 unfoldable pub permittedSpeed : ℕ → List ℕ → Train → ℕ → Speed
