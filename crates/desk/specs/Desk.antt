@@ -138,7 +138,7 @@ refusedConstraint numbers r n = refusedSheet (constraintSheet 1 numbers) r (15 +
 abbrev pub acceptedConstraint : List ℕ → Case
 acceptedConstraint numbers = refusedSheet (constraintSheet 1 numbers) 8 0
 
--- a speed restriction from 100 to 200 cm: the speed in the packet's steps, and in the sheet
+-- the numbers of a speed restriction from 100 to 200 cm, with its speed in km/h, and the packet of one to 80
 abbrev pub restricted : List ℕ → List ℕ
 restricted speed = 0x00 ∷ 0x02 ∷ 0x64 ∷ 0xC8 ∷ 0x01 ∷ 0x01 ∷ speed ++ 0x00 ∷ 0x00 ∷ []
 
