@@ -1,5 +1,6 @@
 pub mod Generic
 pub mod Media
+pub mod Wider
 pub mod Lawful
 pub mod Sized
 pub mod Grounds

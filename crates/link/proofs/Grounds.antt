@@ -16,7 +16,7 @@ use Rattle.format.specs.Media.{sheet}
 use Rattle.format.specs.Grounds.{Every, atEnd, each, Among, first, later}
 use Rattle.format.proofs.Generic.{never}
 use Rattle.format.proofs.Grounds.{sheet-ground, sheet-written}
-use Rattle.segment.specs.Segment.{fields}
+use Rattle.segment.specs.Segment.{fields, wireChanges}
 use Rattle.segment.specs.Frame.{packetNumber, unframed}
 use Rattle.segment.specs.Grounds.{FieldRefusal, asValue, asEnd, packetRefusals, sheetRefusals}
 use Rattle.segment.proofs.Grounds.{packet-grounds, packet-listed, numbers-refusals, numbers-listed, fields-refusals}
@@ -112,7 +112,7 @@ segment-refusals limit f e =
 
 pub tree-refusals : (t : Tree) → Every FieldRefusal (treeFields t)
 unfolding fields journeyBody
-tree-refusals Segment = fields-refusals 23
+tree-refusals Segment = fields-refusals wireChanges
 tree-refusals Journey =
     each (asValue λ _. refl) λ _. each (asValue λ _. refl) λ _. each (asValue λ _. refl) λ _. each (asValue λ _. refl) λ _. each (asValue λ _. refl) λ _.
     each (asValue λ _. refl) λ _. each (asValue λ _. refl) λ n. times-refusals (segment-refusals constraints) n _ atEnd

@@ -16,7 +16,7 @@ use Rattle.format.specs.Media.{packet}
 use Rattle.format.specs.Conforming.{Conforming, InPacket}
 use Rattle.format.proofs.Lawful.{Lawful, goes}
 use Rattle.format.proofs.Sized.{size-least, packet-priced}
-use Rattle.segment.specs.Segment.{fields}
+use Rattle.segment.specs.Segment.{fields, wireChanges}
 use Rattle.segment.proofs.Ends.{fields-lawful, bits-least}
 use Rattle.journey.specs.Journey.{journeyFields, constraints}
 use Rattle.journey.proofs.Ends.{fields-bits}
@@ -43,7 +43,7 @@ number-again n e = or-cases (eqb n 4) (eqb n 6) e (λ d. rw (eqb-true n 4 d)) (�
 
 pub tree-lawful : (t : Tree) → Lawful (treeFields t)
 unfolding fields journeyFields
-tree-lawful Segment = fields-lawful 23 (lit≤ tt)
+tree-lawful Segment = fields-lawful wireChanges (lit≤ tt)
 tree-lawful Journey = journey.fields-lawful constraints (lit≤ tt)
 
 number-lawful : LawfulKind linkNumber
@@ -58,5 +58,5 @@ link-lawful = goes number-lawful λ n _. tree-lawful (treeOf n)
 -- a body of each, in front of which the header's 96 bits stand
 pub tree-least : (t : Tree) {l : List Item} → Conforming InPacket (treeFields t) l → 96 ≤ length (write packet (treeFields t) l)
 unfolding fields journeyFields
-tree-least Segment c = omega (arith, bits-least 23 (lit≤ tt) c)
+tree-least Segment c = omega (arith, bits-least wireChanges (lit≤ tt) c)
 tree-least Journey c = omega (arith, size-least packet-priced (fields-bits constraints (lit≤ tt)) c)

@@ -9,7 +9,7 @@ use Rattle.numbers.specs.Numbers.{groupsIn}
 use Rattle.kinds.specs.declared.Item.{Item}
 use Rattle.kinds.specs.Kinds.{digits}
 use Rattle.format.specs.Format.{times}
-use Rattle.segment.proofs.Ends.{item, repeated, conformed}
+use Rattle.segment.proofs.Reached.{item, repeated, conformed}
 use Rattle.segment.proofs.Framing.{framed-length}
 use Rattle.journey.specs.Journey.{journeyBody}
 use Rattle.link.specs.Link.{linkFields, linkBits, toEitherPacket, toEitherSheet}

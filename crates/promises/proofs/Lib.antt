@@ -11,4 +11,5 @@ pub mod DemandTwo
 pub mod DemandThree
 pub mod Journeys
 pub mod Segments
+pub mod Stored
 pub mod Placeless

@@ -12,11 +12,11 @@ use Rattle.numbers.specs.Numbers.{groupsIn}
 use Rattle.kinds.specs.declared.Item.{Item}
 use Rattle.kinds.specs.Kind.{Kind}
 use Rattle.kinds.specs.Kinds.{lSp, mSpAltitude, speed, mCurrent}
-use Rattle.format.specs.Format.{Format, end, field, sheetNumbers}
+use Rattle.format.specs.Format.{Format, end, field, Read, sheetNumbers}
 use Rattle.format.specs.Conforming.{Conforming, InPacket, InSheet}
 use Rattle.format.specs.Grounds.{Front, Among}
 use Rattle.segment.specs.Segment.{sheetFields, wireChanges}
-use Rattle.segment.specs.Judgement.{toPacket, toSheet}
+use Rattle.segment.specs.Judgement.{fromPacket, fromSheet, toPacket, toSheet}
 use Rattle.link.specs.Link.{linkFields, toEitherPacket, toEitherSheet}
 use Rattle.link.specs.Grounds.{EitherPacketValues, EitherSheetValues}
 use Rattle.speed.specs.declared.Train.{Train}
@@ -38,6 +38,11 @@ SegmentValues b l = Conforming (goodIn b) (sheetFields wireChanges) l
 abbrev pub segmentOf : Brought → List Item → List ℕ
 segmentOf packet = toPacket wireChanges
 segmentOf sheet = toSheet wireChanges
+
+-- "stored packets and sheets": what is brought, judged at a limit of wire changes
+abbrev pub readAt : Brought → ℕ → List ℕ → Read
+readAt packet = fromPacket
+readAt sheet = fromSheet
 
 -- the input is written of good values, as "When a packet is written"
 pub record OfValues (Good : List Item → Type 0) (input : List Item → List ℕ) (s : List ℕ) : Type 0 where

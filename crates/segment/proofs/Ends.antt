@@ -1,29 +1,24 @@
--- The ends: 185 to 15,884 bits of a body, 39 to 2,001 bytes of a packet, 5,608 bytes of a sheet, over the limit of wire changes; and that they are reached.
+-- No segment of any limit of wire changes is smaller or larger than the ends: the bits of a body, the bytes of a packet and of a sheet.
 -- Assumes nothing.
-use mathlib.Core.Path.{_≡_, refl, ap}
-use mathlib.Core.Bool.{Bool, true, false, _&&_}
-use mathlib.Core.List.{List, [], _∷_, _++_}
-use mathlib.Core.Option.{Option, none, some}
-use borrow.Author.Tests.{eqb-true, ltb-true}
+use mathlib.Core.Path.{_≡_, refl}
+use mathlib.Core.List.{List}
 use Prim.Native.Nat.{ℕ, zero, suc, _+_, _*_, _/_, _≤_}
 use native.Mathlib.Omega.{arith}
-use lib.Dec.{eqb, ltb, lit≤}
+use lib.Dec.{lit≤}
 use lib.ListN.{length}
 use Rattle.numbers.specs.Numbers.{groupsIn}
 use Rattle.numbers.proofs.Counting.{count-most}
 use Rattle.kinds.specs.Kind.{Kind}
-use Rattle.bits.proofs.Tests.{and-left, and-right}
-use Rattle.kinds.specs.Kinds.{digits, class, nidCTraction}
-use Rattle.kinds.specs.Tables.{place}
-use Rattle.format.specs.Format.{Format, end, field, write}
+use Rattle.kinds.specs.Kinds.{class, nidCTraction}
+use Rattle.format.specs.Format.{write}
 use Rattle.format.specs.Media.{packet, sheet}
-use Rattle.format.specs.Conforming.{Conforming, done, also, InPacket, InSheet}
+use Rattle.format.specs.Conforming.{Conforming, InPacket, InSheet}
 use Rattle.format.proofs.Lawful.{Lawful}
 use Rattle.format.proofs.Sized.{Measured, within, lawful, size-least, size-most, packet-priced, sheet-priced}
 use Rattle.kinds.specs.declared.Item.{Item}
-use Rattle.segment.specs.Segment.{entries, changes, lists, body, fields, sheetFields, wireChanges}
+use Rattle.segment.specs.Segment.{fields, sheetFields}
 use Rattle.segment.specs.Frame.{packetOfBits}
-use Rattle.segment.specs.Judgement.{segmentNumber, afterNumber}
+use Rattle.segment.specs.Judgement.{segmentNumber}
 use Rattle.segment.proofs.Framing.{framed-length}
 use Rattle.segment.proofs.Tree.{Costs, fields-measured, sheetFields-measured}
 
@@ -123,80 +118,3 @@ module _ (limit : ℕ) (h : limit ≤ 31) where
 
   pub sheet-most : {l : List Item} → Conforming InSheet (sheetFields limit) l → length (write sheet (sheetFields limit) l) ≤ 5263 + 15 * limit
   sheet-most c = size-most sheet-priced sheet-groups c
-
--- at the limit of today
-pub ends : (96 + (14228 + 72 * wireChanges) ≡ 96 + 15884) × (15 + (14228 + 72 * wireChanges + 7) / 8 ≡ 2001) × (5263 + 15 * wireChanges ≡ 5608)
-ends = (refl, refl, refl)
-
--- ---- the ends are reached
-
-abbrev pub item : ℕ → ℕ → Item
-item a v = record { sheet = a; packet = v }
-
--- a list begun with these values, with n changes from the location x on, one centimetre apart
-abbrev changed : List Item → ℕ → ℕ → List Item
-changed start x zero = []
-changed start x (suc n) = item x x ∷ start ++ changed start (suc x) n
-
-abbrev parted : List Item → ℕ → List Item
-parted start n = start ++ item n n ∷ changed start 2097152 n
-
-abbrev pub repeated : ℕ → List Item → List Item
-repeated zero l = []
-repeated (suc n) l = l ++ repeated n l
-
-abbrev largest : ℕ → List Item
-largest limit =
-    item 6 6 ∷ item 4294967295 4294967295 ∷ item 16777215 16777215 ∷ item 32767 32767 ∷ item 86399 86399 ∷ item 255 255
-    ∷ item 1023 1023 ∷ item 4294967295 4294967295 ∷ item 255 255 ∷ item 255 255 ∷ item 16777215 16777215 ∷ item 16777215 16777215
-    ∷ item 112 112 ∷ item 1048575 1048575
-    ∷ parted (item 604 120 ∷ item 1 1 ∷ item 31 31 ∷ repeated 31 (item 0 0 ∷ item 300 10 ∷ item 604 120 ∷ [])) 31
-    ++ parted (item 25000 1 ∷ item 1023 1023 ∷ []) limit ++ parted (item 10010 1000 ∷ []) limit
-
-abbrev smallest : List Item
-smallest = item 6 6 ∷ repeated 9 (item 0 0 ∷ []) ++ item 1 1 ∷ repeated 10 (item 0 0 ∷ []) ++ item 0 1023 ∷ item 0 0 ∷ []
-
--- conforming, as a test that antt computes
-abbrev pub matches : Option ℕ → ℕ → Bool
-matches none v = false
-matches (some u) v = eqb u v
-
-abbrev pub good : Kind → Item → Bool
-good k i = matches (k .lower (i .sheet)) (i .packet) && ltb (i .sheet) 4294967296
-
-abbrev pub conforms : Format → List Item → Bool
-conforms end [] = true
-conforms end (i ∷ l) = false
-conforms (field k next) [] = false
-conforms (field k next) (i ∷ l) = good k i && conforms (next (i .packet)) l
-
-matched : (o : Option ℕ) (v : ℕ) → matches o v ≡ true → o ≡ some v
-matched none v e = absurd (let z : _≡_ {A = ℕ} 0 1 = cc in omega arith)
-matched (some u) v e = ap (λ (n : ℕ). some n) (eqb-true u v e)
-
-pub conformed : (f : Format) (l : List Item) → conforms f l ≡ true → Conforming InSheet f l
-conformed end [] e = done
-conformed end (i ∷ l) e = absurd (let z : _≡_ {A = ℕ} 0 1 = cc in omega arith)
-conformed (field k next) [] e = absurd (let z : _≡_ {A = ℕ} 0 1 = cc in omega arith)
-conformed (field k next) (i ∷ l) e =
-    let g : good k i ≡ true = and-left (good k i) (conforms (next (i .packet)) l) e in
-    let test : Bool = matches (k .lower (i .sheet)) (i .packet) in
-    also {k = k} {i = i}
-    (record {
-      lowered = matched (k .lower (i .sheet)) (i .packet) (and-left test (ltb (i .sheet) 4294967296) g);
-      fits = ltb-true (i .sheet) 4294967296 (and-right test (ltb (i .sheet) 4294967296) g);
-    })
-    (conformed (next (i .packet)) l (and-right (good k i) (conforms (next (i .packet)) l) e))
-
-pub record Reaches (l : List Item) (bitCount sheetBytes : ℕ) : Type 0 where
-  pub conforming : Conforming InSheet (sheetFields wireChanges) l
-  pub bodied : length (write packet (fields wireChanges) (afterNumber l)) ≡ 96 + bitCount
-  pub written : length (write sheet (sheetFields wireChanges) l) ≡ sheetBytes
-
-pub smallest-reached : Reaches smallest 185 23
-unfolding groupsIn digits place entries changes lists body fields sheetFields
-smallest-reached = record { conforming = conformed (sheetFields wireChanges) smallest refl; bodied = refl; written = refl }
-
-pub largest-reached : Reaches (largest wireChanges) 15884 5608
-unfolding groupsIn digits place entries changes lists body fields sheetFields
-largest-reached = record { conforming = conformed (sheetFields wireChanges) (largest wireChanges) refl; bodied = refl; written = refl }

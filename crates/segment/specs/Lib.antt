@@ -4,3 +4,4 @@ pub mod Judgement
 pub mod Grounds
 pub mod Desk
 pub mod Parts
+pub mod Ends
