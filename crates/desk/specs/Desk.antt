@@ -1,9 +1,9 @@
 -- The desk cases of document 01 that are marked (P), in one table: what a public operation says, and what it must say.
 -- Assumes nothing.
 use mathlib.Core.List.{List, [], _∷_, _++_, map}
-use Prim.Native.Nat.{ℕ, _+_}
+use Prim.Native.Nat.{ℕ, zero, suc, _+_}
 use lib.IntN.{pos, negsuc}
-use lib.ListN.{length, replicate}
+use lib.ListN.{length, replicate, take, drop}
 use Rattle.segment.specs.Desk.{Question, askSheetOf, askPacketOf, Reply, bytes, refusal, firstPacket, firstSheet, conversions}
 use Rattle.speed.specs.declared.Train.{Train}
 use Rattle.speed.specs.Desk.{plain, canted}
@@ -174,6 +174,32 @@ constraintCases =
     ∷ converts (askSheetOf (constraintPacket (0x20 ∷ 0x00 ∷ 0x06 ∷ 0x40 ∷ 0x00 ∷ 0x06 ∷ 0x49 ∷ 0x01 ∷ 0xFF ∷ 0x80 ∷ []))) (refusal 5 228)
     ∷ []
 
+-- ---- A8: "More wire changes"
+
+-- n changes from the location x on, one centimetre apart, each with these numbers
+abbrev pub wired : ℕ → ℕ → List ℕ → List ℕ
+wired x zero l = []
+wired x (suc n) l = x ∷ l ++ wired (suc x) n l
+
+-- 1,000 cm with so many voltage changes, whose count is at byte 23, and so many current changes
+abbrev pub wireSheet : ℕ → ℕ → List ℕ
+wireSheet volts amperes =
+    0x06 ∷ 0xC5 ∷ 0xC6 ∷ 0x04 ∷ 0x01 ∷ 0x00 ∷ 0x00 ∷ 0x07 ∷ replicate 4 0 ++ 0xE8 ∷ 0x07 ∷ replicate 3 0
+    ++ 0x64 ∷ replicate 5 0 ++ volts ∷ wired 1 volts (0x00 ∷ 0x00 ∷ []) ++ 0x00 ∷ amperes ∷ wired 1 amperes (0x00 ∷ [])
+
+-- what of a sheet is refused for want of room is accepted
+abbrev pub wireCases : List Case
+wireCases =
+    -- "31 voltage and 31 current changes where 23 were allowed", in both lists or in one
+    refusedSheet (wireSheet 23 23) 8 0 ∷ refusedSheet (wireSheet 24 24) 8 0 ∷ refusedSheet (wireSheet 31 31) 8 0
+    ∷ refusedSheet (wireSheet 31 0) 8 0 ∷ refusedSheet (wireSheet 0 31) 8 0
+    -- and 32 in neither
+    ∷ refusedSheet (wireSheet 32 0) 4 23 ∷ refusedSheet (wireSheet 0 32) 4 25
+    -- "4 no longer covers counts 24 to 31": the first location of 24 and of 31 voltage changes does not fit
+    ∷ converts (askSheetOf (take 35 firstPacket ++ 0x06 ∷ drop 36 firstPacket)) (refusal 6 290)
+    ∷ converts (askSheetOf (take 35 firstPacket ++ 0x07 ∷ 0xFF ∷ drop 37 firstPacket)) (refusal 6 290)
+    ∷ []
+
 -- "The (P) cases form a single table proved by a single statement"
 abbrev pub desk : List Case
 desk =
@@ -193,3 +219,4 @@ desk =
     ∷ cants
     ++ journeys
     ++ constraintCases
+    ++ wireCases

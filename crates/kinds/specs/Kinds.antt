@@ -84,7 +84,7 @@ speed = record { width = 7; largest = 120; highest = 604; allowed = λ v. leb v 
 abbrev pub qFront : Kind
 qFront = upTo 1 1
 
--- "N_ITER 5 (0 to 31)", "N_ITER 5 (0 to 23)"
+-- "N_ITER 5 (0 to 31)", of wire changes up to their limit
 abbrev pub nIter : ℕ → Kind
 nIter most = upTo 5 most
 

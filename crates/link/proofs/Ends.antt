@@ -60,7 +60,7 @@ unfolding fields journeyFields
 tree-bits Segment c = omega (arith, size-least lowered-priced (segment.fields-bits wireChanges (lit≤ tt)) c)
 tree-bits Journey c = size-least lowered-priced (journey.fields-bits constraints (lit≤ tt)) c
 
--- 8 to 15,226 bytes of a sheet: a segment's has 23 to 5,608
+-- 8 to 15,226 bytes of a sheet: a segment's has 23 to 5,728
 tree-bytes : (t : Tree) (l : List Item) → Conforming InSheet (treeSheetFields t) (numberItem (treeNumber t) ∷ l) → length (write packet (treeFields t) l) ≤ 96 + 65535
     → (8 ≤ length (write sheet (treeSheetFields t) (numberItem (treeNumber t) ∷ l))) × (length (write sheet (treeSheetFields t) (numberItem (treeNumber t) ∷ l)) ≤ 15226)
 unfolding sheetFields fields journeySheet journeyFields
@@ -95,7 +95,7 @@ module _ {l : List Item} (v : EitherSheetValues l) where
   pub either-sheet-size : (8 ≤ length (toEitherSheet l)) × (length (toEitherSheet l) ≤ 15226)
   either-sheet-size = by-tree (λ k. (8 ≤ length (toEitherSheet k)) × (length (toEitherSheet k) ≤ 15226)) λ t m r x few. rw (sheet-is t m) (tree-bytes t m x few)
 
-  -- 17 to 8,207 bytes of a packet: a segment's has 39 to 2,001
+  -- 17 to 8,207 bytes of a packet: a segment's has 39 to 2,073
   pub either-packet-size : (17 ≤ length (toEitherPacket l)) × (length (toEitherPacket l) ≤ 8207)
   either-packet-size =
       by-tree (λ k. (17 ≤ length (toEitherPacket k)) × (length (toEitherPacket k) ≤ 8207)) λ t m r x few.

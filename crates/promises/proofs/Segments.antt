@@ -35,19 +35,19 @@ use Rattle.promises.proofs.Values.{packet-values, sheet-values, lowered
 use Rattle.promises.proofs.Ranges.{good-sheet}
 use Rattle.promises.proofs.Refused.{among-member}
 
--- "A sheet has at most 5,608 bytes", and 23 at least
-pub segment-sheet-size : (l : List Item) → SegmentValues Brought.packet l → (23 ≤ length (toEitherSheet l)) × (length (toEitherSheet l) ≤ 5608)
+-- "A sheet has at most 5,728 bytes", and 23 at least
+pub segment-sheet-size : (l : List Item) → SegmentValues Brought.packet l → (23 ≤ length (toEitherSheet l)) × (length (toEitherSheet l) ≤ 5728)
 unfolding toSheet
 segment-sheet-size l c =
     let g = good-sheet c in
     rw (on-link g .sameSheet) (size-least sheet-priced (sheet-groups wireChanges (lit≤ tt)) g, sheet-most wireChanges (lit≤ tt) g)
 
--- "packet of 39 bytes", "2,001 bytes"
-own-size : (l : List Item) → SegmentValues Brought.packet l → (39 ≤ length (toPacket wireChanges l)) × (length (toPacket wireChanges l) ≤ 2001)
+-- "packet of 39 bytes", "2,073 bytes"
+own-size : (l : List Item) → SegmentValues Brought.packet l → (39 ≤ length (toPacket wireChanges l)) × (length (toPacket wireChanges l) ≤ 2073)
 unfolding toPacket sheetFields
 own-size (i ∷ l) (also g c) = (packet-least wireChanges (lit≤ tt) c, packet-most wireChanges (lit≤ tt) c)
 
-pub segment-packet-size : (l : List Item) → SegmentValues Brought.sheet l → (39 ≤ length (toEitherPacket l)) × (length (toEitherPacket l) ≤ 2001)
+pub segment-packet-size : (l : List Item) → SegmentValues Brought.sheet l → (39 ≤ length (toEitherPacket l)) × (length (toEitherPacket l) ≤ 2073)
 segment-packet-size l c = rw (on-link c .samePacket, ← lowered-packet l) (own-size (givenBack (sheetFields wireChanges) l) (lowered-good c))
 
 never-8 : {r : ℕ} → false ≡ true → r ≡ 8 → ⊥
@@ -58,8 +58,8 @@ fits : (bytes room : List ℕ) → length bytes ≤ length room → fitted bytes
 fits bytes room h e = let z : _≡_ {A = ℕ} 0 8 = rw (le-ltb (length room) (length bytes) h) at e in omega arith
 
 module _ (s room : List ℕ) (ok : Bytes s) where
-  -- a packet of another number than a journey's is never refused with 8 where the room has 5,608 bytes
-  pub largest-segment-sheet-room : (packetNumber s ≡ 4 → ⊥) → 5608 ≤ length room → packetToSheet s room .answer .refusal ≡ 8 → ⊥
+  -- a packet of another number than a journey's is never refused with 8 where the room has 5,728 bytes
+  pub largest-segment-sheet-room : (packetNumber s ≡ 4 → ⊥) → 5728 ≤ length room → packetToSheet s room .answer .refusal ≡ 8 → ⊥
   unfolding packetToSheet fromPacket fields
   largest-segment-sheet-room n h e = go (fromPacket wireChanges s) refl (sym (ap (λ (r : Read). converted toEitherSheet r room .answer .refusal) (segment-judged s n)) ∙ e)
     where
@@ -69,8 +69,8 @@ module _ (s room : List ℕ) (ok : Bytes s) where
           let g = packet-listed segmentNumber (fields-refusals wireChanges) s q place (packet-grounds segmentNumber (fields wireChanges) s q place .0 a) in
           never-8 (rw d at (among-member g)) d
 
-  -- nor is a sheet with another first number where the room has 2,001
-  pub largest-segment-packet-room : (numberIn s ≡ Value 4 → ⊥) → 2001 ≤ length room → sheetToPacket s room .answer .refusal ≡ 8 → ⊥
+  -- nor is a sheet with another first number where the room has 2,073
+  pub largest-segment-packet-room : (numberIn s ≡ Value 4 → ⊥) → 2073 ≤ length room → sheetToPacket s room .answer .refusal ≡ 8 → ⊥
   unfolding sheetToPacket fromEitherSheet fromSheet sheetFields fields
   largest-segment-packet-room n h e =
       go (fromSheet wireChanges s) refl

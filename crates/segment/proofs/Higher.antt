@@ -4,9 +4,9 @@ use mathlib.Core.Path.{_≡_, refl, sym, ap}
 use mathlib.Core.Bool.{true}
 use mathlib.Core.List.{List}
 use mathlib.Core.Option.{none, some}
-use Prim.Native.Nat.{ℕ, zero, suc, _+_, _/_, _≤_}
+use Prim.Native.Nat.{ℕ, zero, suc, _+_, _/_, _^_, _≤_, _<_}
 use native.Mathlib.Omega.{arith}
-use borrow.Author.Tests.{leb-true, le-leb}
+use borrow.Author.Tests.{leb-true, le-leb, lt-leb}
 use lib.Dec.{eqb, leb, ltb}
 use lib.ListN.{length}
 use Rattle.bits.specs.Bits.{Bytes}
@@ -18,7 +18,7 @@ use Rattle.format.specs.Media.{packet}
 use Rattle.format.proofs.Generic.{never}
 use Rattle.format.proofs.Media.{packet-lawful, sheet-lawful}
 use Rattle.format.proofs.Wider.{WiderKind, Wider, ends, goes, same-field, same-then, wider-written, wider-read, packet-widens, sheet-widens}
-use Rattle.segment.specs.Segment.{entries, profile, voltage, current, changes, part, lists, body, fields, sheetFields}
+use Rattle.segment.specs.Segment.{entries, profile, voltage, current, changes, part, lists, body, fields, sheetFields, wireChanges}
 use Rattle.segment.specs.Frame.{packetNumber, bodyBits, fieldBits, padding, firstOne, packetOfBits}
 use Rattle.segment.specs.Judgement.{segmentNumber, afterNumber, fromPacket, fromSheet, toPacket, toSheet}
 use Rattle.segment.proofs.Framing.{padded-accepted}
@@ -110,3 +110,13 @@ module _ {low high : ℕ} (h : low ≤ high) where
   pub same-sheet : (l : List Item) → toSheet low l ≡ toSheet high l
   unfolding toSheet
   same-sheet l = wider-written sheet-widens sheetFields-wider l
+
+-- ---- "4 no longer covers counts 24 to 31"
+
+-- "The iterators have five bits": no count of a packet is refused
+pub any-count : (n : ℕ) → n < 2 ^ 5 → nIter wireChanges .allowed n ≡ true
+any-count n h = rw (le-leb 0 n (omega arith), le-leb n wireChanges (omega arith))
+
+-- in a sheet every count above 31 is
+pub too-many : (n : ℕ) → 31 < n → nIter wireChanges .lower n ≡ none
+too-many n h = rw (le-leb 0 n (omega arith), lt-leb n wireChanges (omega arith))

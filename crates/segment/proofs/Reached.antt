@@ -248,6 +248,6 @@ module _ (limit : ℕ) (h : limit ≤ 31) where
 pub ends-23 : Ends 23 15884 2001 5608
 ends-23 = ends 23 (lit≤ tt)
 
--- at today's limit
-pub ends-now : Ends wireChanges 15884 2001 5608
+-- "The largest body becomes 16,460 bits, the packet 2,073 bytes, the sheet 5,728", at today's limit
+pub ends-now : Ends wireChanges 16460 2073 5728
 ends-now = ends wireChanges (lit≤ tt)

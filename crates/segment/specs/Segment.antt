@@ -56,6 +56,6 @@ unfoldable pub sheetFields : ℕ → Format
 unfolding fields
 sheetFields limit = then nidPacketAto (fields limit)
 
--- "N_ITER 5 (0 to 23)" of the voltage and the current changes
+-- "31 voltage and 31 current changes where 23 were allowed"
 abbrev pub wireChanges : ℕ
-wireChanges = 23
+wireChanges = 31

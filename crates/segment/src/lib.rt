@@ -8,4 +8,4 @@ pub enum Part {
 }
 
 // The most voltage changes, and the most current changes.
-pub const WIRE_CHANGES: u32 = 23;
+pub const WIRE_CHANGES: u32 = 31;

@@ -86,7 +86,7 @@ module _ (s : List ℕ) (l : List Item) (ok : Bytes s) (e : fromPacket wireChang
   unfolding toSheet
   listed = numbers-written (to-sheet (sheetFields-lawful wireChanges (lit≤ tt)) good)
 
-  short : length (toSheet wireChanges l) ≤ 5608
+  short : length (toSheet wireChanges l) ≤ 5728
   unfolding toSheet
   short = sheet-most wireChanges (lit≤ tt) (to-sheet (sheetFields-lawful wireChanges (lit≤ tt)) good)
 
@@ -96,7 +96,7 @@ pub record Made (s cells : List ℕ) (n : ℕ) : Type 0 where
   pub numbers : numbersIn (take n cells) ≡ sheetNumbers (valuesOf (fromPacket wireChanges s))
   pub few : changesOf (numbersIn (take n cells)) ≤ 31
 
-pub made : (s room cells : List ℕ) (answer : Converted) → Bytes s → PacketAccepted s → 5608 ≤ length room
+pub made : (s room cells : List ℕ) (answer : Converted) → Bytes s → PacketAccepted s → 5728 ≤ length room
     → record { answer = answer; room = cells } ≡ packetToSheet s room → Made s cells (answer .length)
 unfolding packetToSheet
 made s room cells answer ok e h o =

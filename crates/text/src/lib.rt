@@ -14,7 +14,7 @@ ghost use Rattle.text.specs.Writers.{PacketAccepted};
 pub const ROOM: usize = 2048;
 
 // The most bytes of a sheet.
-const SHEET: usize = 5608;
+const SHEET: usize = 5728;
 
 // Writes the line of a refusal and its place at the front of the room.
 fn put_refusal(refusal: u32, place: u32, room: &mut [u8]) -> usize

@@ -25,7 +25,7 @@ made-here : (c : tie.After-packet-to-sheet) → Made (now (c .before .before .be
 made-here c =
     let s = c .before .before .before .before in
     let ok = bytes-of (now (s .args .packet)) (λ i. c .before .before .before .shared-slice-known .given i .fits) in
-    made (now (s .args .packet)) _ (c .packet-to-sheet .last .1 .0) (c .packet-to-sheet .result) ok (s .pre .0) (omega (arith, length-replicate {A = ℕ} 5608 0)) (c .packet-to-sheet .ensures)
+    made (now (s .args .packet)) _ (c .packet-to-sheet .last .1 .0) (c .packet-to-sheet .result) ok (s .pre .0) (omega (arith, length-replicate {A = ℕ} 5728 0)) (c .packet-to-sheet .ensures)
 
 array-share-prefix-sheet : tie.Need-array-share-prefix-sheet
 array-share-prefix-sheet c = made-here (c .before .before) .inside
