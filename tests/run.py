@@ -1,5 +1,6 @@
 #!/usr/bin/env python3
-"""The tests beside the proofs: what rt does not look at. They read the sources and, after rt ci, its logs in target/."""
+"""The tests beside the proofs: what rt does not look at. 'sources' runs those that read the sources alone, 'logs' those that read what rt ci
+left in target/ too, no word all of them."""
 import pathlib
 import re
 import sys
@@ -86,6 +87,37 @@ def edits():
                 yield f"{crate}/{label.stem}: {errors[0][:200] if errors else 'no error'}"
 
 
+def replacements(label):
+    """Each replacement of a must-fail edit as rt reads it: the file, the old text, the new one."""
+    file = old = ""
+    for line in label.read_text().split("\n"):
+        if line.startswith("file: "):
+            file = line.removeprefix("file: ")
+        elif line.startswith("old: "):
+            old = line.removeprefix("old: ")
+        elif line.startswith("new:"):
+            yield file, old, line.removeprefix("new:").removeprefix(" ")
+            old = ""
+
+
+def appliable():
+    """Every must-fail edit names files of its crate, its old texts stand there exactly once, and the new ones are others."""
+    for label in sorted((ROOT / "crates").glob("*/must-fail/*.edit")):
+        name, made, texts = label.relative_to(ROOT), list(replacements(label)), {}
+        if not made:
+            yield f"{name} replaces nothing"
+        for file, old, new in made:
+            path = label.parent.parent / file
+            if file.split("/")[0] not in ("src", "specs", "proofs") or not path.is_file():
+                yield f"{name}: the crate has no file {file}"
+                continue
+            # a replacement is made in what those before it left
+            text = texts.get(file, path.read_text())
+            if text.count(old) != 1 or old == new:
+                yield f"{name}: '{old}' stands {text.count(old)} times in {file}, to be '{new}'"
+            texts[file] = text.replace(old, new)
+
+
 def promises():
     """Every theorem that the documents cite as `name` in a file of theirs stands there."""
     for page in sorted((ROOT / "docs").glob("**/*.md")):
@@ -128,9 +160,12 @@ def imports():
                         yield f"{path.relative_to(ROOT)} imports {name.strip()} and does not use it"
 
 
-def main():
+TESTS = {"sources": (contracts, headed, imports, appliable, listed, promises), "logs": (no_axioms, quick, edits)}
+
+
+def main(words):
     passed = failed = 0
-    for test in (contracts, headed, imports, no_axioms, quick, edits, listed, promises):
+    for test in [test for word in words or TESTS for test in TESTS[word]]:
         faults = list(test())
         print(f"{'FAILED' if faults else 'ok'}: {test.__doc__.splitlines()[0]}")
         for fault in faults:
@@ -141,4 +176,4 @@ def main():
 
 
 if __name__ == "__main__":
-    sys.exit(main())
+    sys.exit(main(sys.argv[1:]))
