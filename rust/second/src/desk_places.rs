@@ -88,9 +88,7 @@ fn a_field_of_a_segment_is_refused_at_its_first_bit() {
         ((253, 7), 121),    // V_STATIC
         ((271, 4), 6),      // M_VOLTAGE
         ((275, 10), 1),     // NID_CTRACTION at voltage 0
-        ((285, 5), 24),     // voltages
         ((290, 10), 1_001), // M_CURRENT
-        ((300, 5), 24),     // currents, the last field
     ];
     fields_refused(&sample(), Field, &fields);
 }
@@ -159,8 +157,9 @@ fn a_number_of_a_segment_is_refused_at_its_first_byte() {
         (16, 32, 18),
         (18, 600, 20),
         (19, 1, 21),
+        (20, 32, 22),
         (21, 10_011, 23),
-        (22, 24, 24),
+        (22, 32, 24),
     ];
     numbers_refused(&SHEET, Field, &numbers);
     for number in [0, 2, 5, 7, 260] {

@@ -17,6 +17,8 @@ mod desk_journeys;
 mod desk_kinds;
 #[cfg(test)]
 mod desk_places;
+#[cfg(test)]
+mod desk_wires;
 mod intake;
 mod journey;
 mod numbers;

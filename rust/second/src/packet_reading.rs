@@ -153,7 +153,7 @@ impl Fields {
     fn voltages(&mut self, end: u32) -> Result<Vec<VoltageChange>, Refused> {
         let mut location = 0;
         let mut voltages = vec![self.voltage(location)?];
-        for _ in 0..self.up_to(5, 23)? {
+        for _ in 0..self.any(5)? {
             location = self.location(location, end)?;
             voltages.push(self.voltage(location)?);
         }
@@ -169,7 +169,7 @@ impl Fields {
     fn currents(&mut self, end: u32) -> Result<Vec<CurrentChange>, Refused> {
         let mut location = 0;
         let mut currents = vec![self.current(location)?];
-        for _ in 0..self.up_to(5, 23)? {
+        for _ in 0..self.any(5)? {
             location = self.location(location, end)?;
             currents.push(self.current(location)?);
         }

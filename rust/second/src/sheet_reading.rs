@@ -73,9 +73,9 @@ fn segment(numbers: &mut Numbers) -> Result<Segment, Refused> {
     let eoa_offset = fitting(numbers, 24)?;
     let utc_offset = within(numbers, 0, 112)?;
     let altitude = fitting(numbers, 20)? as i32 - ALTITUDE_ADDED;
-    let elements = list(numbers, length, 31, element)?;
-    let voltages = list(numbers, length, 23, voltage)?;
-    let currents = list(numbers, length, 23, current)?;
+    let elements = list(numbers, length, element)?;
+    let voltages = list(numbers, length, voltage)?;
+    let currents = list(numbers, length, current)?;
     Ok(Segment { header, identity, length, eoa_offset, utc_offset, altitude, elements, voltages, currents })
 }
 
@@ -98,11 +98,11 @@ fn identity(numbers: &mut Numbers) -> Result<Identity, Refused> {
 /// Reads what stands at a location.
 type Item<T> = fn(&mut Numbers, u32) -> Result<T, Refused>;
 
-/// What stands at the start, then at most `most` changes whose locations rise and lie before the segment's end.
-fn list<T>(numbers: &mut Numbers, end: u32, most: u32, item: Item<T>) -> Result<Vec<T>, Refused> {
+/// What stands at the start, then at most 31 changes whose locations rise and lie before the segment's end.
+fn list<T>(numbers: &mut Numbers, end: u32, item: Item<T>) -> Result<Vec<T>, Refused> {
     let mut items = vec![item(numbers, 0)?];
     let mut free = 1..end;
-    for _ in 0..within(numbers, 0, most)? {
+    for _ in 0..within(numbers, 0, 31)? {
         let location = judged(numbers, |location| free.contains(&location), Refusal::Location)?;
         free.start = location + 1;
         items.push(item(numbers, location)?);
