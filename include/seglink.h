@@ -1,5 +1,6 @@
 // The eight operations of the segment link, for C11 and C++: link with libseglink.a, which `rt staticlib seglink` writes for x86-64.
 // Packets and sheets are a segment's (packet number 6) or a journey's (4): the conversions and the intake take both, the questions a segment's alone.
+// A segment has up to 31 changes of speed, 31 of voltage and 31 of current.
 //
 // Of a journey's temporary constraint, up to 31 a segment, Q_TC_Type 0 uses Q_FRONT and V_Speed_Level, 1 the adhesion, 2 and 3 neither;
 // Q_TC_Range 0 uses the start, 1 the end, 2 both, 3 neither. What is not used is 0; no type uses the current, 1,023 in the packet and 0 in
@@ -48,8 +49,8 @@ enum {
 // as too short, nor is one of a segment's largest for a segment.
 enum {
     SEGLINK_SMALLEST_PACKET = 39,
-    SEGLINK_LARGEST_PACKET = 2001,
-    SEGLINK_LARGEST_SHEET = 5608,
+    SEGLINK_LARGEST_PACKET = 2073,
+    SEGLINK_LARGEST_SHEET = 5728,
     SEGLINK_LARGEST_JOURNEY_PACKET = 8207,
     SEGLINK_LARGEST_JOURNEY_SHEET = 15226
 };
