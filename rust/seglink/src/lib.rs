@@ -3,6 +3,7 @@
 //!
 //! Packets and sheets are a segment's (packet number 6) or a journey's (4). The conversions and an [`Intake`] take both, the questions a
 //! segment's alone.
+//! A segment has up to 31 changes of speed, 31 of voltage and 31 of current.
 //! A segment of a journey has up to 31 temporary constraints. What one's type and range do not use is 0; its current, which none uses, is
 //! 1,023 in the packet. Speeds, those of constraints too, are lowered to multiples of 5 km/h on their way to the packet.
 //!
@@ -54,9 +55,9 @@ pub use train::Train;
 /// The count of bytes of a segment's smallest packet.
 pub const SMALLEST_PACKET: usize = 39;
 /// The count of bytes of a segment's largest packet: a room of this size holds any segment's.
-pub const LARGEST_PACKET: usize = 2001;
+pub const LARGEST_PACKET: usize = 2073;
 /// The count of bytes of a segment's largest sheet: a room of this size holds any segment's.
-pub const LARGEST_SHEET: usize = 5608;
+pub const LARGEST_SHEET: usize = 5728;
 /// The count of bytes of a journey's largest packet: a room of this size holds any packet.
 pub const LARGEST_JOURNEY_PACKET: usize = 8207;
 /// A count of bytes that no journey's sheet exceeds: a room of this size holds any sheet.

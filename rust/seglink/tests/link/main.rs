@@ -7,6 +7,7 @@ mod journeys;
 mod refusals;
 mod segments;
 mod speeds;
+mod wires;
 
 use seglink::{Refusal, Refused};
 

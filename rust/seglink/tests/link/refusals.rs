@@ -7,7 +7,7 @@ use std::error::Error;
 const TRAIN: Train = Train { length: 200, cant: 150, freight_p: false, freight_g: false, passenger: true };
 
 /// All three operations on a packet refuse it alike, and the room stays as it was.
-fn refuses_packet(given: &[u8], refusal: Refusal, place: u32) {
+pub fn refuses_packet(given: &[u8], refusal: Refusal, place: u32) {
     let mut room = [0xA5; 64];
     assert_eq!(told(packet_to_sheet(given, &mut room)), Err((refusal, place)));
     assert_eq!(room, [0xA5; 64]);
@@ -16,7 +16,7 @@ fn refuses_packet(given: &[u8], refusal: Refusal, place: u32) {
 }
 
 /// Both operations on a sheet refuse it alike, and the room stays as it was.
-fn refuses_sheet(given: &[u8], refusal: Refusal, place: u32) {
+pub fn refuses_sheet(given: &[u8], refusal: Refusal, place: u32) {
     let mut room = [0xA5; 64];
     assert_eq!(told(sheet_to_packet(given, &mut room)), Err((refusal, place)));
     assert_eq!(room, [0xA5; 64]);

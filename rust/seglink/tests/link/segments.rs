@@ -20,6 +20,8 @@ pub const DESK_SHEET: [u8; 25] =
 const CANT: [u32; 11] = [80, 100, 130, 150, 165, 180, 210, 225, 245, 275, 300];
 /// The fields of the sheet that stand in the packet's header, beside L_PACKET_ATO.
 const HEADER_FIELDS: usize = 6;
+/// Where the count of voltage changes stands in a segment without entries and changes of speed.
+const VOLTAGE_COUNT: usize = 20;
 
 pub fn same(width: usize, value: u32) -> Field {
     Field { width, value, number: value }
@@ -65,6 +67,21 @@ pub fn segment(l_sp: u32, altitude: u32, start: &[Field], changes: &[(u32, Vec<F
     fields
 }
 
+/// The desk segment with a length of 1,000 and so many changes of voltage and of current, each with figures of its own.
+pub fn wired(voltages: u32, currents: u32) -> Vec<Field> {
+    let mut fields = segment(1000, 0, &element(80, 0, &[]), &[]);
+    fields.truncate(VOLTAGE_COUNT);
+    fields.push(same(5, voltages));
+    for i in 1..=voltages {
+        fields.extend([same(24, i), Field { width: 4, value: 5, number: 750 }, same(10, i + 20)]);
+    }
+    fields.extend([NO_LIMIT, same(5, currents)]);
+    for i in 1..=currents {
+        fields.extend([same(24, i + 100), Field { width: 10, value: i * 30, number: i * 300 + 1 }]);
+    }
+    fields
+}
+
 /// Every list full, and every number in as many groups as its field allows.
 pub fn largest() -> Vec<Field> {
     let mut fields = vec![same(8, 6), same(32, u32::MAX), same(24, 16_777_215), same(15, 32_767), same(17, 86_399), same(8, 255)];
@@ -72,17 +89,17 @@ pub fn largest() -> Vec<Field> {
     fields.extend([same(24, 16_777_215), same(7, 112), same(20, 1_048_575)]);
     let volts = Field { width: 4, value: 1, number: 25_000 };
     let amperes = Field { width: 10, value: 1000, number: 10_001 };
-    fields.extend(full_list(&element(600, 1, &[(0, 10, 600); 31]), 31));
-    fields.extend(full_list(&[volts, same(10, 1023)], 23));
-    fields.extend(full_list(&[amperes], 23));
+    fields.extend(full_list(&element(600, 1, &[(0, 10, 600); 31])));
+    fields.extend(full_list(&[volts, same(10, 1023)]));
+    fields.extend(full_list(&[amperes]));
     fields
 }
 
-/// What holds from the start, a count, and that many changes which repeat it.
-fn full_list(start: &[Field], count: u32) -> Vec<Field> {
+/// What holds from the start, and 31 changes which repeat it.
+fn full_list(start: &[Field]) -> Vec<Field> {
     let mut fields = start.to_vec();
-    fields.push(same(5, count));
-    for i in 0..count {
+    fields.push(same(5, 31));
+    for i in 0..31 {
         fields.push(same(24, 2_097_152 + i));
         fields.extend(start);
     }
