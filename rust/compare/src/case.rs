@@ -19,6 +19,8 @@ pub struct Case {
     pub named: Vec<u32>,
     /// Where the fields of temporary constraints were put: a bit of the packet, a byte of the sheet.
     pub constrained: Vec<(u32, u32)>,
+    /// Where the counts of wire changes were put: a byte of the sheet.
+    pub counted: Vec<u32>,
 }
 
 impl Case {
@@ -35,11 +37,10 @@ impl Case {
     }
 
     pub fn of(name: &'static str, draft: &Draft, whole: bool) -> Case {
-        let marked = |kind| draft.places(kind).into_iter().map(|place| draft.fields[place].value);
-        let marks = marked(Kind::Length).chain(marked(Kind::Location)).chain([0]).collect();
-        let named = marked(Kind::Cant).collect();
-        let (packet, sheet, constrained) = (draft.packet(), draft.sheet(), draft.constraint_places());
-        Case { name, packet, sheet, whole: whole.then(|| draft.clone()), marks, named, constrained }
+        let marks = [draft.values(Kind::Length), draft.values(Kind::Location), vec![0]].concat();
+        let (packet, sheet, named) = (draft.packet(), draft.sheet(), draft.values(Kind::Cant));
+        let (constrained, counted) = (draft.constraint_places(), draft.wire_count_bytes());
+        Case { name, packet, sheet, whole: whole.then(|| draft.clone()), marks, named, constrained, counted }
     }
 }
 
@@ -87,8 +88,8 @@ fn with_a_count_past_its_limit(random: &mut Random) -> Case {
     let mut sizes = Sizes { entries: (0, 1), ..any_sizes(random) };
     let mut counts = None;
     match random.between(0, 6) {
-        0 => sizes.voltages = random.with_ends(24, 31),
-        1 => sizes.currents = random.with_ends(24, 31),
+        0 => sizes.voltages = random.with_ends(32, 40),
+        1 => sizes.currents = random.with_ends(32, 40),
         2 => sizes.changes = random.with_ends(32, 40),
         3 => sizes.entries = (32, 40),
         4 => counts = Some(vec![(random.with_ends(32, 40), 0)]),
@@ -131,7 +132,8 @@ fn noise(random: &mut Random) -> Case {
         sheet.iter_mut().for_each(|byte| *byte &= 0x7F);
         overwrite(&mut sheet, &[start[0], 0, 0, 0, 0, 0]);
     }
-    Case { name: "noise", packet, sheet, whole: None, marks: vec![0], named: Vec::new(), constrained: Vec::new() }
+    let (marks, named, constrained, counted) = (vec![0], Vec::new(), Vec::new(), Vec::new());
+    Case { name: "noise", packet, sheet, whole: None, marks, named, constrained, counted }
 }
 
 /// Writes bytes over the first ones, as far as there are any.

@@ -2,12 +2,14 @@
 
 use crate::archive::Archive;
 use crate::case::{any_kind, any_location, any_train, Case};
+use crate::draft::Kind;
 use crate::event::Event;
 use crate::lowered::lowered;
 use crate::program::{Answer, Operation, Program, Question, Train, JOURNEY, KIND_PACKET, KIND_SHEET, UNKNOWN_KIND};
 use crate::random::Random;
 use crate::rooms::Rooms;
 use crate::second_program::Second;
+use crate::segments::LARGEST;
 use crate::sequence;
 use crate::tally::Tally;
 use crate::wild;
@@ -17,6 +19,8 @@ const SPEEDS: usize = 3;
 /// A journey's, which hold a segment's too.
 pub const LARGEST_SHEET: usize = 15_226;
 pub const LARGEST_PACKET: usize = 8_207;
+/// As many changes of voltage, and as many of current, were allowed at first.
+const FORMER_WIRES: u32 = 23;
 
 /// Compares the operations on a case, every answer and every byte of the rooms; then the demands; then packets taken in deliveries.
 pub fn check(random: &mut Random, case: &Case, tally: &mut Tally) -> Result<(), String> {
@@ -29,6 +33,7 @@ pub fn check(random: &mut Random, case: &Case, tally: &mut Tally) -> Result<(), 
         let room = room_for(random, &question);
         let answer = compare(random, &question, room, tally)?;
         tally.count_constraints(operation, &case.constrained, &answer);
+        count_wires(operation, case, &answer, tally);
     }
     let packet = round_trips(case)?;
     for _ in 0..SPEEDS {
@@ -122,6 +127,27 @@ fn speeds(
         count_unknown(kind, &own, tally);
     }
     Ok(())
+}
+
+/// A conversion of a whole segment, by how many wire changes it has where it is accepted; and a sheet refused at a count of them.
+fn count_wires(operation: Operation, case: &Case, answer: &Answer, tally: &mut Tally) {
+    let [voltages, currents] = match operation {
+        Operation::PacketToSheet => [Event::PacketVoltages, Event::PacketCurrents],
+        Operation::SheetToPacket => [Event::SheetVoltages, Event::SheetCurrents],
+        _ => return,
+    };
+    let accepted = case.whole.as_ref().filter(|_| answer.refusal == 0);
+    if let Some([of_voltage, of_current]) = accepted.map(|draft| draft.values(Kind::WireCount)).as_deref() {
+        tally.count_events(&[
+            (voltages, *of_voltage > FORMER_WIRES),
+            (currents, *of_current > FORMER_WIRES),
+            (Event::FullWires, (*of_voltage, *of_current) == (LARGEST.voltages, LARGEST.currents)),
+        ]);
+    }
+    if let (Operation::SheetToPacket, [voltages, currents]) = (operation, &case.counted[..]) {
+        let past = |byte: &u32| *answer == Answer::refused(4, *byte);
+        tally.count_events(&[(Event::PastVoltages, past(voltages)), (Event::PastCurrents, past(currents))]);
+    }
 }
 
 /// A question of an unknown kind, by what the own kind of its bytes answers.

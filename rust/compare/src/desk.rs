@@ -4,6 +4,7 @@ use crate::desk_cants;
 use crate::desk_constraints;
 use crate::desk_journeys;
 use crate::desk_kinds;
+use crate::desk_wires;
 use crate::draft::{Draft, Kind};
 use crate::program::{Answer, Operation, Question, Train, KIND_PACKET, KIND_SHEET};
 
@@ -36,12 +37,14 @@ pub struct Plan {
     pub entries: &'static [(u32, u32, u32)],
     /// A change to 140 km/h.
     pub change: Option<u32>,
+    /// How many changes of voltage and of current there are, from the location 1 on.
     pub voltages: u32,
+    pub currents: u32,
     pub current: u32,
 }
 
 pub const DOCUMENT: Plan =
-    Plan { seconds: 0, length: 1, speed: 80, front: 0, entries: &[], change: None, voltages: 0, current: 0 };
+    Plan { seconds: 0, length: 1, speed: 80, front: 0, entries: &[], change: None, voltages: 0, currents: 0, current: 0 };
 pub const CHANGED: Plan = Plan { length: 1_000, speed: 100, change: Some(500), ..DOCUMENT };
 pub const TRAIN: Train = Train { length: 200, cant: 150, freight_p: true, freight_g: false, passenger: false };
 
@@ -69,7 +72,11 @@ pub fn draft(plan: Plan) -> Draft {
         draft.voltage(5, 1_023);
     }
     draft.current(plan.current);
-    draft.same(Kind::WireCount, 5, 0);
+    draft.same(Kind::WireCount, 5, plan.currents);
+    for location in 1..=plan.currents {
+        draft.same(Kind::Location, 24, location);
+        draft.current(location * 10 + 1);
+    }
     draft
 }
 
@@ -111,17 +118,18 @@ fn largest() -> Draft {
     draft.same(Kind::Plain, 24, highest(24));
     draft.same(Kind::UtcOffset, 7, 112);
     draft.same(Kind::Plain, 20, highest(20));
-    full_list(&mut draft, Kind::Count, 31, full_element);
-    full_list(&mut draft, Kind::WireCount, 23, |draft| draft.voltage(1, 1_023));
-    full_list(&mut draft, Kind::WireCount, 23, |draft| draft.current(10_010));
+    full_list(&mut draft, Kind::Count, full_element);
+    full_list(&mut draft, Kind::WireCount, |draft| draft.voltage(1, 1_023));
+    full_list(&mut draft, Kind::WireCount, |draft| draft.current(10_010));
     draft
 }
 
-fn full_list(draft: &mut Draft, kind: Kind, count: u32, item: fn(&mut Draft)) {
+/// What stands at the start, and 31 changes up to the segment's last centimetre.
+fn full_list(draft: &mut Draft, kind: Kind, item: fn(&mut Draft)) {
     item(draft);
-    draft.same(kind, 5, count);
-    for place in 1..=count {
-        draft.same(Kind::Location, 24, 16_777_214 - count + place);
+    draft.same(kind, 5, 31);
+    for location in 16_777_184..16_777_215 {
+        draft.same(Kind::Location, 24, location);
         item(draft);
     }
 }
@@ -142,6 +150,7 @@ pub fn cases() -> Vec<Desk> {
     conversions(&mut cases);
     refusals(&mut cases);
     limits(&mut cases);
+    desk_wires::limits(&mut cases);
     for draft in [draft(DOCUMENT), largest()] {
         rooms(&mut cases, &draft);
     }
@@ -211,8 +220,8 @@ fn conversions(cases: &mut Vec<Desk>) {
     }
     cases.push(sheet("0 A", draft(Plan { current: 1, ..DOCUMENT }).sheet(), Answer::success(39)));
     cases.push(packet("0 A", draft(Plan { current: 1, ..DOCUMENT }).packet(), Answer::success(25)));
-    cases.push(packet("the largest packet", largest().packet(), Answer::success(5_608)));
-    cases.push(sheet("the largest sheet", largest().sheet(), Answer::success(2_001)));
+    cases.push(packet("the largest packet", largest().packet(), Answer::success(5_728)));
+    cases.push(sheet("the largest sheet", largest().sheet(), Answer::success(2_073)));
 }
 
 /// The fields of the document's packet end with the bit 304, the last of them begins at 300; the numbers of its sheet end with the byte 24.
@@ -262,8 +271,6 @@ fn limits(cases: &mut Vec<Desk>) {
     // L_SP has two bytes in the sheet, so the first location begins a byte later
     refused(cases, "a location at L_SP", &draft(Plan { change: Some(1_000), ..CHANGED }), 5, (271, 21));
     refused(cases, "a location at 0", &draft(Plan { change: Some(0), ..CHANGED }), 5, (271, 21));
-    accepted(cases, "23 voltage changes", &draft(Plan { voltages: 23, length: 24, ..DOCUMENT }));
-    refused(cases, "24 voltage changes", &draft(Plan { voltages: 24, length: 25, ..DOCUMENT }), 4, (285, 22));
     refused(cases, "a length of 0", &draft(Plan { length: 0, ..DOCUMENT }), 4, (178, 12));
 }
 

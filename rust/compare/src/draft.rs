@@ -20,6 +20,7 @@ pub enum Kind {
     Location,
     Voltage,
     Traction,
+    /// Of changes of voltage, of current: 0 to 31, where 23 was the last at first.
     WireCount,
     Current,
     Status,
@@ -157,19 +158,38 @@ impl Draft {
         (0..self.fields.len()).filter(|place| self.fields[*place].kind == kind).collect()
     }
 
-    /// Of each field of a temporary constraint the first bit in the packet, where L_PACKET_ATO follows the first field, and its number's
-    /// first byte in the sheet.
-    pub fn constraint_places(&self) -> Vec<(u32, u32)> {
-        let (mut bit, mut sheet, mut places, mut left) = (0, Vec::new(), Vec::new(), 0);
+    /// The values of a kind's fields.
+    pub fn values(&self, kind: Kind) -> Vec<u32> {
+        self.places(kind).into_iter().map(|place| self.fields[place].value).collect()
+    }
+
+    /// Of each field its kind, its first bit in the packet, where L_PACKET_ATO follows the first field, and its number's first byte in the
+    /// sheet.
+    fn begins(&self) -> Vec<(Kind, u32, u32)> {
+        let (mut bit, mut sheet, mut begins) = (0, Vec::new(), Vec::new());
         for field in &self.fields {
-            left = if field.kind == Kind::ConstraintType { CONSTRAINT_FIELDS } else { left.saturating_sub(1) };
-            if left > 0 {
-                places.push((bit, sheet.len() as u32));
-            }
+            begins.push((field.kind, bit, sheet.len() as u32));
             bit += field.width + if bit == 0 { COUNTED_BITS } else { 0 };
             write_number(&mut sheet, field.number, field.zero_groups);
         }
+        begins
+    }
+
+    /// The bit and the byte of each field of a temporary constraint.
+    pub fn constraint_places(&self) -> Vec<(u32, u32)> {
+        let (mut places, mut left) = (Vec::new(), 0);
+        for (kind, bit, byte) in self.begins() {
+            left = if kind == Kind::ConstraintType { CONSTRAINT_FIELDS } else { left.saturating_sub(1) };
+            if left > 0 {
+                places.push((bit, byte));
+            }
+        }
         places
+    }
+
+    /// The bytes of the counts of wire changes, which are two in a segment and none in a journey.
+    pub fn wire_count_bytes(&self) -> Vec<u32> {
+        self.begins().into_iter().filter(|(kind, ..)| *kind == Kind::WireCount).map(|(_, _, byte)| byte).collect()
     }
 
     pub fn packet(&self) -> Vec<u8> {

@@ -1,5 +1,5 @@
-//! What can happen to an intake in the random sequences and states, and to a random speed question of an unknown kind: each is counted, and
-//! must happen.
+//! What can happen to an intake in the random sequences and states, to a random speed question of an unknown kind, and to random counts of
+//! wire changes: each is counted, and must happen.
 
 #[derive(Clone, Copy)]
 pub enum Event {
@@ -45,10 +45,17 @@ pub enum Event {
     UnknownSegment,
     UnknownTrain,
     UnknownLocation,
+    PacketVoltages,
+    PacketCurrents,
+    SheetVoltages,
+    SheetCurrents,
+    FullWires,
+    PastVoltages,
+    PastCurrents,
 }
 
 /// Each with its words, in the order of the type.
-pub const EVENTS: [(Event, &str); 42] = [
+pub const EVENTS: [(Event, &str); 49] = [
     (Event::InParts, "packets accepted in several deliveries"),
     (Event::ByteByByte, "packets accepted byte by byte"),
     (Event::NothingOnTheWay, "deliveries of no bytes before a completion"),
@@ -91,4 +98,11 @@ pub const EVENTS: [(Event, &str); 42] = [
     (Event::UnknownSegment, "speed questions of an unknown kind about a segment that is refused: 15"),
     (Event::UnknownTrain, "speed questions of an unknown kind with a train that is not allowed: 15"),
     (Event::UnknownLocation, "speed questions of an unknown kind at or past L_SP: 15"),
+    (Event::PacketVoltages, "packets accepted with more than 23 voltage changes"),
+    (Event::PacketCurrents, "packets accepted with more than 23 current changes"),
+    (Event::SheetVoltages, "sheets accepted with more than 23 voltage changes"),
+    (Event::SheetCurrents, "sheets accepted with more than 23 current changes"),
+    (Event::FullWires, "packets and sheets accepted with 31 of both"),
+    (Event::PastVoltages, "sheets refused with 4 at the count of voltage changes"),
+    (Event::PastCurrents, "sheets refused with 4 at the count of current changes"),
 ];

@@ -14,7 +14,7 @@ pub struct Sizes {
 }
 
 pub const SMALLEST: Sizes = Sizes { changes: 0, entries: (0, 0), voltages: 0, currents: 0 };
-pub const LARGEST: Sizes = Sizes { changes: 31, entries: (31, 31), voltages: 23, currents: 23 };
+pub const LARGEST: Sizes = Sizes { changes: 31, entries: (31, 31), voltages: 31, currents: 31 };
 
 /// The largest length of a segment in centimetres.
 const LONGEST: u32 = 16_777_215;

@@ -1,6 +1,6 @@
 //! How often each operation gave each refusal and each success, and at how many places, for journeys apart from all else; how many
 //! speeds came by a lower cant deficiency than the train's; what the conversions answered about journeys with temporary constraints; and
-//! what happened to intakes and to speed questions of an unknown kind.
+//! what happened to intakes, to speed questions of an unknown kind and to counts of wire changes.
 
 use crate::event::{Event, EVENTS};
 use crate::program::{Answer, Operation, Question, KIND_PACKET, KIND_SHEET, NO_REFUSAL, OPERATIONS, PLACED, UNKNOWN_KIND};
@@ -73,7 +73,7 @@ impl Tally {
 
     /// The answers that an operation can give and that were never met, or never at a place other than 0, each with its row; the speed
     /// questions of which no random one came by a lower cant deficiency; the conversions that never gave an answer about a constraint; what
-    /// never happened to an intake or to a question of an unknown kind.
+    /// never happened to an intake, to a question of an unknown kind or to a count of wire changes.
     pub fn missing(&self) -> Vec<String> {
         let mut missing = Vec::new();
         for (operation, journey) in rows() {
