@@ -6,7 +6,7 @@ use std::time::{Duration, Instant};
 
 /// NID_PACKET_ATO and L_PACKET_ATO, which the codec does not take.
 const BYTES_BEFORE: usize = 3;
-const LARGEST_PACKET: usize = 2_001;
+const LARGEST_PACKET: usize = 2_073;
 /// About as many bytes of packets are held as structures at a time: few enough to stay near the processor.
 const BATCH_BYTES: usize = 2_000;
 
