@@ -393,14 +393,14 @@ static void largest(struct fields *s)
         largest_element(s);
     }
     voltage(s, 1, 1023);
-    same(s, 5, 23);
-    for (uint32_t i = 0; i < 23; ++i) {
+    same(s, 5, 31);
+    for (uint32_t i = 0; i < 31; ++i) {
         same(s, 24, 2097152 + i);
         voltage(s, 1, 1023);
     }
     current(s, 10010);
-    same(s, 5, 23);
-    for (uint32_t i = 0; i < 23; ++i) {
+    same(s, 5, 31);
+    for (uint32_t i = 0; i < 31; ++i) {
         same(s, 24, 2097152 + i);
         current(s, 10010);
     }
@@ -422,8 +422,8 @@ static void mixed_element(struct fields *s, uint32_t entries, uint32_t seed)
     }
 }
 
-// Neighbouring fields differ, so that one written in another's place is seen.
-static void mixed(struct fields *s)
+// Neighbouring fields differ, so that one written in another's place is seen; so many changes of voltage and of current.
+static void mixed(struct fields *s, uint32_t voltages, uint32_t currents)
 {
     header(s, 6, 0x12F45678, 0xABCDEF, 12345, 54321, 200);
     identity(s, 345, 0x89ABCDEF, 17, 130);
@@ -435,16 +435,16 @@ static void mixed(struct fields *s)
         mixed_element(s, i * 31 % 8, i * 5);
     }
     voltage(s, 3, 99);
-    same(s, 5, 12);
-    for (uint32_t i = 0; i < 12; ++i) {
-        same(s, 24, 100 + i * 83333);
-        voltage(s, i % 6, i % 6 == 0 ? 0 : i * 85);
+    same(s, 5, voltages);
+    for (uint32_t i = 0; i < voltages; ++i) {
+        same(s, 24, 100 + i * (999999 / voltages));
+        voltage(s, i % 6, i % 6 == 0 ? 0 : i * 85 % 1024);
     }
     current(s, 4567);
-    same(s, 5, 11);
-    for (uint32_t i = 0; i < 11; ++i) {
-        same(s, 24, 7 + i * 99999);
-        current(s, i * 1001);
+    same(s, 5, currents);
+    for (uint32_t i = 0; i < currents; ++i) {
+        same(s, 24, 7 + i * (999999 / currents));
+        current(s, i * 1001 % 10011);
     }
 }
 
@@ -736,7 +736,6 @@ static const struct { const char *name; size_t field; uint32_t value, number, ra
     {"10,009 A", CURRENT, 1000, 10010, 10001, 0},
     {"10,010 A", CURRENT, 1001, 10011, 10011, 4},
     {"current 1,022", CURRENT, 1022, 10221, 10221, 4},
-    {"a count of changes, and no changes", CURRENTS, 24, 24, 24, 4},
 };
 
 static void single_fields(struct fields *s)
@@ -747,7 +746,7 @@ static void single_fields(struct fields *s)
     }
 }
 
-// The field at fault is the count, the first location or the second, which stands after what the change repeats.
+// The field at fault is the first location, the second, which stands after what the change repeats, or the last.
 static const struct { const char *name; int which; uint32_t l_sp, count, first, step, refusal; size_t field; } LISTS[] = {
     {"a speed change at L_SP - 1", SPEEDS, 1000, 1, 999, 1, 0, 0},
     {"a speed change at L_SP", SPEEDS, 1000, 1, 1000, 1, 5, SPEEDS + 1},
@@ -760,13 +759,28 @@ static const struct { const char *name; int which; uint32_t l_sp, count, first, 
     {"a voltage change at 0", VOLTAGES, 1000, 1, 0, 1, 5, VOLTAGES + 1},
     {"two voltage changes at one place", VOLTAGES, 1000, 2, 500, 0, 5, VOLTAGES + 4},
     {"23 voltage changes", VOLTAGES, 1000, 23, 1, 40, 0, 0},
-    {"24 voltage changes", VOLTAGES, 1000, 24, 1, 40, 4, VOLTAGES},
+    {"24 voltage changes", VOLTAGES, 1000, 24, 1, 40, 0, 0},
+    {"30 voltage changes", VOLTAGES, 1000, 30, 1, 33, 0, 0},
+    {"31 voltage changes from 1", VOLTAGES, 32, 31, 1, 1, 0, 0},
+    {"31 voltage changes, the last at L_SP", VOLTAGES, 31, 31, 1, 1, 5, VOLTAGES + 91},
     {"a current change at L_SP - 1", CURRENTS, 1000, 1, 999, 1, 0, 0},
     {"a current change at L_SP", CURRENTS, 1000, 1, 1000, 1, 5, CURRENTS + 1},
     {"a current change at 0", CURRENTS, 1000, 1, 0, 1, 5, CURRENTS + 1},
     {"two current changes at one place", CURRENTS, 1000, 2, 500, 0, 5, CURRENTS + 3},
     {"23 current changes", CURRENTS, 1000, 23, 1, 40, 0, 0},
-    {"24 current changes", CURRENTS, 1000, 24, 1, 40, 4, CURRENTS},
+    {"24 current changes", CURRENTS, 1000, 24, 1, 40, 0, 0},
+    {"30 current changes", CURRENTS, 1000, 30, 1, 33, 0, 0},
+    {"31 current changes from 1", CURRENTS, 32, 31, 1, 1, 0, 0},
+    {"31 current changes, the last at L_SP", CURRENTS, 31, 31, 1, 1, 5, CURRENTS + 61},
+};
+
+// Counts that five bits do not hold, so that a sheet alone has them: all the changes are there.
+static const struct { const char *name; int which; uint32_t count; } PAST[] = {
+    {"32 speed changes", SPEEDS, 32},
+    {"32 voltage changes", VOLTAGES, 32},
+    {"63 voltage changes", VOLTAGES, 63},
+    {"32 current changes", CURRENTS, 32},
+    {"63 current changes", CURRENTS, 63},
 };
 
 static void lists(struct fields *s)
@@ -774,6 +788,10 @@ static void lists(struct fields *s)
     for (size_t i = 0; i < sizeof LISTS / sizeof *LISTS; ++i) {
         list(s, LISTS[i].which, LISTS[i].l_sp, LISTS[i].count, LISTS[i].first, LISTS[i].step);
         both(LISTS[i].name, s, LISTS[i].refusal, LISTS[i].field);
+    }
+    for (size_t i = 0; i < sizeof PAST / sizeof *PAST; ++i) {
+        list(s, PAST[i].which, 1000, PAST[i].count, 1, 1);
+        sheet_with(PAST[i].name, s, (size_t)PAST[i].which, PAST[i].count, 4);
     }
 }
 
@@ -835,11 +853,13 @@ static const struct { const char *name; const struct bytes *whole; size_t length
     {"a speed change of what follows", DESK, 266, 5, 1, 5, 271},
     {"voltage 15", DESK, 271, 4, 15, 4, 271},
     {"the last bit of NID_CTRACTION", DESK, 284, 1, 1, 4, 275},
-    {"24 voltage changes in five bits", DESK, 285, 5, 24, 4, 285},
     {"23 voltage changes that are not there", DESK, 285, 5, 23, 6, 290},
+    {"24 voltage changes that are not there", DESK, 285, 5, 24, 6, 290},
+    {"31 voltage changes that are not there", DESK, 285, 5, 31, 6, 290},
     {"current 1,001 in its bits", DESK, 290, 10, 1001, 4, 290},
-    {"24 current changes in five bits", DESK, 300, 5, 24, 4, 300},
     {"a current change that is not there", DESK, 300, 5, 1, 6, 305},
+    {"24 current changes that are not there", DESK, 300, 5, 24, 6, 305},
+    {"31 current changes that are not there", DESK, 300, 5, 31, 6, 305},
     {"a journey with a digit B", JOURNEY, 40, 4, 11, 4, 24},
     {"Q_JP_Status 7", JOURNEY, 120, 3, 7, 4, 120},
     {"a journey of no segments, with one", JOURNEY, 123, 8, 0, 13, 131},
@@ -919,8 +939,14 @@ static const struct { const char *name; const struct bytes *whole; size_t kept; 
     {"two speed changes at 5", &desk_sheet, 12, BYTES("\x64\x00\x00\x00\x50\x00\x00\x02\x05\x50\x00\x00\x05"), 5, 24},
     {"600 V, and no more", &desk_sheet, 20, BYTES("\xD8\x04"), 4, 20},
     {"NID_CTRACTION at voltage 0, and no more", &desk_sheet, 21, BYTES("\x01"), 4, 21},
+    {"31 voltage changes, and no more", &desk_sheet, 22, BYTES("\x1F"), 9, 23},
+    {"32 voltage changes, and no more", &desk_sheet, 22, BYTES("\x20"), 4, 22},
+    {"4,294,967,295 voltage changes, and no more", &desk_sheet, 22, BYTES("\xFF\xFF\xFF\xFF\x0F"), 4, 22},
     {"10,010 A, and no more", &desk_sheet, 23, BYTES("\x9B\x4E"), 4, 23},
-    {"24 current changes, and no more", &desk_sheet, 24, BYTES("\x18"), 4, 24},
+    {"24 current changes, and no more", &desk_sheet, 24, BYTES("\x18"), 9, 25},
+    {"31 current changes, and no more", &desk_sheet, 24, BYTES("\x1F"), 9, 25},
+    {"32 current changes, and no more", &desk_sheet, 24, BYTES("\x20"), 4, 24},
+    {"4,294,967,295 current changes, and no more", &desk_sheet, 24, BYTES("\xFF\xFF\xFF\xFF\x0F"), 4, 24},
     {"a sheet without its last byte", &desk_sheet, 24, BYTES(""), 9, 24},
     {"a sheet with a byte more", &desk_sheet, 25, BYTES("\x00"), 9, 25},
     {"a sheet with part of a number more", &desk_sheet, 25, BYTES("\x80\x80"), 9, 25},
@@ -1503,16 +1529,34 @@ static void intakes(void)
     counted();
 }
 
+// The questions about the largest segment, whose lists are all full.
+static void largest_asked(const struct fields *s)
+{
+    static const char name[] = "the largest segment";
+    static const seglink_train train = {.length = 200, .cant = 300};
+    struct bytes packet = packet_of(s), sheet = sheet_of(s, false);
+    seglink_altitude altitude = seglink_altitude_of_packet(packet.byte, packet.length);
+    check(name, "the refusal of its altitude", altitude.refusal, 0);
+    check(name, "its altitude", (size_t)altitude.altitude, 948575);
+    kinds_asked(name, SEGLINK_KIND_PACKET, &packet, train, 16777214, (seglink_speed){0, 0, 600});
+    kinds_asked(name, SEGLINK_KIND_SHEET, &sheet, train, 16777214, (seglink_speed){0, 0, 604});
+}
+
 static int all_checks(struct fields *s)
 {
     smallest(s);
     sizes("the smallest segment", s, 185, 39, 23);
     both("the smallest segment", s, 0, 0);
     largest(s);
-    sizes("the largest segment", s, 15884, 2001, 5608);
+    sizes("the largest segment", s, 16460, 2073, 5728);
     both("the largest segment", s, 0, 0);
-    mixed(s);
+    largest_asked(s);
+    mixed(s, 12, 11);
     both("a mixed segment", s, 0, 0);
+    mixed(s, 31, 24);
+    both("a mixed segment of 31 voltage changes and 24 of current", s, 0, 0);
+    mixed(s, 24, 31);
+    both("a mixed segment of 24 voltage changes and 31 of current", s, 0, 0);
     desk_cases(s);
     altitudes(s);
     single_fields(s);

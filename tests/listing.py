@@ -59,7 +59,7 @@ def accepted():
     yield "altitude -1", packet(body(altitude=99999)), segment(0, 0, 1, -1) + line(0, 16, 0)
     starts = range(LAST - 31, LAST)
     yield "the longest listing", packet(body((1023, 2**32 - 1), LAST, 2**20 - 1, (120, 1, MOST), [(x, 120, 1, MOST) for x in starts],
-                                             [(x, 5, 1023) for x in range(1, 24)], [(x, 1000) for x in range(1, 24)])), (
+                                             [(x, 5, 1023) for x in range(1, 32)], [(x, 1000) for x in range(1, 32)])), (
         segment(1023, 2**32 - 1, LAST, 948575) + line(0, 120, 1) + "".join(line(x, 120, 1) for x in starts))
 
 
@@ -87,10 +87,12 @@ def refused():
         yield f"{size} bytes of packet number 6", b"\6" + b"\xff" * (size - 1), 3, 0
         yield f"{size} bytes of another", b"\xff" * size, 2, 0
     yield "8207 bytes, the most that pass rule 3", packet(body() + "0" * (65535 - len(body()))), 13, 305
-    # the largest body has 15,884 bits, after 120 of the header
+    yield "24 voltage changes that are not there", packet(body()[:165] + field(5, 24) + body()[170:]), 6, 290
+    yield "31 current changes that are not there", packet(body()[:180] + field(5, 31)), 6, 305
+    # the largest body has 16,460 bits, after 120 of the header
     largest = body((0, 0), LAST, 0, (120, 1, MOST), [(x, 120, 1, MOST) for x in range(1, 32)],
-                   [(x, 5, 1) for x in range(1, 24)], [(x, 1000) for x in range(1, 24)])
-    yield "the largest segment's last current", packet(largest[:-10] + field(10, 1001)), 4, 15994
+                   [(x, 5, 1) for x in range(1, 32)], [(x, 1000) for x in range(1, 32)])
+    yield "the largest segment's last current", packet(largest[:-10] + field(10, 1001)), 4, 16570
 
 
 def said(data):
