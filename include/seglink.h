@@ -116,7 +116,7 @@ seglink_intake seglink_intake_fresh(void);
 
 // Takes a delivery: writes it behind the packet's bytes so far, after a verdict at the room's start; the room's other bytes stay. One of no bytes
 // changes nothing, the state neither. One that would pass the room's end, or 4,294,967,295 bytes, and each after it until completion, writes nothing.
-// Nothing is judged: a delivery costs what a copy costs.
+// Nothing is judged: a delivery costs a call and a copy.
 seglink_intake seglink_intake_deliver(seglink_intake intake, const uint8_t *delivery, size_t delivery_len, uint8_t *room, size_t room_len);
 
 // Judges the bytes delivered since the last verdict as a packet, of a segment or a journey: 8, before all others, where they exceeded the room (or
