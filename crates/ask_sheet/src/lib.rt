@@ -2,13 +2,12 @@
 ghost use mathlib.Core.Path.{_≡_};
 ghost use Prim.Native.Nat.{_+_, _-_, _≤_, _<_};
 ghost use lib.ListN.{length, drop};
-ghost use Rattle.bits.specs.Bits.{Bytes};
 ghost use Rattle.segment.specs.Segment as segment;
 ghost use Rattle.segment.specs.Parts as parts;
 ghost use Rattle.segment.specs.Parts.{runs};
 ghost use Rattle.speed.specs.Speed.{afterEntries, speedIn};
 ghost use Rattle.elements.specs.Reading.{Readable, Passes, EntryRead, Opens, ElementRead, Ended, NextRead, ChangesRead, ProfileRead};
-ghost use Rattle.ask_sheet.specs.Asking.{AcceptedSheet, numbersOfSheet, NumberHere, NumberAt, numberEnd, shortEnd, Reads, HeadRead};
+ghost use Rattle.ask_sheet.specs.Asking.{AcceptedSheet, numbersOfSheet, NumberAt, shortEnd, Reads, HeadRead};
 use elements::Found;
 use elements::Lows;
 use elements::Next;
@@ -185,19 +184,7 @@ fn profile(s: &[u8], at: usize, train: Train, lsp: u32, x: u32) -> u32
     changes(s, count.next, count.value, train, lsp, x, first.open)
 }
 
-// The byte after a number of any groups: the last is the first byte below 128.
-fn number_end(s: &[u8], at: usize) -> usize
-    requires { ⌜ Bytes (now s) × NumberHere (now s) at ⌝ }
-    ensures { λ r. ⌜ r ≡ numberEnd (now (s .entry)) at ⌝ }
-{
-    let mut to = at;
-    while 128 <= wide(s[to]) {
-        to += 1;
-    }
-    to + 1
-}
-
-// The byte after the numbers of the fields from first up to end.
+// The byte after the numbers of the fields from first up to end: each ends at its first byte below 128. How many groups they have is guessed nowhere.
 fn run(s: &[u8], at: usize, first: u32, end: u32) -> usize
     requires { ⌜ (first ≤ end) × Readable (Reads (now s)) (runs first (end - first)) at ⌝ }
     ensures { λ r. ⌜ Passes (Reads (now (s .entry))) (runs first (end - first)) (drop (end - first)) at r ⌝ }
@@ -205,8 +192,8 @@ fn run(s: &[u8], at: usize, first: u32, end: u32) -> usize
     let mut to = at;
     let mut i = first;
     while i < end {
-        to = number_end(s, to);
-        i += 1;
+        i += 1 - wide(s[to]) / 128;
+        to += 1;
     }
     to
 }
