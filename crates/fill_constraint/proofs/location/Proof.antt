@@ -1,4 +1,5 @@
 -- `fill_constraint::location` meets its contract.
+use Prim.Native.Nat.{_<_}
 use lib.Dec.{lit<, lit≤}
 use Rattle.fill_element.proofs.Writing.{at-small}
 use Rattle.fill_constraint.proofs.Steps.{type-there, range-there, start-there, end-there, location-small, end-small, begun}
@@ -31,45 +32,24 @@ number-requires-4 c κs =
     let a = c .number3 .ensures in
     end-there h t g a
 
+-- the three numbers fit their widths
+small : (c : tie.After-number3) → (c .before .before .number .result .value < 4) × (c .before .number2 .result .value < 4) × (c .number3 .result .value < 16777216)
+small c = location-small (c .before .before .before .before .before .pre) (c .before .before .number .ensures) (c .before .number2 .ensures) (c .number3 .ensures)
+
 mul-bits : tie.Need-mul-bits
-mul-bits c =
-    let h = c .before .before .before .before .before .before .before .pre in
-    let t = c .before .before .before .before .number .ensures in
-    let g = c .before .before .before .number2 .ensures in
-    let a = c .before .before .number3 .ensures in
-    omega (arith, location-small h t g a)
+mul-bits c = omega (arith, small (c .before .before))
 
 mul-bits-2 : tie.Need-mul-bits-2
-mul-bits-2 c =
-    let h = c .before .before .before .before .before .before .before .before .pre in
-    let t = c .before .before .before .before .before .number .ensures in
-    let g = c .before .before .before .before .number2 .ensures in
-    let a = c .before .before .before .number3 .ensures in
-    omega (arith, location-small h t g a)
+mul-bits-2 c = omega (arith, small (c .before .before .before))
 
 add-bits : tie.Need-add-bits
-add-bits c =
-    let h = c .before .before .before .before .before .before .before .before .pre in
-    let t = c .before .before .before .before .before .number .ensures in
-    let g = c .before .before .before .before .number2 .ensures in
-    let a = c .before .before .before .number3 .ensures in
-    omega (arith, location-small h t g a)
+add-bits c = omega (arith, small (c .before .before .before))
 
 add-bits-2 : tie.Need-add-bits-2
-add-bits-2 c =
-    let h = c .before .before .before .before .before .before .before .before .before .pre in
-    let t = c .before .before .before .before .before .before .number .ensures in
-    let g = c .before .before .before .before .before .number2 .ensures in
-    let a = c .before .before .before .before .number3 .ensures in
-    omega (arith, location-small h t g a)
+add-bits-2 c = omega (arith, small (c .before .before .before .before))
 
 put-requires : tie.Need-put-requires
-put-requires c κs =
-    let h = c .before .before .before .before .before .before .before .before .before .before .pre in
-    let t = c .before .before .before .before .before .before .before .number .ensures in
-    let g = c .before .before .before .before .before .before .number2 .ensures in
-    let a = c .before .before .before .before .before .number3 .ensures in
-    (lit< tt, lit≤ tt, omega (arith, location-small h t g a))
+put-requires c κs = (lit< tt, lit≤ tt, omega (arith, small (c .before .before .before .before .before)))
 
 add-at : tie.Need-add-at
 add-at c = omega (arith, at-small (c .before .before .before .before .before .before .before .before .before .before .before .before .before .before .pre))

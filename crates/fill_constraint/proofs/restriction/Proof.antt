@@ -1,5 +1,6 @@
 -- `fill_constraint::restriction` meets its contract.
 use mathlib.Core.Path.{refl}
+use Prim.Native.Nat.{_<_}
 use lib.Dec.{lit<, lit≤}
 use Rattle.fill_element.proofs.Writing.{at-small}
 use Rattle.fill_constraint.proofs.Steps.{front-there, speed-there, adhesion-there, current-there, restriction-small, restriction-wrote}
@@ -35,68 +36,32 @@ number-requires-4 c κs =
 speed-steps-requires : tie.Need-speed-steps-requires
 speed-steps-requires c κs = search needs
 
+-- the three numbers fit their widths
+small : (c : tie.After-speed-steps) → (c .before .before .before .before .number .result .value < 2) × (c .speed-steps .result < 128) × (c .before .before .number3 .result .value < 8)
+small c =
+    let start = c .before .before .before .before .before .before .before in
+    restriction-small (start .args .of) (start .pre) (c .before .before .before .before .number .ensures) (c .before .before .before .number2 .ensures) (c .speed-steps .ensures) (c .before .before .number3 .ensures)
+
 mul-bits : tie.Need-mul-bits
-mul-bits c =
-    let h = c .before .before .before .before .before .before .before .before .pre in
-    let t = c .before .before .before .before .before .number .ensures in
-    let v = c .before .before .before .before .number2 .ensures in
-    let a = c .before .before .before .number3 .ensures in
-    let w = c .before .speed-steps .ensures in
-    omega (arith, restriction-small (c .before .before .before .before .before .before .before .before .args .of) h t v w a)
+mul-bits c = omega (arith, small (c .before))
 
 mul-bits-2 : tie.Need-mul-bits-2
-mul-bits-2 c =
-    let h = c .before .before .before .before .before .before .before .before .pre in
-    let t = c .before .before .before .before .before .number .ensures in
-    let v = c .before .before .before .before .number2 .ensures in
-    let a = c .before .before .before .number3 .ensures in
-    let w = c .before .speed-steps .ensures in
-    omega (arith, restriction-small (c .before .before .before .before .before .before .before .before .args .of) h t v w a)
+mul-bits-2 c = omega (arith, small (c .before))
 
 add-bits : tie.Need-add-bits
-add-bits c =
-    let h = c .before .before .before .before .before .before .before .before .pre in
-    let t = c .before .before .before .before .before .number .ensures in
-    let v = c .before .before .before .before .number2 .ensures in
-    let a = c .before .before .before .number3 .ensures in
-    let w = c .before .speed-steps .ensures in
-    omega (arith, restriction-small (c .before .before .before .before .before .before .before .before .args .of) h t v w a)
+add-bits c = omega (arith, small (c .before))
 
 mul-bits-3 : tie.Need-mul-bits-3
-mul-bits-3 c =
-    let h = c .before .before .before .before .before .before .before .before .before .pre in
-    let t = c .before .before .before .before .before .before .number .ensures in
-    let v = c .before .before .before .before .before .number2 .ensures in
-    let a = c .before .before .before .before .number3 .ensures in
-    let w = c .before .before .speed-steps .ensures in
-    omega (arith, restriction-small (c .before .before .before .before .before .before .before .before .before .args .of) h t v w a)
+mul-bits-3 c = omega (arith, small (c .before .before))
 
 add-bits-2 : tie.Need-add-bits-2
-add-bits-2 c =
-    let h = c .before .before .before .before .before .before .before .before .before .pre in
-    let t = c .before .before .before .before .before .before .number .ensures in
-    let v = c .before .before .before .before .before .number2 .ensures in
-    let a = c .before .before .before .before .number3 .ensures in
-    let w = c .before .before .speed-steps .ensures in
-    omega (arith, restriction-small (c .before .before .before .before .before .before .before .before .before .args .of) h t v w a)
+add-bits-2 c = omega (arith, small (c .before .before))
 
 add-bits-3 : tie.Need-add-bits-3
-add-bits-3 c =
-    let h = c .before .before .before .before .before .before .before .before .before .pre in
-    let t = c .before .before .before .before .before .before .number .ensures in
-    let v = c .before .before .before .before .before .number2 .ensures in
-    let a = c .before .before .before .before .number3 .ensures in
-    let w = c .before .before .speed-steps .ensures in
-    omega (arith, restriction-small (c .before .before .before .before .before .before .before .before .before .args .of) h t v w a)
+add-bits-3 c = omega (arith, small (c .before .before))
 
 put-requires : tie.Need-put-requires
-put-requires c κs =
-    let h = c .before .before .before .before .before .before .before .before .before .before .pre in
-    let t = c .before .before .before .before .before .before .before .number .ensures in
-    let v = c .before .before .before .before .before .before .number2 .ensures in
-    let a = c .before .before .before .before .before .number3 .ensures in
-    let w = c .before .before .before .speed-steps .ensures in
-    (lit< tt, lit≤ tt, omega (arith, restriction-small (c .before .before .before .before .before .before .before .before .before .before .args .of) h t v w a))
+put-requires c κs = (lit< tt, lit≤ tt, omega (arith, small (c .before .before .before)))
 
 add-t20 : tie.Need-add-t20
 add-t20 c = omega (arith, at-small (c .before .before .before .before .before .before .before .before .before .before .before .before .before .before .pre))
@@ -106,13 +71,11 @@ same-length c = search needs
 
 returns : tie.Need-returns
 returns c =
-    let h = c .before .before .before .before .before .before .before .before .before .before .before .before .before .before .pre in
-    let t = c .before .before .before .before .before .before .before .before .before .before .before .number .ensures in
-    let v = c .before .before .before .before .before .before .before .before .before .before .number2 .ensures in
-    let a = c .before .before .before .before .before .before .before .before .before .number3 .ensures in
-    let n = c .before .before .before .before .before .before .before .before .number4 .ensures in
-    let w = c .before .before .before .before .before .before .before .speed-steps .ensures in
-    restriction-wrote (c .before .before .before .before .before .before .before .before .before .before .before .before .before .before .args .of) h t v w a n (c .before .before .before .put .ensures)
+    let d = c .before .before .before .before .before .before .before in
+    let start = d .before .before .before .before .before .before .before in
+    let t = d .before .before .before .before .number .ensures in
+    let v = d .before .before .before .number2 .ensures in
+    restriction-wrote (start .args .of) (start .pre) t v (d .speed-steps .ensures) (d .before .before .number3 .ensures) (d .before .number4 .ensures) (c .before .before .before .put .ensures)
 
 pub restriction-spec : {M : Type 1} → statement M
 restriction-spec =

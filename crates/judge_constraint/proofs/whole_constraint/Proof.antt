@@ -1,5 +1,5 @@
 -- `judge_constraint::whole_constraint` meets its contract.
-use Prim.Native.Nat.{_+_}
+use Prim.Native.Nat.{_+_, _≤_}
 use denote.Ref.{now}
 use Rattle.judge_constraint.proofs.Places.{few, constraint-small, constraint-on}
 use native.Mathlib.Omega.{arith}
@@ -43,11 +43,15 @@ returns-2 c = search needs
 add-t10 : tie.Need-add-t10
 add-t10 c = search needs
 
+-- the bytes of both parts are few
+sum-small : (c : tie.Else2) → c .before .before .before .before .stretch-bytes .result + c .before .restriction-bytes .result ≤ 30
+sum-small c = let b = c .before .before .before .before .before .before .before .before in constraint-small (now (b .args .s)) (b .args .stop) (b .pre .0) (b .pre .1) (c .before .before .before .before .before .before .read-window .ensures) (c .before .before .before .before .before .read-window2 .ensures) (c .before .before .read-window3 .ensures) (c .before .before .before .before .stretch-bytes .ensures) (c .before .restriction-bytes .ensures)
+
 add-t11 : tie.Need-add-t11
-add-t11 c = let b = c .before .before .before .before .before .before .before .before in omega (arith, constraint-small (now (b .args .s)) (b .args .stop) (b .pre .0) (b .pre .1) (c .before .before .before .before .before .before .read-window .ensures) (c .before .before .before .before .before .read-window2 .ensures) (c .before .before .read-window3 .ensures) (c .before .before .before .before .stretch-bytes .ensures) (c .before .restriction-bytes .ensures))
+add-t11 c = omega (arith, sum-small c)
 
 add-t13 : tie.Need-add-t13
-add-t13 c = let b = c .before .before .before .before .before .before .before .before in omega (arith, constraint-small (now (b .args .s)) (b .args .stop) (b .pre .0) (b .pre .1) (c .before .before .before .before .before .before .read-window .ensures) (c .before .before .before .before .before .read-window2 .ensures) (c .before .before .read-window3 .ensures) (c .before .before .before .before .stretch-bytes .ensures) (c .before .restriction-bytes .ensures))
+add-t13 c = omega (arith, sum-small c)
 
 cast-t15 : tie.Need-cast-t15
 cast-t15 c = search needs

@@ -1,6 +1,6 @@
 -- `judge_point::whole_point` meets its contract.
 use native.Mathlib.Omega.{arith}
-use Prim.Native.Nat.{_+_}
+use Prim.Native.Nat.{_+_, _≤_}
 use denote.Ref.{now}
 use Rattle.judge_point.proofs.Places.{few, small, point-on}
 use borrow.Author.Needs.{needs}
@@ -67,14 +67,18 @@ groups-requires c κs = search needs
 add-t13 : tie.Need-add-t13
 add-t13 c = search needs
 
+-- the bytes of the four parts are few
+sum-small : (c : tie.After-groups) → c .groups .result + c .before .before .before .before .before .before .before .before .before .before .latest-bytes .result + c .before .before .before .before .before .before .before .marks-bytes .result + c .before .before .before .eight-bytes .result ≤ 80
+sum-small c = let b = c .before .before .before .before .before .before .before .before .before .before .before .before .before in small (now (b .args .s)) (b .args .stop) (b .pre .0) (b .pre .1) (c .before .before .before .before .before .before .before .before .before .before .before .read-window .ensures) (c .before .before .before .before .before .before .before .before .read-window2 .ensures) (c .before .before .before .before .before .read-window3 .ensures) (c .before .before .before .before .read-window4 .ensures) (rw (c .before .read-window5 .ensures) at (c .groups .ensures)) (c .before .before .before .before .before .before .before .before .before .before .latest-bytes .ensures) (c .before .before .before .before .before .before .before .marks-bytes .ensures) (c .before .before .before .eight-bytes .ensures)
+
 add-t15 : tie.Need-add-t15
-add-t15 c = let b = c .before .before .before .before .before .before .before .before .before .before .before .before .before in omega (arith, small (now (b .args .s)) (b .args .stop) (b .pre .0) (b .pre .1) (c .before .before .before .before .before .before .before .before .before .before .before .read-window .ensures) (c .before .before .before .before .before .before .before .before .read-window2 .ensures) (c .before .before .before .before .before .read-window3 .ensures) (c .before .before .before .before .read-window4 .ensures) (rw (c .before .read-window5 .ensures) at (c .groups .ensures)) (c .before .before .before .before .before .before .before .before .before .before .latest-bytes .ensures) (c .before .before .before .before .before .before .before .marks-bytes .ensures) (c .before .before .before .eight-bytes .ensures))
+add-t15 c = omega (arith, sum-small c)
 
 add-t12 : tie.Need-add-t12
-add-t12 c = let b = c .before .before .before .before .before .before .before .before .before .before .before .before .before in omega (arith, small (now (b .args .s)) (b .args .stop) (b .pre .0) (b .pre .1) (c .before .before .before .before .before .before .before .before .before .before .before .read-window .ensures) (c .before .before .before .before .before .before .before .before .read-window2 .ensures) (c .before .before .before .before .before .read-window3 .ensures) (c .before .before .before .before .read-window4 .ensures) (rw (c .before .read-window5 .ensures) at (c .groups .ensures)) (c .before .before .before .before .before .before .before .before .before .before .latest-bytes .ensures) (c .before .before .before .before .before .before .before .marks-bytes .ensures) (c .before .before .before .eight-bytes .ensures))
+add-t12 c = omega (arith, sum-small c)
 
 add-t16 : tie.Need-add-t16
-add-t16 c = let b = c .before .before .before .before .before .before .before .before .before .before .before .before .before in omega (arith, small (now (b .args .s)) (b .args .stop) (b .pre .0) (b .pre .1) (c .before .before .before .before .before .before .before .before .before .before .before .read-window .ensures) (c .before .before .before .before .before .before .before .before .read-window2 .ensures) (c .before .before .before .before .before .read-window3 .ensures) (c .before .before .before .before .read-window4 .ensures) (rw (c .before .read-window5 .ensures) at (c .groups .ensures)) (c .before .before .before .before .before .before .before .before .before .before .latest-bytes .ensures) (c .before .before .before .before .before .before .before .marks-bytes .ensures) (c .before .before .before .eight-bytes .ensures))
+add-t16 c = omega (arith, sum-small c)
 
 cast-t17 : tie.Need-cast-t17
 cast-t17 c = search needs
