@@ -46,9 +46,9 @@ fn arrival(sheet: &[u8], room: &mut [u8], p: Spot) -> Spot
 {
     let widths = journey::arrival_widths();
     let most = journey::arrival_most();
-    let name = piece(sheet, room, p, &widths[0..1], &most[0..1], NidTp::WIDTH);
-    let latest = piece(sheet, room, name, &widths[1..3], &most[1..3], LATEST);
-    piece(sheet, room, latest, &widths[3..5], &most[3..5], WINDOW)
+    let name = piece(sheet, room, p, &widths, &most, 0, 1, NidTp::WIDTH);
+    let latest = piece(sheet, room, name, &widths, &most, 1, 3, LATEST);
+    piece(sheet, room, latest, &widths, &most, 3, 5, WINDOW)
 }
 
 // Q_TP_Information to Q_Automatic_Closing, by the kind of the stop.
@@ -58,9 +58,9 @@ fn stopping(sheet: &[u8], room: &mut [u8], p: Spot, stop: u32) -> Spot
 {
     let widths = journey::stopping_widths();
     let most = journey::stopping_most(stop);
-    let doors = piece(sheet, room, p, &widths[0..6], &most[0..6], DOORS);
-    let departure = piece(sheet, room, doors, &widths[6..8], &most[6..8], DEPARTURE);
-    piece(sheet, room, departure, &widths[8..10], &most[8..10], DWELL)
+    let doors = piece(sheet, room, p, &widths, &most, 0, 6, DOORS);
+    let departure = piece(sheet, room, doors, &widths, &most, 6, 8, DEPARTURE);
+    piece(sheet, room, departure, &widths, &most, 8, 10, DWELL)
 }
 
 // A timing point.

@@ -8,7 +8,7 @@ use native.Mathlib.Numerals.{add-one}
 use native.Mathlib.Omega.{arith}
 use borrow.Author.Tests.{leb-true, ltb-true}
 use lib.Dec.{leb, ltb}
-use lib.ListN.{length, take, drop, getD, drop-of-length-le}
+use lib.ListN.{length, drop, getD, drop-of-length-le}
 use lib.Seq.{drop-cons}
 use Rattle.bits.proofs.Tests.{and-left, and-right}
 use Rattle.kinds.specs.Kind.{upTo}
@@ -61,10 +61,6 @@ row-none [] ms (suc i) h e f = refl
 row-none (w ∷ ws) ms zero h e f = absurd (omega arith)
 row-none (w ∷ ws) [] (suc i) h e f = absurd (omega arith)
 row-none (w ∷ ws) (m ∷ ms) (suc i) h e f = row-none ws ms i (omega arith) (omega arith) f
-
--- n fields of a row, from the field i on
-abbrev pub cut : List ℕ → List ℕ → ℕ → ℕ → Format → Format
-cut ws ms i n f = row (take n (drop i ws)) (take n (drop i ms)) f
 
 pub bits-more : (ws : List ℕ) (i : ℕ) → i < length ws → rowBits (drop i ws) ≡ getD ws i 0 + rowBits (drop (i + 1) ws)
 bits-more ws i h = rw (add-one i, drop-cons ws i 0 h)

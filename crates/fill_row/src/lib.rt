@@ -1,12 +1,9 @@
 // Fields of an accepted sheet whose numbers are their values, put into a packet: one alone, and those of a row in one piece.
-ghost use mathlib.Core.Path.{_≡_};
-ghost use mathlib.Core.Bool.{true};
 ghost use Prim.Native.Nat.{_^_, _≤_, _<_};
 ghost use Rattle.kinds.specs.Kind.{upTo};
-ghost use Rattle.rows.specs.Rows.{row, fits};
 ghost use Rattle.fill_element.specs.Writing.{Ready, Wrote};
 ghost use Rattle.fill_row.specs.Alone.{Offers, Gives};
-ghost use Rattle.fill_row.specs.Pieces.{rowBits};
+ghost use Rattle.fill_row.specs.Pieces.{between, Puttable};
 use fill_element::Spot;
 
 // A field's value, and the place after it.
@@ -32,24 +29,27 @@ pub fn number(sheet: &[u8], room: &mut [u8], p: Spot, width: u32, most: u32) -> 
     }
 }
 
-// The fields of a row of at most 32 bits, put at once. Their largest values are for the contract alone.
+// The fields of a row from one on to before another, at most 32 bits, put at once. Their largest values are for the contract alone.
 pub fn piece(
     sheet: &[u8],
     room: &mut [u8],
     p: Spot,
     widths: &[u32],
     most: &[u32],
+    first: usize,
+    end: usize,
     total: u32,
 ) -> Spot
-    requires { ⌜ Ready (row (now widths) (now most)) (now sheet) (now room) p × (fits (now widths) (now most) ≡ true) × (rowBits (now widths) ≡ total) × (1 ≤ total) × (total ≤ 32) ⌝ }
-    ensures { λ r. ⌜ Wrote (row (now (widths .entry)) (now (most .entry))) (now (sheet .entry)) (now (room .entry)) p (now (room .exit)) r ⌝ }
+    requires { ⌜ Ready (between (now widths) (now most) first end) (now sheet) (now room) p × Puttable (now widths) (now most) first end total ⌝ }
+    ensures { λ r. ⌜ Wrote (between (now (widths .entry)) (now (most .entry)) first end) (now (sheet .entry)) (now (room .entry)) p (now (room .exit)) r ⌝ }
 {
+    let part = &widths[first..end];
     let mut from = p.from;
     let mut bits: u64 = 0;
     let mut i: usize = 0;
-    while i < widths.len() {
+    while i < part.len() {
         let a = accepted::number(sheet, from);
-        bits = (bits << widths[i]) + a.value as u64;
+        bits = (bits << part[i]) + a.value as u64;
         from = a.next;
         i += 1;
     }

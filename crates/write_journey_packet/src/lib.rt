@@ -55,16 +55,9 @@ fn names(sheet: &[u8], room: &mut [u8], p: Spot) -> Spot
 {
     let widths = journey::segment_widths();
     let most = journey::segment_most();
-    let country = piece(sheet, room, p, &widths[0..1], &most[0..1], NidC::WIDTH);
-    let name = piece(
-        sheet,
-        room,
-        country,
-        &widths[1..2],
-        &most[1..2],
-        NidSp::WIDTH,
-    );
-    piece(sheet, room, name, &widths[2..5], &most[2..5], VERSION)
+    let country = piece(sheet, room, p, &widths, &most, 0, 1, NidC::WIDTH);
+    let name = piece(sheet, room, country, &widths, &most, 1, 2, NidSp::WIDTH);
+    piece(sheet, room, name, &widths, &most, 2, 5, VERSION)
 }
 
 // A segment: its names, its timing points, and its temporary constraints, each list after its count.
