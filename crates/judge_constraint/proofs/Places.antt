@@ -2,13 +2,12 @@
 -- Assumes nothing.
 use mathlib.Core.Path.{_≡_, refl, _∙_}
 use mathlib.Core.List.{List}
-use Prim.Native.Nat.{ℕ, _+_, _*_, _-_, _/_, _%_, _^_, _≤_, _<_}
-use native.Mathlib.Nat.{le-refl}
+use Prim.Native.Nat.{ℕ, _+_, _*_, _-_, _/_, _%_, _≤_}
 use native.Mathlib.Omega.{arith}
 use lib.Dec.{lit≤}
 use lib.ListN.{length}
 use Rattle.bits.specs.Bits.{fieldAt}
-use Rattle.bits.proofs.Fields.{field-small}
+use Rattle.bits.proofs.Fields.{window-small}
 use Rattle.bits.proofs.Windows.{read-window, field-front, field-back}
 use Rattle.kinds.specs.Kinds.{noCurrent}
 use Rattle.format.proofs.Ways.{over-on, value-on}
@@ -24,10 +23,6 @@ use Rattle.constraint_bytes.specs.Bytes.{bytesIn, both, stretchBytes, restricti
 use Rattle.constraint_bytes.proofs.Both.{some-both}
 use Rattle.constraint_bytes.proofs.Values.{stretch-most, restriction-most, one-in}
 use Rattle.judge_constraint.proofs.Parts.{afterType, afterRange, afterStart}
-
--- a value of w bits
-pub few : (s : List ℕ) (at w : ℕ) {v : ℕ} → v ≡ fieldAt s at w → v < 2 ^ w
-few s at w e = rw e (field-small s at w w (le-refl w))
 
 -- bytes counted one after the other
 two-counted : (n x y : ℕ) {a : ℕ} → a ≡ x + y → n + x + y ≡ n + a
@@ -102,7 +97,7 @@ module _ (s : List ℕ) (stop : ℕ) where
     start = rw et (field-back s at 4 24 window)
 
     type-took : Took qTcType s stop at n (Next.Is (t / 67108864) (at + 2) (n + 1))
-    type-took = took-some s stop qTcType 2 refl h (lit≤ tt) (omega arith) type (one-in 2 3 (t / 67108864) (omega (arith, few s at 28 et)) (omega (arith, few s at 28 et))) (λ z. omega arith)
+    type-took = took-some s stop qTcType 2 refl h (lit≤ tt) (omega arith) type (one-in 2 3 (t / 67108864) (omega (arith, window-small s at 28 et)) (omega (arith, window-small s at 28 et))) (λ z. omega arith)
 
     range-took : Took qTcRange s stop (at + 2) (n + 1) (Next.Is (t / 16777216 % 4) (at + 4) (n + 2))
     range-took =

@@ -7,6 +7,7 @@ use native.Mathlib.Omega.{arith}
 use lib.Dec.{lit≤}
 use lib.ListN.{length}
 use Rattle.bits.specs.Bits.{fieldAt}
+use Rattle.bits.proofs.Fields.{window-small}
 use Rattle.bits.proofs.Windows.{read-window, field-front, field-back}
 use Rattle.numbers.specs.Numbers.{groupsIn}
 use Rattle.numbers.proofs.Counting.{count-five}
@@ -23,7 +24,6 @@ use Rattle.judge_field.proofs.Steps.{took-some}
 use Rattle.judge_row.specs.Values.{fieldsAt, rowBytes}
 use Rattle.judge_row.proofs.Whole.{bytes-some}
 use Rattle.point_bytes.proofs.Held.{all-bytes}
-use Rattle.judge_point.proofs.Places.{few}
 use Rattle.judge_journey.specs.Head.{segmentHead}
 
 module _ (s : List ℕ) (stop : ℕ) {at n : ℕ} (h : Standing s stop at n) (room : 64 ≤ stop - at) {t : ℕ} (et : t ≡ fieldAt s (at + 42) 22)
@@ -47,9 +47,9 @@ module _ (s : List ℕ) (stop : ℕ) {at n : ℕ} (h : Standing s stop at n) (ro
   head-bytes : a + b + c + d + 1 ≡ rowBytes segmentMost (fieldsAt s at segmentWidths)
   head-bytes =
       let direction : ℕ = fieldAt s (at + 10 + 32 + 8 + 8) 1 in
-      let l = few s (at + 10 + 32 + 8 + 8) 1 {v = direction} refl in
+      let l = window-small s (at + 10 + 32 + 8 + 8) 1 {v = direction} refl in
       all-bytes segmentMost (fieldsAt s at segmentWidths)
-      (omega (arith, few s at 10 {v = fieldAt s at 10} refl), (omega (arith, few s (at + 10) 32 {v = fieldAt s (at + 10) 32} refl), (omega (arith, few s (at + 10 + 32) 8 {v = fieldAt s (at + 10 + 32) 8} refl), (omega (arith, few s (at + 10 + 32 + 8) 8 {v = fieldAt s (at + 10 + 32 + 8) 8} refl), (omega (arith, l), tt)))))
+      (omega (arith, window-small s at 10 {v = fieldAt s at 10} refl), (omega (arith, window-small s (at + 10) 32 {v = fieldAt s (at + 10) 32} refl), (omega (arith, window-small s (at + 10 + 32) 8 {v = fieldAt s (at + 10 + 32) 8} refl), (omega (arith, window-small s (at + 10 + 32 + 8) 8 {v = fieldAt s (at + 10 + 32 + 8) 8} refl), (omega (arith, l), tt)))))
       (rw (← major, ← minor) (omega (arith, ea, eb, ec, ed, counts.one-byte direction (omega (arith, l)))))
 
   head-over : Over (row segmentWidths segmentMost) s stop at n (On (at + 59) (n + (a + b + c + d + 1)))

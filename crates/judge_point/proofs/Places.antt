@@ -3,7 +3,7 @@
 use mathlib.Core.Path.{_≡_, refl, sym, ap, _∙_}
 use mathlib.Core.Bool.{true}
 use mathlib.Core.List.{List, [], _∷_, _++_}
-use Prim.Native.Nat.{ℕ, _+_, _*_, _-_, _/_, _%_, _^_, _≤_, _<_}
+use Prim.Native.Nat.{ℕ, _+_, _*_, _-_, _/_, _%_, _≤_}
 use native.Mathlib.Nat.{le-refl}
 use native.Mathlib.Omega.{arith}
 use borrow.Author.Tests.{le-leb}
@@ -11,7 +11,7 @@ use lib.Dec.{lit≤, eqb}
 use lib.ListN.{length}
 use Rattle.bits.specs.Bits.{fieldAt}
 use Rattle.bits.proofs.Tests.{by-cases}
-use Rattle.bits.proofs.Fields.{field-small}
+use Rattle.bits.proofs.Fields.{window-small}
 use Rattle.bits.proofs.Windows.{read-window}
 use Rattle.numbers.specs.Numbers.{groupsIn}
 use Rattle.numbers.proofs.Counting.{count-some, count-five}
@@ -43,10 +43,6 @@ afterDoor kind = mostAt kind 1 ∷ mostAt kind 1 ∷ mostAt kind 1 ∷ mostAt ki
 -- the point's fields in the rows that are read at once
 abbrev pointRows : ℕ → Format → Format
 pointRows kind f = row (32 ∷ []) (4294967295 ∷ []) (row latestWidths latestMost (row marksWidths marksMost (row eightWidths (eightMost kind) f)))
-
--- a value of w bits
-pub few : (s : List ℕ) (at w : ℕ) {v : ℕ} → v ≡ fieldAt s at w → v < 2 ^ w
-few s at w e = rw e (field-small s at w w (le-refl w))
 
 -- no value has more than five bytes
 groups-small : (vs : List ℕ) → groupsAll vs ≤ 5 * length vs
@@ -83,7 +79,7 @@ module _ (s : List ℕ) (stop : ℕ) {at n : ℕ} (h : Standing s stop at n) (ro
     -- ---- the values of each row
 
     name-bytes : a ≡ rowBytes (4294967295 ∷ []) (fieldsAt s at (32 ∷ []))
-    name-bytes = rw (le-leb (fieldAt s at 32) 4294967295 (omega (arith, few s at 32 {v = fieldAt s at 32} refl))) (omega (arith, ea))
+    name-bytes = rw (le-leb (fieldAt s at 32) 4294967295 (omega (arith, window-small s at 32 {v = fieldAt s at 32} refl))) (omega (arith, ea))
 
     latest-bytes : b ≡ rowBytes latestMost (fieldsAt s (at + 32) latestWidths)
     latest-bytes =

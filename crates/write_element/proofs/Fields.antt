@@ -3,13 +3,12 @@
 use mathlib.Core.Path.{_≡_, refl}
 use mathlib.Core.List.{List}
 use Prim.Native.Nat.{ℕ, _+_, _*_, _-_, _/_, _%_, _^_, _≤_, _<_}
-use native.Mathlib.Nat.{le-refl}
 use native.Mathlib.Omega.{arith}
 use lib.Dec.{lit<, lit≤}
 use lib.ListN.{length}
 use Rattle.bits.specs.Bits.{fieldAt}
 use Rattle.bits.proofs.Windows.{cut-high, cut-field, cut-low}
-use Rattle.bits.proofs.Fields.{field-small}
+use Rattle.bits.proofs.Fields.{window-small}
 use Rattle.numbers.specs.Groups.{Put}
 use Rattle.kinds.specs.Kind.{Kind}
 use Rattle.format.specs.Format.{Format, field, then}
@@ -87,7 +86,7 @@ module _ (s : List ℕ) (stop : ℕ) (k : Kind) (l : ℕ → Kind) (m : Kind) (p
 
       pub three-puts : Three s stop k l m part a b d at p t
       three-puts = record {
-        small = rw e (field-small s at (a + (b + d)) (a + (b + d)) (le-refl _));
+        small = window-small s at (a + (b + d)) e;
         first = field-here s stop k second a ka h _ front;
         second = λ x. field-here s stop (l (t / 2 ^ (b + d))) third b (lb _) (along-here s stop (one x) h) _ between;
         third = λ x y. field-here s stop m part d md (along-here s stop (two x y) h) _ back;

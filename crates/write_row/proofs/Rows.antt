@@ -3,11 +3,9 @@
 use mathlib.Core.Path.{_≡_, refl, sym, ap, _∙_}
 use mathlib.Core.List.{List, [], _∷_, _++_}
 use Prim.Native.Nat.{ℕ, _+_, _*_, _/_, _%_, _^_, _≤_, _<_}
-use native.Mathlib.Nat.{le-refl}
 use native.Mathlib.Omega.{arith}
 use lib.ListN.{length}
 use Rattle.bits.specs.Bits.{fieldAt}
-use Rattle.bits.proofs.Fields.{field-small}
 use Rattle.bits.proofs.Windows.{cut-high, cut-field, cut-low}
 use Rattle.numbers.specs.Numbers.{groupsIn}
 use Rattle.numbers.specs.Groups.{Put}
@@ -153,9 +151,6 @@ module _ (s : List ℕ) (at : ℕ) (ws : List ℕ) (p : Put) (h : Row s at ws p)
 pub single : (v : ℕ) → v < 128 → groupsIn v ≡ v ∷ []
 unfolding groupsIn
 single v h = last-group 4 v h
-
-pub window-small : (s : List ℕ) (at w : ℕ) {t : ℕ} → t ≡ fieldAt s at w → t < 2 ^ w
-window-small s at w e = rw e (field-small s at w w (le-refl _))
 
 -- ---- a field alone
 

@@ -1,7 +1,8 @@
 -- `judge_constraint::whole_constraint` meets its contract.
 use Prim.Native.Nat.{_+_, _≤_}
 use denote.Ref.{now}
-use Rattle.judge_constraint.proofs.Places.{few, constraint-small, constraint-on}
+use Rattle.bits.proofs.Fields.{window-small}
+use Rattle.judge_constraint.proofs.Places.{constraint-small, constraint-on}
 use native.Mathlib.Omega.{arith}
 use borrow.Author.Needs.{needs}
 use Rattle.judge_constraint.proofs.whole_constraint.Statement.{statement}
@@ -17,7 +18,7 @@ read-window-requires-2 : tie.Need-read-window-requires-2
 read-window-requires-2 c κs = search needs
 
 stretch-bytes-requires : tie.Need-stretch-bytes-requires
-stretch-bytes-requires c κs = let a = c .before .before .before .args in (omega arith, few (now (a .s)) (a .at + 28) 24 (c .read-window2 .ensures))
+stretch-bytes-requires c κs = let a = c .before .before .before .args in (omega arith, window-small (now (a .s)) (a .at + 28) 24 (c .read-window2 .ensures))
 
 cut-constraint-requires : tie.Need-cut-constraint-requires
 cut-constraint-requires c κs = search needs
@@ -32,7 +33,7 @@ read-window-requires-3 : tie.Need-read-window-requires-3
 read-window-requires-3 c κs = search needs
 
 restriction-bytes-requires : tie.Need-restriction-bytes-requires
-restriction-bytes-requires c κs = let a = c .before .before .before .before .before .before .args in few (now (a .s)) (a .at + 52) 21 (c .read-window3 .ensures)
+restriction-bytes-requires c κs = let a = c .before .before .before .before .before .before .args in window-small (now (a .s)) (a .at + 52) 21 (c .read-window3 .ensures)
 
 cut-constraint-requires-2 : tie.Need-cut-constraint-requires-2
 cut-constraint-requires-2 c κs = search needs

@@ -2,7 +2,7 @@
 use native.Mathlib.Omega.{arith}
 use Prim.Native.Nat.{_+_}
 use denote.Ref.{now}
-use Rattle.judge_point.proofs.Places.{few}
+use Rattle.bits.proofs.Fields.{window-small}
 use Rattle.judge_journey.proofs.Places.{small, head-on}
 use borrow.Author.Needs.{needs}
 use Rattle.judge_journey.proofs.whole_head.Statement.{statement}
@@ -12,7 +12,7 @@ read-window-requires : tie.Need-read-window-requires
 read-window-requires c κs = search needs
 
 short-requires : tie.Need-short-requires
-short-requires c κs = let a = c .before .before .args in omega (arith, few (now (a .s)) (a .at) 10 (c .read-window .ensures))
+short-requires c κs = let a = c .before .before .args in omega (arith, window-small (now (a .s)) (a .at) 10 (c .read-window .ensures))
 
 add-read-window : tie.Need-add-read-window
 add-read-window c = search needs
@@ -30,7 +30,7 @@ read-window-requires-3 : tie.Need-read-window-requires-3
 read-window-requires-3 c κs = search needs
 
 short-requires-2 : tie.Need-short-requires-2
-short-requires-2 c κs = let a = c .before .before .before .before .before .before .args in omega (arith, few (now (a .s)) (a .at + 42) 22 (c .read-window3 .ensures))
+short-requires-2 c κs = let a = c .before .before .before .before .before .before .args in omega (arith, window-small (now (a .s)) (a .at + 42) 22 (c .read-window3 .ensures))
 
 short-requires-3 : tie.Need-short-requires-3
 short-requires-3 c κs = search needs

@@ -2,7 +2,8 @@
 use native.Mathlib.Omega.{arith}
 use Prim.Native.Nat.{_+_, _≤_}
 use denote.Ref.{now}
-use Rattle.judge_point.proofs.Places.{few, small, point-on}
+use Rattle.bits.proofs.Fields.{window-small}
+use Rattle.judge_point.proofs.Places.{small, point-on}
 use borrow.Author.Needs.{needs}
 use Rattle.judge_point.proofs.whole_point.Statement.{statement}
 use Rattle.judge_point.proofs.whole_point.Tie as tie
@@ -29,7 +30,7 @@ read-window-requires-2 : tie.Need-read-window-requires-2
 read-window-requires-2 c κs = search needs
 
 marks-bytes-requires : tie.Need-marks-bytes-requires
-marks-bytes-requires c κs = let a = c .before .before .before .before .before .args in few (now (a .s)) (a .at + 64) 17 (c .read-window2 .ensures)
+marks-bytes-requires c κs = let a = c .before .before .before .before .before .args in window-small (now (a .s)) (a .at + 64) 17 (c .read-window2 .ensures)
 
 cut-point-requires-2 : tie.Need-cut-point-requires-2
 cut-point-requires-2 c κs = search needs
@@ -50,7 +51,7 @@ read-window-requires-4 : tie.Need-read-window-requires-4
 read-window-requires-4 c κs = search needs
 
 eight-bytes-requires : tie.Need-eight-bytes-requires
-eight-bytes-requires c κs = let a = c .before .before .before .before .before .before .before .before .before .args in (few (now (a .s)) (a .at + 81) 20 (c .before .read-window3 .ensures), few (now (a .s)) (a .at + 101) 28 (c .read-window4 .ensures))
+eight-bytes-requires c κs = let a = c .before .before .before .before .before .before .before .before .before .args in (window-small (now (a .s)) (a .at + 81) 20 (c .before .read-window3 .ensures), window-small (now (a .s)) (a .at + 101) 28 (c .read-window4 .ensures))
 
 cut-point-requires-3 : tie.Need-cut-point-requires-3
 cut-point-requires-3 c κs = search needs

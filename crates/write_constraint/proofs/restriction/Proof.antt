@@ -1,6 +1,7 @@
 -- `write_constraint::restriction` meets its contract.
 use lib.Dec.{lit<}
-use Rattle.write_row.proofs.Rows.{all-more, all-one, more-fit, one-fits, window-small}
+use Rattle.bits.proofs.Fields.{window-small}
+use Rattle.write_row.proofs.Rows.{all-more, all-one, more-fit, one-fits}
 use Rattle.write_constraint.proofs.Constraints.{restriction-fits, restriction-put}
 use native.Mathlib.Omega.{arith}
 use borrow.Author.Needs.{needs}

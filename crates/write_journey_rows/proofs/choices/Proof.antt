@@ -1,5 +1,6 @@
 -- `write_journey_rows::choices` meets its contract.
-use Rattle.write_row.proofs.Rows.{all-both, all-more, fit-after, fit-first, more-fit, one-fits, window-copied, window-fits, window-small}
+use Rattle.bits.proofs.Fields.{window-small}
+use Rattle.write_row.proofs.Rows.{all-both, all-more, fit-after, fit-first, more-fit, one-fits, window-copied, window-fits}
 use Rattle.write_journey_rows.specs.Widths.{choiceWidths}
 use native.Mathlib.Omega.{arith}
 use borrow.Author.Needs.{needs}

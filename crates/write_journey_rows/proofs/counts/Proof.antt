@@ -1,5 +1,6 @@
 -- `write_journey_rows::counts` meets its contract.
-use Rattle.write_row.proofs.Rows.{cut-last, all-more, all-one, more-fit, one-fits, window-copied, window-fits, window-small}
+use Rattle.bits.proofs.Fields.{window-small}
+use Rattle.write_row.proofs.Rows.{cut-last, all-more, all-one, more-fit, one-fits, window-copied, window-fits}
 use Rattle.write_journey_rows.specs.Widths.{countWidths}
 use native.Mathlib.Omega.{arith}
 use borrow.Author.Needs.{needs}
