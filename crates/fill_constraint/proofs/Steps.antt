@@ -15,7 +15,8 @@ use Rattle.fields.proofs.Lawful.{narrow, upTo-lawful}
 use Rattle.lowering.specs.Lowered.{lowered}
 use Rattle.format.specs.Format.{Format, field, then}
 use Rattle.journey_kinds.specs.Kinds.{qTcType, qTcRange, dTcStartLocation, dTcEndLocation, qTcFront, vSpeedLevel, qLowAdhesionRate}
-use Rattle.journey.specs.Journey.{stretch, restriction, temporaryConstraint}
+use Rattle.journey.specs.Journey.{restriction, temporaryConstraint}
+use Rattle.journey.specs.Parts.{afterType, afterRange}
 use Rattle.journey.proofs.Tree.{end-width, level-width, start-lawful, end-lawful, front-lawful, level-lawful, adhesion-lawful}
 use Rattle.fill_element.specs.declared.Spot.{Spot}
 use Rattle.fill_element.specs.Writing.{Ready, Wrote}
@@ -32,9 +33,6 @@ more a h k part g {v = v} d {w} e l = rw (bits-join a w h v l) (rw e at (gone-fi
 -- ---- the type, the range and the locations
 
 module _ {s room : List ℕ} {p : Spot} (h : Ready temporaryConstraint s room p) where
-  abbrev afterType : ℕ → Format → Format
-  afterType type f = field qTcRange λ range. stretch range (restriction type f)
-
   pub type-there : There s (p .from)
   type-there = gone-there h refl qTcType afterType (gone-all (h .inside))
 
@@ -45,18 +43,15 @@ module _ {s room : List ℕ} {p : Spot} (h : Ready temporaryConstraint s room p)
     type-small : t .value < 4
     type-small = has-small type (upTo-lawful 2 3 (narrow tt) (lit< tt))
 
-    abbrev afterRange : ℕ → Format → Format
-    afterRange range f = stretch range (restriction (t .value) f)
-
     one : Gone s temporaryConstraint (afterType (t .value)) (p .from) (t .next) (bitsOf 2 (t .value))
     one = gone-field qTcType afterType (gone-all (h .inside)) type
 
     pub range-there : There s (t .next)
-    range-there = gone-there h refl qTcRange afterRange one
+    range-there = gone-there h refl qTcRange (afterRange (t .value)) one
 
     module _ {g : Taken} (dg : Reads s (t .next) g) where
       range : Has qTcRange s (t .next) (g .value) (g .next) (g .value)
-      range = has-same (gone-has h refl qTcRange afterRange one dg) (qTcRange .allowed (g .value)) refl
+      range = has-same (gone-has h refl qTcRange (afterRange (t .value)) one dg) (qTcRange .allowed (g .value)) refl
 
       range-small : g .value < 4
       range-small = has-small range (upTo-lawful 2 3 (narrow tt) (lit< tt))
@@ -64,8 +59,8 @@ module _ {s room : List ℕ} {p : Spot} (h : Ready temporaryConstraint s room p)
       abbrev afterStart : ℕ → Format → Format
       afterStart start f = then (dTcEndLocation (g .value) start) (restriction (t .value) f)
 
-      two : Gone s temporaryConstraint (afterRange (g .value)) (p .from) (g .next) (bitsOf 4 (t .value * 4 + g .value))
-      two = more 2 (t .value) qTcRange afterRange one range refl range-small
+      two : Gone s temporaryConstraint (afterRange (t .value) (g .value)) (p .from) (g .next) (bitsOf 4 (t .value * 4 + g .value))
+      two = more 2 (t .value) qTcRange (afterRange (t .value)) one range refl range-small
 
       pub start-there : There s (g .next)
       start-there = gone-there h refl (dTcStartLocation (g .value)) afterStart two

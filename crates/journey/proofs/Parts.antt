@@ -6,18 +6,18 @@ use Prim.Native.Nat.{ℕ}
 use lib.Dec.{eqb}
 use Rattle.bits.proofs.Tests.{by-cases}
 use Rattle.kinds.specs.Kinds.{nidOperational, nIter}
-use Rattle.format.specs.Format.{Format, field, then, times}
+use Rattle.format.specs.Format.{Format, field, then}
 use Rattle.segment.specs.Segment.{header}
 use Rattle.rows.specs.Rows.{row, fits}
 use Rattle.journey_kinds.specs.Kinds.{qStopSkipPasses}
-use Rattle.journey.specs.Journey.{timingPoint, temporaryConstraint, journeySegment}
-use Rattle.journey.specs.Parts.{headerWidths, headerMost, segmentWidths, segmentMost, arrivalWidths, arrivalMost, stoppingWidths, stoppingMost}
+use Rattle.journey.specs.Journey.{timingPoint, journeySegment}
+use Rattle.journey.specs.Parts.{headerWidths, headerMost, segmentWidths, segmentMost, arrivalWidths, arrivalMost, stoppingWidths, stoppingMost, segmentRest}
 
 pub header-rows : (f : Format) → header f ≡ then nidOperational (row headerWidths headerMost f)
 unfolding row
 header-rows f = refl
 
-pub segment-rows : (limit : ℕ) (f : Format) → journeySegment limit f ≡ row segmentWidths segmentMost (field (nIter 31) λ n. times timingPoint n (field (nIter limit) λ m. times temporaryConstraint m f))
+pub segment-rows : (limit : ℕ) (f : Format) → journeySegment limit f ≡ row segmentWidths segmentMost (field (nIter 31) λ n. segmentRest limit n f)
 unfolding row
 segment-rows limit f = refl
 

@@ -2,10 +2,11 @@
 -- Assumes nothing.
 use mathlib.Core.List.{List, [], _∷_}
 use Prim.Native.Nat.{ℕ}
+use Rattle.kinds.specs.Kinds.{nIter}
 use Rattle.format.specs.Format.{Format, field, then, times}
 use Rattle.segment.specs.Segment.{header}
-use Rattle.journey_kinds.specs.Kinds.{qJpStatus, nIterSp, mostAt}
-use Rattle.journey.specs.Journey.{journeySegment, constraints}
+use Rattle.journey_kinds.specs.Kinds.{qJpStatus, nIterSp, mostAt, qTcRange}
+use Rattle.journey.specs.Journey.{timingPoint, stretch, restriction, temporaryConstraint, journeySegment, constraints}
 
 -- NID_ENGINE to N_PACKET_COUNTER, after NID_OPERATIONAL
 abbrev pub headerWidths : List ℕ
@@ -35,6 +36,21 @@ stoppingWidths = 2 ∷ 1 ∷ 2 ∷ 1 ∷ 1 ∷ 1 ∷ 15 ∷ 17 ∷ 10 ∷ 1 ∷ 
 abbrev pub stoppingMost : ℕ → List ℕ
 stoppingMost stop =
     1 ∷ 1 ∷ mostAt stop 3 ∷ mostAt stop 1 ∷ mostAt stop 1 ∷ mostAt stop 1 ∷ mostAt stop 32767 ∷ mostAt stop 86399 ∷ mostAt stop 1023 ∷ mostAt stop 1 ∷ []
+
+-- a temporary constraint after its type, and after its range
+abbrev pub afterType : ℕ → Format → Format
+afterType type f = field qTcRange λ range. stretch range (restriction type f)
+
+abbrev pub afterRange : ℕ → ℕ → Format → Format
+afterRange type range f = stretch range (restriction type f)
+
+-- the count of a segment's temporary constraints, and the constraints
+abbrev pub constraintList : ℕ → Format → Format
+constraintList limit f = field (nIter limit) λ m. times temporaryConstraint m f
+
+-- a segment after the count of its timing points
+abbrev pub segmentRest : ℕ → ℕ → Format → Format
+segmentRest limit n f = times timingPoint n (constraintList limit f)
 
 -- the body's fields, and all fields after L_PACKET_ATO, with whatever follows
 abbrev pub journeyBodyPart : Format → Format

@@ -1,20 +1,13 @@
--- A temporary constraint in parts, and its kinds that depend on the range or the type: they have a width that a field can have.
+-- What follows a temporary constraint's start, and its kinds that depend on the range or the type: they have a width that a field can have.
 -- Assumes nothing.
 use Prim.Native.Nat.{ℕ}
 use lib.Dec.{lit≤}
-use Rattle.format.specs.Format.{Format, field, then}
-use Rattle.journey_kinds.specs.Kinds.{qTcRange, dTcEndLocation, vSpeedLevel}
-use Rattle.journey.specs.Journey.{stretch, restriction}
+use Rattle.format.specs.Format.{Format, then}
+use Rattle.journey_kinds.specs.Kinds.{dTcEndLocation, vSpeedLevel}
 use Rattle.journey.proofs.Tree.{by-range, by-type}
 use Rattle.judge_field.specs.Judging.{Wide}
 
--- what follows the type, the range and the start
-abbrev pub afterType : ℕ → Format → Format
-afterType type f = field qTcRange λ range. stretch range (restriction type f)
-
-abbrev pub afterRange : ℕ → ℕ → Format → Format
-afterRange type range f = stretch range (restriction type f)
-
+-- what follows the start
 abbrev pub afterStart : ℕ → ℕ → Format → Format
 afterStart range start f = then (dTcEndLocation range start) f
 

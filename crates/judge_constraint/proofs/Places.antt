@@ -14,6 +14,7 @@ use Rattle.format.proofs.Ways.{over-on, value-on}
 use Rattle.journey_kinds.specs.Kinds.{qTcType, qTcRange, dTcStartLocation, dTcEndLocation, qTcFront, vSpeedLevel, qLowAdhesionRate}
 use Rattle.journey.specs.Journey as journey
 use Rattle.journey.specs.Journey.{temporaryConstraint}
+use Rattle.journey.specs.Parts.{afterType, afterRange}
 use Rattle.journey.proofs.Tree.{end-width, level-width}
 use Rattle.judge_field.specs.declared.Step.the-variants.{On}
 use Rattle.judge_field.specs.declared.Next.the-variants as Next
@@ -22,7 +23,7 @@ use Rattle.judge_field.proofs.Steps.{took-some, past}
 use Rattle.constraint_bytes.specs.Bytes.{bytesIn, both, stretchBytes, restrictionBytes}
 use Rattle.constraint_bytes.proofs.Both.{some-both}
 use Rattle.constraint_bytes.proofs.Values.{stretch-most, restriction-most, one-in}
-use Rattle.judge_constraint.proofs.Parts.{afterType, afterRange, afterStart}
+use Rattle.judge_constraint.proofs.Parts.{afterStart}
 
 -- bytes counted one after the other
 two-counted : (n x y : ℕ) {a : ℕ} → a ≡ x + y → n + x + y ≡ n + a

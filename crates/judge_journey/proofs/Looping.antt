@@ -2,20 +2,16 @@
 -- Assumes nothing.
 use mathlib.Core.Path.{ap, _∙_}
 use Prim.Native.Nat.{ℕ}
-use Rattle.format.specs.Format.{Format, times}
+use Rattle.format.specs.Format.{Format}
 use Rattle.format.specs.Ways.{Way, Went, Over}
 use Rattle.segment.specs.Parts.{kindAt, runs, headerPart}
-use Rattle.journey.specs.Journey.{timingPoint, journeySegment, constraints}
-use Rattle.journey.specs.Parts.{journeyBodyPart, journeyPart}
+use Rattle.journey.specs.Journey.{journeySegment, constraints}
+use Rattle.journey.specs.Parts.{segmentRest, journeyBodyPart, journeyPart}
 use Rattle.journey.proofs.Parts.{segment-rows}
-use Rattle.judge_journey.specs.Head.{segmentHead, constraintList}
-
--- what follows a segment's head, by the count of the timing points
-abbrev pub segmentRest : ℕ → Format → Format
-segmentRest n f = times timingPoint n (constraintList f)
+use Rattle.judge_journey.specs.Head.{segmentHead}
 
 module _ {X B : Type 0} {w : Way X B} {at : ℕ} {x : X} where
-  pub segment-over : {r : Went X} → Over w (λ f. segmentHead (λ v. segmentRest v f)) at x r → Over w (journeySegment constraints) at x r
+  pub segment-over : {r : Went X} → Over w (λ f. segmentHead (λ v. segmentRest constraints v f)) at x r → Over w (journeySegment constraints) at x r
   segment-over o = record { goes = λ f. ap (λ (g : Format). w .run g at x) (segment-rows constraints f) ∙ o .goes f; stands = o .stands }
 
   -- the journey's header is the segment's

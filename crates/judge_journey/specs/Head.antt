@@ -1,16 +1,11 @@
--- The fields of a journey's segment before its timing points, and those after them. What the code below a promise is held to; no promise names it.
+-- The fields of a journey's segment before its timing points. What the code below a promise is held to; no promise names it.
 -- Assumes nothing.
 use Prim.Native.Nat.{ℕ}
 use Rattle.kinds.specs.Kinds.{nIter}
-use Rattle.format.specs.Format.{Format, field, times}
+use Rattle.format.specs.Format.{Format, field}
 use Rattle.rows.specs.Rows.{row}
-use Rattle.journey.specs.Journey.{temporaryConstraint, constraints}
 use Rattle.journey.specs.Parts.{segmentWidths, segmentMost}
 
 -- NID_C to Q_SP_DIR, and what depends on the count of the timing points
 abbrev pub segmentHead : (ℕ → Format) → Format
 segmentHead next = row segmentWidths segmentMost (field (nIter 31) next)
-
--- the count of the temporary constraints, and the constraints
-abbrev pub constraintList : Format → Format
-constraintList f = field (nIter constraints) λ m. times temporaryConstraint m f

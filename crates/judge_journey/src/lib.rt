@@ -2,9 +2,9 @@
 ghost use Prim.Native.Nat.{_-_, _≤_};
 ghost use Rattle.format.specs.Format.{times};
 ghost use Rattle.journey.specs.Journey.{journeySegment, constraints};
-ghost use Rattle.journey.specs.Parts.{journeyBodyPart, journeyPart};
+ghost use Rattle.journey.specs.Parts.{constraintList, journeyBodyPart, journeyPart};
 ghost use Rattle.judge_field.specs.Judging.{Standing, Over, Gave};
-ghost use Rattle.judge_journey.specs.Head.{segmentHead, constraintList};
+ghost use Rattle.judge_journey.specs.Head.{segmentHead};
 use journey_kinds::NIterSp;
 use journey_kinds::QJpStatus;
 use judge_field::Next;
@@ -59,7 +59,7 @@ fn segment_head(s: &[u8], stop: usize, at: usize, n: usize) -> Next
 // The count of the temporary constraints, and the constraints.
 fn constraint_list(s: &[u8], stop: usize, at: usize, n: usize) -> Step
     requires { ⌜ Standing (now s) stop at n ⌝ }
-    ensures { λ r. ⌜ Over constraintList (now (s .entry)) stop at n r ⌝ }
+    ensures { λ r. ⌜ Over (constraintList constraints) (now (s .entry)) stop at n r ⌝ }
 {
     match judge_field::count(s, stop, at, n, journey::CONSTRAINTS) {
         Next::Refused(r, place) => Step::Refused(r, place),

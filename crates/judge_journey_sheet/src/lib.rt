@@ -1,6 +1,5 @@
 // The sheet of a journey judged part by part, with the bits of its packet counted. Nothing is written.
-ghost use Rattle.kinds.specs.Kinds.{nIter};
-ghost use Rattle.format.specs.Format.{field, times};
+ghost use Rattle.format.specs.Format.{times};
 ghost use Rattle.rows.specs.Rows as rows;
 ghost use Rattle.journey.specs.Journey as journey;
 ghost use Rattle.journey.specs.Parts as parts;
@@ -20,7 +19,7 @@ use sheet_row::row;
 // The count of a segment's temporary constraints, and the constraints.
 fn constraints(s: &[u8], at: usize, n: u32) -> Step
     requires { ⌜ Standing (now s) at ⌝ }
-    ensures { λ r. ⌜ Over (λ f. field (nIter journey.constraints) λ m. times journey.temporaryConstraint m f) (now (s .entry)) at n r ⌝ }
+    ensures { λ r. ⌜ Over (parts.constraintList journey.constraints) (now (s .entry)) at n r ⌝ }
 {
     match ranged(s, at, n, NIter::WIDTH, 0, CONSTRAINTS, OUT_OF_RANGE) {
         Next::Refused(r, place) => Step::Refused(r, place),

@@ -7,7 +7,7 @@ use Rattle.format.specs.Format.{Format, field, times}
 use Rattle.rows.specs.Rows.{row}
 use Rattle.journey_kinds.specs.Kinds.{qJpStatus, nIterSp}
 use Rattle.journey.specs.Journey.{timingPoint, temporaryConstraint, journeySegment, constraints}
-use Rattle.journey.specs.Parts.{segmentWidths, segmentMost, journeyBodyPart}
+use Rattle.journey.specs.Parts.{segmentWidths, segmentMost, constraintList, segmentRest, journeyBodyPart}
 use Rattle.journey.proofs.Parts.{segment-rows}
 use Rattle.fill_element.specs.declared.Spot.{Spot}
 use Rattle.fill_element.specs.Writing.{Ready, Wrote}
@@ -21,11 +21,8 @@ use Rattle.fill_row.proofs.Alone.{along-offers, along-gives}
 abbrev names : Format → Format
 names f = row segmentWidths segmentMost f
 
-abbrev last : Format → Format
-last f = field (nIter constraints) λ n. times temporaryConstraint n f
-
 abbrev rest : Format → Format
-rest f = field (nIter 31) λ n. times timingPoint n (last f)
+rest f = field (nIter 31) λ n. segmentRest constraints n f
 
 module _ {s room : List ℕ} {p : Spot} (h : Ready (journeySegment constraints) s room p) where
   segment-all : Along (journeySegment constraints) (λ f. names (rest f)) s room p room p
@@ -36,18 +33,18 @@ module _ {s room : List ℕ} {p : Spot} (h : Ready (journeySegment constraints) 
 
   module _ {mid : List ℕ} {q : Spot} (a : Wrote names s room p mid q) where
     pub segment-count : Offers (nIter 31) s mid q
-    segment-count = along-offers (nIter 31) (λ n f. times timingPoint n (last f)) (along-on names rest segment-all a) h
+    segment-count = along-offers (nIter 31) (segmentRest constraints) (along-on names rest segment-all a) h
 
     module _ {end : List ℕ} {r : Given} (g : Gives (nIter 31) s mid q end r) where
-      after-count : Along (journeySegment constraints) (λ f. times timingPoint (r .value) (last f)) s room p end (r .next)
-      after-count = along-gives (nIter 31) (λ n f. times timingPoint n (last f)) (along-on names rest segment-all a) g
+      after-count : Along (journeySegment constraints) (segmentRest constraints (r .value)) s room p end (r .next)
+      after-count = along-gives (nIter 31) (segmentRest constraints) (along-on names rest segment-all a) g
 
       pub segment-points : Ready (times timingPoint (r .value)) s end (r .next)
-      segment-points = along-next (times timingPoint (r .value)) last after-count h
+      segment-points = along-next (times timingPoint (r .value)) (constraintList constraints) after-count h
 
       module _ {far : List ℕ} {t : Spot} (w : Wrote (times timingPoint (r .value)) s end (r .next) far t) where
-        after-points : Along (journeySegment constraints) last s room p far t
-        after-points = along-on (times timingPoint (r .value)) last after-count w
+        after-points : Along (journeySegment constraints) (constraintList constraints) s room p far t
+        after-points = along-on (times timingPoint (r .value)) (constraintList constraints) after-count w
 
         pub segment-last : Offers (nIter constraints) s far t
         segment-last = along-offers (nIter constraints) (times temporaryConstraint) after-points h

@@ -12,10 +12,10 @@ use Rattle.bits.proofs.Fields.{field-small}
 use Rattle.numbers.specs.Numbers.{groupsIn}
 use Rattle.numbers.specs.Groups.{Put}
 use Rattle.kinds.specs.Kinds.{nIter}
-use Rattle.format.specs.Format.{Format, field, times}
+use Rattle.format.specs.Format.{field, times}
 use Rattle.rows.specs.Rows.{row}
 use Rattle.journey.specs.Journey.{timingPoint, temporaryConstraint, journeySegment}
-use Rattle.journey.specs.Parts.{segmentWidths, segmentMost}
+use Rattle.journey.specs.Parts.{segmentWidths, segmentMost, constraintList, segmentRest}
 use Rattle.journey.proofs.Parts.{segment-rows, segment-fits}
 use Rattle.write_element.specs.Writing.{putting, PartWritable, Wrote}
 use Rattle.write_element.proofs.Writing.{Along, along-here, along-next, along-on, along-none, along-put, field-here, field-read}
@@ -24,33 +24,27 @@ use Rattle.write_row.proofs.Tree.{Rowing, rowing-none, rowing-as, rowing-row, r
 use Rattle.write_journey_rows.specs.Widths.{startWidths}
 
 module _ (s : List ℕ) (stop limit : ℕ) {at : ℕ} {p : Put} (h : PartWritable (journeySegment limit) s stop at p) where
-  abbrev constrained : Format → Format
-  constrained f = field (nIter limit) λ m. times temporaryConstraint m f
-
-  abbrev listed : ℕ → Format → Format
-  listed n f = times timingPoint n (constrained f)
-
-  start-rowing : (n : ℕ) → n ≡ fieldAt s (at + 59) 5 → Rowing s stop at p (journeySegment limit) (listed n) startWidths
+  start-rowing : (n : ℕ) → n ≡ fieldAt s (at + 59) 5 → Rowing s stop at p (journeySegment limit) (segmentRest limit n) startWidths
   start-rowing n e =
-      let start = rowing-as s stop at p (λ f. row segmentWidths segmentMost (field (nIter 31) λ n. listed n f)) (segment-rows limit) (rowing-none s stop at p h) in
-      let fields = rowing-row s stop at p [] h (λ f. field (nIter 31) λ n. listed n f) segmentWidths segmentMost segment-fits start in
-      rowing-field s stop at p segmentWidths h (nIter 31) listed 5 refl (λ v. refl) fields n e
+      let start = rowing-as s stop at p (λ f. row segmentWidths segmentMost (field (nIter 31) λ n. segmentRest limit n f)) (segment-rows limit) (rowing-none s stop at p h) in
+      let fields = rowing-row s stop at p [] h (λ f. field (nIter 31) λ n. segmentRest limit n f) segmentWidths segmentMost segment-fits start in
+      rowing-field s stop at p segmentWidths h (nIter 31) (segmentRest limit) 5 refl (λ v. refl) fields n e
 
   pub start-row : Row s at startWidths p
   start-row = rowing-here s stop at p (start-rowing _ refl)
 
   module _ {q : Put} (c : q ≡ copied s at startWidths p) {n : ℕ} (e : n ≡ fieldAt s (at + 59) 5) where
-    at-points : Along s stop (journeySegment limit) (listed n) at p (at + 64) q
+    at-points : Along s stop (journeySegment limit) (segmentRest limit n) at p (at + 64) q
     at-points = rw c (start-rowing n e .along)
 
     pub points-writable : PartWritable (times timingPoint n) s stop (at + 64) q
-    points-writable = along-next s stop (times timingPoint n) constrained at-points h
+    points-writable = along-next s stop (times timingPoint n) (constraintList limit) at-points h
 
     module _ {to : ℕ} {r : Put} (w : Wrote (times timingPoint n) s stop (at + 64) q to r) where
-      at-count : Along s stop (journeySegment limit) constrained at p to r
-      at-count = along-on s stop (times timingPoint n) constrained at-points w
+      at-count : Along s stop (journeySegment limit) (constraintList limit) at p to r
+      at-count = along-on s stop (times timingPoint n) (constraintList limit) at-points w
 
-      count-here : PartWritable constrained s stop to r
+      count-here : PartWritable (constraintList limit) s stop to r
       count-here = along-here s stop at-count h
 
       pub count-read : (0 < 5) × (5 ≤ 32) × (to + 5 ≤ 8 * length s) × (8 ≤ length s)

@@ -1,7 +1,7 @@
 -- `judge_constraint::cut_constraint` meets its contract.
 use lib.Dec.{lit≤}
 use Rattle.format.proofs.Ways.{over-on, over-off, value-on, value-off}
-use Rattle.judge_constraint.proofs.Parts.{afterType, afterRange}
+use Rattle.journey.specs.Parts.{afterType, afterRange}
 use borrow.Author.Needs.{needs}
 use Rattle.judge_constraint.proofs.cut_constraint.Statement.{statement}
 use Rattle.judge_constraint.proofs.cut_constraint.Tie as tie

@@ -1,6 +1,8 @@
 -- `judge_journey::segment` meets its contract.
 use Rattle.format.proofs.Ways.{over-on, over-off, part-on, part-off}
-use Rattle.judge_journey.proofs.Looping.{segmentRest, segment-over}
+use Rattle.journey.specs.Journey.{constraints}
+use Rattle.journey.specs.Parts.{segmentRest}
+use Rattle.judge_journey.proofs.Looping.{segment-over}
 use borrow.Author.Needs.{needs}
 use Rattle.judge_journey.proofs.segment.Statement.{statement}
 use Rattle.judge_journey.proofs.segment.Tie as tie
@@ -27,13 +29,13 @@ constraint-list-requires : tie.Need-constraint-list-requires
 constraint-list-requires c κs = (rw (c .before .at3 .given .1) at (c .before .before .before .points .ensures)) .stands
 
 returns : tie.Need-returns
-returns c = segment-over (part-off segmentRest (rw (c .before .r .given .1) at (c .before .before .before .segment-head .ensures)))
+returns c = segment-over (part-off (segmentRest constraints) (rw (c .before .r .given .1) at (c .before .before .before .segment-head .ensures)))
 
 returns-2 : tie.Need-returns-2
-returns-2 c = segment-over (part-on segmentRest (rw (c .before .before .before .before .before .count .given .1) at (c .before .before .before .before .before .before .before .segment-head .ensures)) (over-off (rw (c .before .r2 .given .1) at (c .before .before .before .points .ensures))))
+returns-2 c = segment-over (part-on (segmentRest constraints) (rw (c .before .before .before .before .before .count .given .1) at (c .before .before .before .before .before .before .before .segment-head .ensures)) (over-off (rw (c .before .r2 .given .1) at (c .before .before .before .points .ensures))))
 
 returns-3 : tie.Need-returns-3
-returns-3 c = segment-over (part-on segmentRest (rw (c .before .before .before .before .before .before .count .given .1) at (c .before .before .before .before .before .before .before .before .segment-head .ensures)) (over-on (rw (c .before .before .at3 .given .1) at (c .before .before .before .before .points .ensures)) (c .constraint-list .ensures)))
+returns-3 c = segment-over (part-on (segmentRest constraints) (rw (c .before .before .before .before .before .before .count .given .1) at (c .before .before .before .before .before .before .before .before .segment-head .ensures)) (over-on (rw (c .before .before .at3 .given .1) at (c .before .before .before .before .points .ensures)) (c .constraint-list .ensures)))
 
 pub segment-spec : {M : Type 1} → statement M
 segment-spec =

@@ -1,17 +1,11 @@
 -- `judge_journey_sheet::segment` meets its contract.
-use Prim.Native.Nat.{ℕ}
-use Rattle.kinds.specs.Kinds.{nIter}
-use Rattle.format.specs.Format.{Format, field, times}
 use Rattle.format.proofs.Ways.{over-on, over-off, value-on, value-off}
 use Rattle.rows.specs.Rows.{row}
-use Rattle.journey.specs.Journey.{timingPoint, temporaryConstraint, constraints}
+use Rattle.journey.specs.Journey.{constraints}
+use Rattle.journey.specs.Parts.{segmentRest}
 use borrow.Author.Needs.{needs}
 use Rattle.judge_journey_sheet.proofs.segment.Statement.{statement}
 use Rattle.judge_journey_sheet.proofs.segment.Tie as tie
-
--- a segment from its timing points on
-abbrev from-points : ℕ → Format → Format
-from-points count f = times timingPoint count (field (nIter constraints) λ m. times temporaryConstraint m f)
 
 segment-row-requires : tie.Need-segment-row-requires
 segment-row-requires c κs = search needs
@@ -49,18 +43,18 @@ returns c = over-off (rw (c .before .r .given .1) at (c .before .before .before 
 
 returns-2 : tie.Need-returns-2
 unfolding row
-returns-2 c = over-on (rw (c .before .before .before .before .before .at2 .given .1) at (c .before .before .before .before .before .before .before .segment-row .ensures)) (value-off from-points (rw (c .before .r2 .given .1) at (c .before .before .before .ranged .ensures)))
+returns-2 c = over-on (rw (c .before .before .before .before .before .at2 .given .1) at (c .before .before .before .before .before .before .before .segment-row .ensures)) (value-off (segmentRest constraints) (rw (c .before .r2 .given .1) at (c .before .before .before .ranged .ensures)))
 
 returns-3 : tie.Need-returns-3
 unfolding row
 returns-3 c = over-on (rw (c .before .before .before .before .before .before .before .before .before .at2 .given .1) at (c .before .before .before .before .before .before .before .before .before .before .before .segment-row .ensures))
-    (value-on from-points (rw (c .before .before .before .before .before .count .given .1) at (c .before .before .before .before .before .before .before .ranged .ensures))
+    (value-on (segmentRest constraints) (rw (c .before .before .before .before .before .count .given .1) at (c .before .before .before .before .before .before .before .ranged .ensures))
     (over-off (rw (c .before .r3 .given .1) at (c .before .before .before .points .ensures))))
 
 returns-4 : tie.Need-returns-4
 unfolding row
 returns-4 c = over-on (rw (c .before .before .before .before .before .before .before .before .before .before .at2 .given .1) at (c .before .before .before .before .before .before .before .before .before .before .before .before .segment-row .ensures))
-    (value-on from-points (rw (c .before .before .before .before .before .before .count .given .1) at (c .before .before .before .before .before .before .before .before .ranged .ensures))
+    (value-on (segmentRest constraints) (rw (c .before .before .before .before .before .before .count .given .1) at (c .before .before .before .before .before .before .before .before .ranged .ensures))
     (over-on (rw (c .before .before .at4 .given .1) at (c .before .before .before .before .points .ensures)) (c .constraints .ensures)))
 
 pub segment-spec : {M : Type 1} → statement M

@@ -1,19 +1,9 @@
 -- `sheet_constraints::constraint` meets its contract.
-use Prim.Native.Nat.{ℕ}
-use Rattle.format.specs.Format.{Format, field}
 use Rattle.format.proofs.Ways.{over-on, over-off, value-on, value-off}
-use Rattle.journey_kinds.specs.Kinds.{qTcRange}
-use Rattle.journey.specs.Journey.{stretch, restriction}
+use Rattle.journey.specs.Parts.{afterType, afterRange}
 use borrow.Author.Needs.{needs}
 use Rattle.sheet_constraints.proofs.constraint.Statement.{statement}
 use Rattle.sheet_constraints.proofs.constraint.Tie as tie
-
--- a constraint from its range on, and from its start on
-abbrev from-range : ℕ → Format → Format
-from-range type f = field qTcRange λ range. stretch range (restriction type f)
-
-abbrev from-start : ℕ → ℕ → Format → Format
-from-start type range f = stretch range (restriction type f)
 
 ranged-requires : tie.Need-ranged-requires
 ranged-requires c κs = search needs
@@ -46,20 +36,20 @@ restriction-requires : tie.Need-restriction-requires
 restriction-requires c κs = (rw (c .before .at4 .given .1) at (c .before .before .before .stretch .ensures)) .stands
 
 returns : tie.Need-returns
-returns c = value-off from-range (rw (c .before .r .given .1) at (c .before .before .before .ranged .ensures))
+returns c = value-off afterType (rw (c .before .r .given .1) at (c .before .before .before .ranged .ensures))
 
 returns-2 : tie.Need-returns-2
-returns-2 c = value-on from-range (rw (c .before .before .before .before .before .of .given .1) at (c .before .before .before .before .before .before .before .ranged .ensures))
-    (value-off (from-start (c .before .before .before .before .before .of .given .0 .0)) (rw (c .before .r2 .given .1) at (c .before .before .before .ranged2 .ensures)))
+returns-2 c = value-on afterType (rw (c .before .before .before .before .before .of .given .1) at (c .before .before .before .before .before .before .before .ranged .ensures))
+    (value-off (afterRange (c .before .before .before .before .before .of .given .0 .0)) (rw (c .before .r2 .given .1) at (c .before .before .before .ranged2 .ensures)))
 
 returns-3 : tie.Need-returns-3
-returns-3 c = value-on from-range (rw (c .before .before .before .before .before .before .before .before .before .of .given .1) at (c .before .before .before .before .before .before .before .before .before .before .before .ranged .ensures))
-    (value-on (from-start (c .before .before .before .before .before .before .before .before .before .of .given .0 .0)) (rw (c .before .before .before .before .before .range .given .1) at (c .before .before .before .before .before .before .before .ranged2 .ensures))
+returns-3 c = value-on afterType (rw (c .before .before .before .before .before .before .before .before .before .of .given .1) at (c .before .before .before .before .before .before .before .before .before .before .before .ranged .ensures))
+    (value-on (afterRange (c .before .before .before .before .before .before .before .before .before .of .given .0 .0)) (rw (c .before .before .before .before .before .range .given .1) at (c .before .before .before .before .before .before .before .ranged2 .ensures))
     (over-off (rw (c .before .r3 .given .1) at (c .before .before .before .stretch .ensures))))
 
 returns-4 : tie.Need-returns-4
-returns-4 c = value-on from-range (rw (c .before .before .before .before .before .before .before .before .before .before .of .given .1) at (c .before .before .before .before .before .before .before .before .before .before .before .before .ranged .ensures))
-    (value-on (from-start (c .before .before .before .before .before .before .before .before .before .before .of .given .0 .0)) (rw (c .before .before .before .before .before .before .range .given .1) at (c .before .before .before .before .before .before .before .before .ranged2 .ensures))
+returns-4 c = value-on afterType (rw (c .before .before .before .before .before .before .before .before .before .before .of .given .1) at (c .before .before .before .before .before .before .before .before .before .before .before .before .ranged .ensures))
+    (value-on (afterRange (c .before .before .before .before .before .before .before .before .before .before .of .given .0 .0)) (rw (c .before .before .before .before .before .before .range .given .1) at (c .before .before .before .before .before .before .before .before .ranged2 .ensures))
     (over-on (rw (c .before .before .at4 .given .1) at (c .before .before .before .before .stretch .ensures)) (c .restriction .ensures)))
 
 pub constraint-spec : {M : Type 1} → statement M
