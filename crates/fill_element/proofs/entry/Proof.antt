@@ -2,6 +2,7 @@
 use mathlib.Core.Path.{refl}
 use Rattle.fill_element.proofs.Writing.{at-small}
 use Rattle.fill_element.proofs.Pieces.{entry-first, entry-second, entry-third, entry-q, entry-class, entry-speed, entry-wrote}
+use Prim.Native.Nat.{_<_}
 use lib.Dec.{lit<, lit≤}
 use native.Mathlib.Omega.{arith}
 use borrow.Author.Needs.{needs}
@@ -20,40 +21,34 @@ number-requires-3 c κs = entry-third (c .before .before .before .before .pre .0
 class-place-requires : tie.Need-class-place-requires
 class-place-requires c κs = search needs
 
+-- the qualifier and the class fit their widths
+named : (c : tie.After-class-place) → (c .before .before .before .number .result .value < 4) × (c .class-place .result < 16)
+named c =
+    let h = c .before .before .before .before .before .before .pre .0 in
+    let a = c .before .before .before .number .ensures in
+    (entry-q h a, entry-class h a (c .before .before .number2 .ensures) (c .class-place .ensures))
+
+-- and so does the speed
+speed : (c : tie.After-speed-steps) → c .speed-steps .result < 128
+speed c = entry-speed (c .before .before .before .before .before .before .before .before .pre .0) (c .before .before .before .before .before .number .ensures) (c .before .before .before .before .number2 .ensures) (c .before .before .class-place .ensures) (c .before .before .before .number3 .ensures) (c .speed-steps .ensures)
+
 mul-bits : tie.Need-mul-bits
-mul-bits c =
-    omega (arith, entry-q (c .before .before .before .before .before .before .before .pre .0) (c .before .before .before .before .number .ensures))
+mul-bits c = omega (arith, named (c .before))
 
 mul-bits-2 : tie.Need-mul-bits-2
-mul-bits-2 c =
-    omega (arith, entry-class (c .before .before .before .before .before .before .before .pre .0) (c .before .before .before .before .number .ensures) (c .before .before .before .number2 .ensures) (c .before .class-place .ensures))
+mul-bits-2 c = omega (arith, named (c .before))
 
 add-bits : tie.Need-add-bits
-add-bits c =
-    omega (arith, entry-q (c .before .before .before .before .before .before .before .pre .0) (c .before .before .before .before .number .ensures), entry-class (c .before .before .before .before .before .before .before .pre .0) (c .before .before .before .before .number .ensures) (c .before .before .before .number2 .ensures) (c .before .class-place .ensures))
+add-bits c = omega (arith, named (c .before))
 
 speed-steps-requires : tie.Need-speed-steps-requires
 speed-steps-requires c κs = search needs
 
 add-bits-2 : tie.Need-add-bits-2
-add-bits-2 c =
-    let h = c .before .before .before .before .before .before .before .before .pre .0 in
-    let a = c .before .before .before .before .before .number .ensures in
-    let b = c .before .before .before .before .number2 .ensures in
-    let d = c .before .before .before .number3 .ensures in
-    let k = c .before .before .class-place .ensures in
-    let v = c .speed-steps .ensures in
-    omega (arith, entry-q h a, entry-class h a b k, entry-speed h a b k d v)
+add-bits-2 c = omega (arith, named (c .before .before), speed c)
 
 put-requires : tie.Need-put-requires
-put-requires c κs =
-    let h = c .before .before .before .before .before .before .before .before .before .pre .0 in
-    let a = c .before .before .before .before .before .before .number .ensures in
-    let b = c .before .before .before .before .before .number2 .ensures in
-    let d = c .before .before .before .before .number3 .ensures in
-    let k = c .before .before .before .class-place .ensures in
-    let v = c .before .speed-steps .ensures in
-    (lit< tt, lit≤ tt, omega (arith, entry-q h a, entry-class h a b k, entry-speed h a b k d v))
+put-requires c κs = (lit< tt, lit≤ tt, omega (arith, named (c .before .before .before), speed (c .before)))
 
 add-t17 : tie.Need-add-t17
 add-t17 c =

@@ -3,6 +3,7 @@ use mathlib.Core.Path.{refl}
 use Rattle.fill_element.proofs.Writing.{at-small, along-next, along-on, along-none}
 use Rattle.fill_element.proofs.Pieces.{profile-first, profile-second, profile-third, profile-speed, profile-front, profile-count, profile-along}
 use Rattle.segment.specs.Segment.{entries}
+use Prim.Native.Nat.{_<_}
 use lib.Dec.{lit<, lit≤}
 use native.Mathlib.Omega.{arith}
 use borrow.Author.Needs.{needs}
@@ -21,50 +22,29 @@ number-requires-3 c κs = profile-third (c .before .before .before .before .pre)
 speed-steps-requires : tie.Need-speed-steps-requires
 speed-steps-requires c κs = search needs
 
-mul-bits : tie.Need-mul-bits
-mul-bits c =
+-- the three numbers fit their widths
+small : (c : tie.After-speed-steps) → (c .speed-steps .result < 128) × (c .before .before .number2 .result .value < 2) × (c .before .number3 .result .value < 32)
+small c =
     let h = c .before .before .before .before .before .before .pre in
     let a = c .before .before .before .number .ensures in
     let b = c .before .before .number2 .ensures in
-    let d = c .before .number3 .ensures in
     let v = c .speed-steps .ensures in
-    omega (arith, profile-speed h a v, profile-front h a v b, profile-count h a v b d)
+    (profile-speed h a v, profile-front h a v b, profile-count h a v b (c .before .number3 .ensures))
+
+mul-bits : tie.Need-mul-bits
+mul-bits c = omega (arith, small c)
 
 mul-bits-2 : tie.Need-mul-bits-2
-mul-bits-2 c =
-    let h = c .before .before .before .before .before .before .before .pre in
-    let a = c .before .before .before .before .number .ensures in
-    let b = c .before .before .before .number2 .ensures in
-    let d = c .before .before .number3 .ensures in
-    let v = c .before .speed-steps .ensures in
-    omega (arith, profile-speed h a v, profile-front h a v b, profile-count h a v b d)
+mul-bits-2 c = omega (arith, small (c .before))
 
 add-bits : tie.Need-add-bits
-add-bits c =
-    let h = c .before .before .before .before .before .before .before .pre in
-    let a = c .before .before .before .before .number .ensures in
-    let b = c .before .before .before .number2 .ensures in
-    let d = c .before .before .number3 .ensures in
-    let v = c .before .speed-steps .ensures in
-    omega (arith, profile-speed h a v, profile-front h a v b, profile-count h a v b d)
+add-bits c = omega (arith, small (c .before))
 
 add-bits-2 : tie.Need-add-bits-2
-add-bits-2 c =
-    let h = c .before .before .before .before .before .before .before .before .pre in
-    let a = c .before .before .before .before .before .number .ensures in
-    let b = c .before .before .before .before .number2 .ensures in
-    let d = c .before .before .before .number3 .ensures in
-    let v = c .before .before .speed-steps .ensures in
-    omega (arith, profile-speed h a v, profile-front h a v b, profile-count h a v b d)
+add-bits-2 c = omega (arith, small (c .before .before))
 
 put-requires : tie.Need-put-requires
-put-requires c κs =
-    let h = c .before .before .before .before .before .before .before .before .before .pre in
-    let a = c .before .before .before .before .before .before .number .ensures in
-    let b = c .before .before .before .before .before .number2 .ensures in
-    let d = c .before .before .before .before .number3 .ensures in
-    let v = c .before .before .before .speed-steps .ensures in
-    (lit< tt, lit≤ tt, omega (arith, profile-speed h a v, profile-front h a v b, profile-count h a v b d))
+put-requires c κs = (lit< tt, lit≤ tt, omega (arith, small (c .before .before .before)))
 
 add-t16 : tie.Need-add-t16
 add-t16 c =

@@ -1,6 +1,6 @@
 -- `judge_journey::whole_head` meets its contract.
 use native.Mathlib.Omega.{arith}
-use Prim.Native.Nat.{_+_}
+use Prim.Native.Nat.{_+_, _≤_}
 use denote.Ref.{now}
 use Rattle.bits.proofs.Fields.{window-small}
 use Rattle.judge_journey.proofs.Places.{small, head-on}
@@ -35,17 +35,21 @@ short-requires-2 c κs = let a = c .before .before .before .before .before .befo
 short-requires-3 : tie.Need-short-requires-3
 short-requires-3 c κs = search needs
 
+-- the bytes of the four numbers are few
+sum-small : (c : tie.After-short3) → c .before .before .before .before .before .short .result + c .before .before .before .groups .result + c .before .short2 .result + c .short3 .result ≤ 20
+sum-small c = let b = c .before .before .before .before .before .before .before .before in small (now (b .args .s)) (b .args .stop) (b .pre .0) (b .pre .1) (c .before .before .read-window3 .ensures) (rw (c .before .before .before .before .before .before .read-window .ensures) at (c .before .before .before .before .before .short .ensures)) (rw (c .before .before .before .before .read-window2 .ensures) at (c .before .before .before .groups .ensures)) (c .before .short2 .ensures) (c .short3 .ensures)
+
 add-bytes : tie.Need-add-bytes
-add-bytes c = let b = c .before .before .before .before .before .before .before .before in omega (arith, small (now (b .args .s)) (b .args .stop) (b .pre .0) (b .pre .1) (c .before .before .read-window3 .ensures) (rw (c .before .before .before .before .before .before .read-window .ensures) at (c .before .before .before .before .before .short .ensures)) (rw (c .before .before .before .before .read-window2 .ensures) at (c .before .before .before .groups .ensures)) (c .before .short2 .ensures) (c .short3 .ensures))
+add-bytes c = omega (arith, sum-small c)
 
 add-bytes-2 : tie.Need-add-bytes-2
-add-bytes-2 c = let b = c .before .before .before .before .before .before .before .before in omega (arith, small (now (b .args .s)) (b .args .stop) (b .pre .0) (b .pre .1) (c .before .before .read-window3 .ensures) (rw (c .before .before .before .before .before .before .read-window .ensures) at (c .before .before .before .before .before .short .ensures)) (rw (c .before .before .before .before .read-window2 .ensures) at (c .before .before .before .groups .ensures)) (c .before .short2 .ensures) (c .short3 .ensures))
+add-bytes-2 c = omega (arith, sum-small c)
 
 add-bytes-3 : tie.Need-add-bytes-3
-add-bytes-3 c = let b = c .before .before .before .before .before .before .before .before in omega (arith, small (now (b .args .s)) (b .args .stop) (b .pre .0) (b .pre .1) (c .before .before .read-window3 .ensures) (rw (c .before .before .before .before .before .before .read-window .ensures) at (c .before .before .before .before .before .short .ensures)) (rw (c .before .before .before .before .read-window2 .ensures) at (c .before .before .before .groups .ensures)) (c .before .short2 .ensures) (c .short3 .ensures))
+add-bytes-3 c = omega (arith, sum-small c)
 
 add-bytes-4 : tie.Need-add-bytes-4
-add-bytes-4 c = let b = c .before .before .before .before .before .before .before .before in omega (arith, small (now (b .args .s)) (b .args .stop) (b .pre .0) (b .pre .1) (c .before .before .read-window3 .ensures) (rw (c .before .before .before .before .before .before .read-window .ensures) at (c .before .before .before .before .before .short .ensures)) (rw (c .before .before .before .before .read-window2 .ensures) at (c .before .before .before .groups .ensures)) (c .before .short2 .ensures) (c .short3 .ensures))
+add-bytes-4 c = omega (arith, sum-small c)
 
 add-t12 : tie.Need-add-t12
 add-t12 c = search needs
