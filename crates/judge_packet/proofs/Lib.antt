@@ -1,3 +1,2 @@
-pub mod Going
 pub mod Verdicts
 pub mod Framed

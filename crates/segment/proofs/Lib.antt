@@ -7,3 +7,4 @@ pub mod Desk
 pub mod Grounds
 pub mod Refusals
 pub mod Parts
+pub mod Changes

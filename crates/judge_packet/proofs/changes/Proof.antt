@@ -6,7 +6,7 @@ use Rattle.segment.proofs.Parts.{changes-none}
 use Rattle.format.specs.Ways.{Left}
 use Rattle.format.proofs.Ways.{left-all, left-none, left-as}
 use Rattle.judge_field.specs.Judging.{judge}
-use Rattle.judge_packet.proofs.Going.{location-off, element-off, element-on}
+use Rattle.segment.proofs.Changes.{location-off, element-off, element-on}
 use borrow.Author.Needs.{needs}
 use Rattle.judge_packet.proofs.changes.Statement.{statement}
 use Rattle.judge_packet.proofs.changes.Tie as tie

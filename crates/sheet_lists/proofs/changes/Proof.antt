@@ -1,12 +1,10 @@
 -- `sheet_lists::changes` meets its contract.
-use Prim.Native.Nat.{ℕ, _-_}
-use Rattle.kinds.specs.Kinds.{dLocation}
-use Rattle.format.specs.Format.{Format, field}
 use Rattle.segment.specs.Segment.{changes}
 use Rattle.segment.specs.Parts.{startOf}
 use Rattle.format.specs.Ways.{Left}
-use Rattle.format.proofs.Ways.{left-all, left-none, left-as, left-on, left-off, left-value, left-refused}
-use Rattle.segment.proofs.Parts.{changes-more, changes-none}
+use Rattle.format.proofs.Ways.{left-all, left-none, left-as}
+use Rattle.segment.proofs.Parts.{changes-none}
+use Rattle.segment.proofs.Changes.{location-off, element-off, element-on}
 use Rattle.sheet_fields.specs.Judging.{judge}
 use borrow.Author.Needs.{needs}
 use native.Mathlib.Omega.{arith}
@@ -32,9 +30,7 @@ returns : tie.Need-returns Inv-loop μ-loop
 returns c =
     let a = c .before .before .before .before .before .before .before .args in
     let l = c .before .before .before .before .before .loop in
-    let next : ℕ → Format → Format = λ x f. startOf (a .part) (changes (startOf (a .part)) (a .lsp) x (l .left - 1) f) in
-    let more = left-as (λ f. field (dLocation (l .last) (a .lsp)) (λ x. next x f)) (changes-more (startOf (a .part)) (a .lsp) (l .last) (l .left) (omega arith)) (l .inv) in
-    left-refused next more (rw (c .before .r .given .1) at (c .before .before .before .location .ensures))
+    location-off (startOf (a .part)) (a .lsp) (l .last) (l .left) (omega arith) (l .inv) (rw (c .before .r .given .1) at (c .before .before .before .location .ensures))
 
 enum-known-x : tie.Need-enum-known-x Inv-loop μ-loop
 enum-known-x c = search needs
@@ -49,10 +45,7 @@ returns-2 : tie.Need-returns-2 Inv-loop μ-loop
 returns-2 c =
     let a = c .before .before .before .before .before .before .before .before .before .before .before .args in
     let l = c .before .before .before .before .before .before .before .before .before .loop in
-    let next : ℕ → Format → Format = λ x f. startOf (a .part) (changes (startOf (a .part)) (a .lsp) x (l .left - 1) f) in
-    let more = left-as (λ f. field (dLocation (l .last) (a .lsp)) (λ x. next x f)) (changes-more (startOf (a .part)) (a .lsp) (l .last) (l .left) (omega arith)) (l .inv) in
-    let here = left-value next more (rw (c .before .before .before .before .before .x .given .1) at (c .before .before .before .before .before .before .before .location .ensures)) in
-    left-off (startOf (a .part)) (changes (startOf (a .part)) (a .lsp) (c .before .before .before .before .before .x .given .0 .0) (l .left - 1)) here (rw (c .before .r2 .given .1) at (c .before .before .before .element .ensures))
+    element-off (startOf (a .part)) (a .lsp) (l .last) (l .left) (omega arith) (l .inv) (rw (c .before .before .before .before .before .x .given .1) at (c .before .before .before .before .before .before .before .location .ensures)) (rw (c .before .r2 .given .1) at (c .before .before .before .element .ensures))
 
 enum-known-at3 : tie.Need-enum-known-at3 Inv-loop μ-loop
 enum-known-at3 c = search needs
@@ -67,10 +60,7 @@ loop-again : tie.Need-loop-again Inv-loop μ-loop
 loop-again c =
     let a = c .before .before .before .before .before .before .before .before .before .before .before .args in
     let l = c .before .before .before .before .before .before .before .before .before .loop in
-    let next : ℕ → Format → Format = λ x f. startOf (a .part) (changes (startOf (a .part)) (a .lsp) x (l .left - 1) f) in
-    let more = left-as (λ f. field (dLocation (l .last) (a .lsp)) (λ x. next x f)) (changes-more (startOf (a .part)) (a .lsp) (l .last) (l .left) (omega arith)) (l .inv) in
-    let here = left-value next more (rw (c .before .before .before .before .before .x .given .1) at (c .before .before .before .before .before .before .before .location .ensures)) in
-    left-on (startOf (a .part)) (changes (startOf (a .part)) (a .lsp) (c .before .before .before .before .before .x .given .0 .0) (l .left - 1)) here (rw (c .before .at3 .given .1) at (c .before .before .before .element .ensures))
+    element-on (startOf (a .part)) (a .lsp) (l .last) (l .left) (omega arith) (l .inv) (rw (c .before .before .before .before .before .x .given .1) at (c .before .before .before .before .before .before .before .location .ensures)) (rw (c .before .at3 .given .1) at (c .before .before .before .element .ensures))
 
 returns-3 : tie.Need-returns-3 Inv-loop μ-loop
 returns-3 c =
