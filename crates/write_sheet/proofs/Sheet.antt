@@ -37,7 +37,7 @@ module _ (s : List ℕ) (stop : ℕ) (room : List ℕ) (start : ℕ) (h : Fields
 
 -- ---- part after part
 
-module _ (s : List ℕ) (stop : ℕ) {start : Put} (h : PartWritable whole s stop 24 start) where
+module _ {s : List ℕ} {stop : ℕ} {start : Put} (h : PartWritable whole s stop 24 start) where
   abbrev lengthPart : ℕ → Format → Format
   lengthPart lsp f = runs 10 3 (threeLists lsp f)
 

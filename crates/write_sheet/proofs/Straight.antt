@@ -48,7 +48,7 @@ module _ (s : List ℕ) (stop i : ℕ) {at : ℕ} {p : Put} (h : PartWritable (t
   pub head-wrote : (v : ℕ) → v ≡ fieldAt s at w → {q : Put} → q ≡ putting p v → Wrote (then (kindAt i)) s stop at p (at + w) q
   head-wrote v q c = along-none s stop (along-put s stop (kindAt i) (λ v f. f) w e (along-all s stop h) h v q (at + w) refl (c ∙ rw (kind-same i v)))
 
-module _ (s : List ℕ) (stop i n : ℕ) {at : ℕ} {p : Put} where
+module _ {s : List ℕ} {stop : ℕ} (i n : ℕ) {at : ℕ} {p : Put} where
   pub runs-first : PartWritable (runs i (suc n)) s stop at p → PartWritable (then (kindAt i)) s stop at p
   unfolding runs
   runs-first h = along-next s stop (then (kindAt i)) (runs (suc i) n) (along-all s stop h) h
@@ -62,9 +62,9 @@ module _ (s : List ℕ) (stop i n : ℕ) {at : ℕ} {p : Put} where
     unfolding runs
     runs-wrote w = wrote-on s stop (then (kindAt i)) (runs (suc i) n) o w
 
-pub runs-last : (s : List ℕ) (stop i : ℕ) {at to : ℕ} {p q : Put} → Wrote (then (kindAt i)) s stop at p to q → Wrote (runs i 1) s stop at p to q
+pub runs-last : {s : List ℕ} {stop : ℕ} (i : ℕ) {at to : ℕ} {p q : Put} → Wrote (then (kindAt i)) s stop at p to q → Wrote (runs i 1) s stop at p to q
 unfolding runs
-runs-last s stop i o = o
+runs-last i o = o
 
 -- ---- one more change: its location, and an element
 

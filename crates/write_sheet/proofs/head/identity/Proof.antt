@@ -1,5 +1,4 @@
 -- `write_sheet::head::identity` meets its contract.
-use denote.Ref.{now}
 use mathlib.Core.Path.{refl}
 use borrow.Author.Needs.{needs}
 use lib.Dec.{lit<}
@@ -10,46 +9,30 @@ use Rattle.write_sheet.proofs.head.identity.Tie as tie
 
 copy-requires : tie.Need-copy-requires
 unfolding kindAt
-copy-requires c κs =
-    let s = now (c .before .before .before .args .packet) in
-    let stop = c .before .before .before .args .stop in
-    (runs-first s stop 5 3 (c .before .before .before .pre), refl, lit< tt)
+copy-requires c κs = (runs-first 5 3 (c .before .before .before .pre), refl, lit< tt)
 
 copy-requires-2 : tie.Need-copy-requires-2
 unfolding kindAt
-copy-requires-2 c κs =
-    let s = now (c .before .before .before .before .before .before .before .args .packet) in
-    let stop = c .before .before .before .before .before .before .before .args .stop in
-    let h1 = runs-next s stop 5 3 (c .before .before .before .copy .ensures) (c .before .before .before .before .before .before .before .pre) in
-    (runs-first s stop 6 2 h1, refl, lit< tt)
+copy-requires-2 c κs = (runs-first 6 2 (runs-next 5 3 (c .before .before .before .copy .ensures) (c .before .before .before .before .before .before .before .pre)), refl, lit< tt)
 
 copy-requires-3 : tie.Need-copy-requires-3
 unfolding kindAt
 copy-requires-3 c κs =
-    let s = now (c .before .before .before .before .before .before .before .before .before .before .before .args .packet) in
-    let stop = c .before .before .before .before .before .before .before .before .before .before .before .args .stop in
-    let h1 = runs-next s stop 5 3 (c .before .before .before .before .before .before .before .copy .ensures) (c .before .before .before .before .before .before .before .before .before .before .before .pre) in
-    let h2 = runs-next s stop 6 2 (c .before .before .before .copy2 .ensures) h1 in
-    (runs-first s stop 7 1 h2, refl, lit< tt)
+    let h1 = runs-next 5 3 (c .before .before .before .before .before .before .before .copy .ensures) (c .before .before .before .before .before .before .before .before .before .before .before .pre) in
+    (runs-first 7 1 (runs-next 6 2 (c .before .before .before .copy2 .ensures) h1), refl, lit< tt)
 
 copy-requires-4 : tie.Need-copy-requires-4
 unfolding kindAt
 copy-requires-4 c κs =
-    let s = now (c .before .before .before .before .before .before .before .before .before .before .before .before .before .before .before .args .packet) in
-    let stop = c .before .before .before .before .before .before .before .before .before .before .before .before .before .before .before .args .stop in
-    let h1 = runs-next s stop 5 3 (c .before .before .before .before .before .before .before .before .before .before .before .copy .ensures) (c .before .before .before .before .before .before .before .before .before .before .before .before .before .before .before .pre) in
-    let h2 = runs-next s stop 6 2 (c .before .before .before .before .before .before .before .copy2 .ensures) h1 in
-    let h3 = runs-next s stop 7 1 (c .before .before .before .copy3 .ensures) h2 in
-    (runs-first s stop 8 0 h3, refl, lit< tt)
+    let h1 = runs-next 5 3 (c .before .before .before .before .before .before .before .before .before .before .before .copy .ensures) (c .before .before .before .before .before .before .before .before .before .before .before .before .before .before .before .pre) in
+    let h2 = runs-next 6 2 (c .before .before .before .before .before .before .before .copy2 .ensures) h1 in
+    (runs-first 8 0 (runs-next 7 1 (c .before .before .before .copy3 .ensures) h2), refl, lit< tt)
 
 same-length : tie.Need-same-length
 same-length c = search needs
 
 returns : tie.Need-returns
-returns c =
-    let s = now (c .before .before .before .before .before .before .before .before .before .before .before .before .before .before .before .before .before .before .args .packet) in
-    let stop = c .before .before .before .before .before .before .before .before .before .before .before .before .before .before .before .before .before .before .args .stop in
-    runs-wrote s stop 5 3 (c .before .before .before .before .before .before .before .before .before .before .before .before .before .before .copy .ensures) (runs-wrote s stop 6 2 (c .before .before .before .before .before .before .before .before .before .before .copy2 .ensures) (runs-wrote s stop 7 1 (c .before .before .before .before .before .before .copy3 .ensures) (runs-last s stop 8 (c .before .before .copy4 .ensures))))
+returns c = runs-wrote 5 3 (c .before .before .before .before .before .before .before .before .before .before .before .before .before .before .copy .ensures) (runs-wrote 6 2 (c .before .before .before .before .before .before .before .before .before .before .copy2 .ensures) (runs-wrote 7 1 (c .before .before .before .before .before .before .copy3 .ensures) (runs-last 8 (c .before .before .copy4 .ensures))))
 
 pub identity-spec : {M : Type 1} → statement M
 identity-spec =

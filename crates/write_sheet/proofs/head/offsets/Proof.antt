@@ -1,5 +1,4 @@
 -- `write_sheet::head::offsets` meets its contract.
-use denote.Ref.{now}
 use mathlib.Core.Path.{refl}
 use borrow.Author.Needs.{needs}
 use lib.Dec.{lit<}
@@ -10,36 +9,23 @@ use Rattle.write_sheet.proofs.head.offsets.Tie as tie
 
 copy-requires : tie.Need-copy-requires
 unfolding kindAt
-copy-requires c κs =
-    let s = now (c .before .before .before .args .packet) in
-    let stop = c .before .before .before .args .stop in
-    (runs-first s stop 10 2 (c .before .before .before .pre), refl, lit< tt)
+copy-requires c κs = (runs-first 10 2 (c .before .before .before .pre), refl, lit< tt)
 
 copy-requires-2 : tie.Need-copy-requires-2
 unfolding kindAt
-copy-requires-2 c κs =
-    let s = now (c .before .before .before .before .before .before .before .args .packet) in
-    let stop = c .before .before .before .before .before .before .before .args .stop in
-    let h1 = runs-next s stop 10 2 (c .before .before .before .copy .ensures) (c .before .before .before .before .before .before .before .pre) in
-    (runs-first s stop 11 1 h1, refl, lit< tt)
+copy-requires-2 c κs = (runs-first 11 1 (runs-next 10 2 (c .before .before .before .copy .ensures) (c .before .before .before .before .before .before .before .pre)), refl, lit< tt)
 
 copy-requires-3 : tie.Need-copy-requires-3
 unfolding kindAt
 copy-requires-3 c κs =
-    let s = now (c .before .before .before .before .before .before .before .before .before .before .before .args .packet) in
-    let stop = c .before .before .before .before .before .before .before .before .before .before .before .args .stop in
-    let h1 = runs-next s stop 10 2 (c .before .before .before .before .before .before .before .copy .ensures) (c .before .before .before .before .before .before .before .before .before .before .before .pre) in
-    let h2 = runs-next s stop 11 1 (c .before .before .before .copy2 .ensures) h1 in
-    (runs-first s stop 12 0 h2, refl, lit< tt)
+    let h1 = runs-next 10 2 (c .before .before .before .before .before .before .before .copy .ensures) (c .before .before .before .before .before .before .before .before .before .before .before .pre) in
+    (runs-first 12 0 (runs-next 11 1 (c .before .before .before .copy2 .ensures) h1), refl, lit< tt)
 
 same-length : tie.Need-same-length
 same-length c = search needs
 
 returns : tie.Need-returns
-returns c =
-    let s = now (c .before .before .before .before .before .before .before .before .before .before .before .before .before .before .args .packet) in
-    let stop = c .before .before .before .before .before .before .before .before .before .before .before .before .before .before .args .stop in
-    runs-wrote s stop 10 2 (c .before .before .before .before .before .before .before .before .before .before .copy .ensures) (runs-wrote s stop 11 1 (c .before .before .before .before .before .before .copy2 .ensures) (runs-last s stop 12 (c .before .before .copy3 .ensures)))
+returns c = runs-wrote 10 2 (c .before .before .before .before .before .before .before .before .before .before .copy .ensures) (runs-wrote 11 1 (c .before .before .before .before .before .before .copy2 .ensures) (runs-last 12 (c .before .before .copy3 .ensures)))
 
 pub offsets-spec : {M : Type 1} → statement M
 offsets-spec =
