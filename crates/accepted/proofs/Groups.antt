@@ -1,6 +1,6 @@
 -- A number read group by group: what is left of it, and what the groups so far come to.
 -- Assumes nothing.
-use mathlib.Core.Path.{_≡_, refl, _∙_}
+use mathlib.Core.Path.{_≡_, refl, sym, _∙_}
 use mathlib.Core.List.{List}
 use Prim.Native.Nat.{ℕ, zero, suc, _+_, _*_, _/_, _%_, _-_, _^_, _≤_, _<_}
 use native.Mathlib.Nat.{mul-le-mul-left, mul-add, mul-assoc, mul-comm}
@@ -113,6 +113,15 @@ module _ {s : List ℕ} {from at value scale b : ℕ} (r : Rest s from at value 
 module _ {s : List ℕ} {from b : ℕ} (t : There s from) (g : b ≡ getD s from 0) (h : getD s from 0 < 256) where
   start : Rest s from from 0 1 b
   start = rest-start s from (t .value) b (t .is) g (omega arith)
+
+  -- a number below 128 is its byte
+  pub single-reads : t .value < 128 → Reads s from (record { value = b; next = from + 1 })
+  single-reads k =
+      let e : Value (start .v) ≡ Value (t .value) = sym (start .whole) ∙ t .is in
+      let q : start .v ≡ t .value = cc in
+      by-cases (ltb b 128)
+      (λ d. let w = rest-last start (ltb-true b 128 d) in rest-reads start (omega (arith, w .0)) (omega (arith, w .1)))
+      (λ d. absurd (omega (arith, rest-scale start (ltb-false b 128 d))))
 
   one-or-two : {C : Type 0} → (b < 128 → b / 128 ≡ 0 → C) → (128 ≤ b → b / 128 ≡ 1 → C) → C
   one-or-two f k =

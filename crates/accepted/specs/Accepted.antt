@@ -2,7 +2,7 @@
 -- Assumes nothing.
 use mathlib.Core.Path.{_≡_}
 use mathlib.Core.List.{List}
-use Prim.Native.Nat.{ℕ, _+_}
+use Prim.Native.Nat.{ℕ, _+_, _<_}
 use lib.ListN.{length, drop}
 use Rattle.numbers.specs.declared.Number.the-variants.{Value}
 use Rattle.numbers.specs.Numbers.{numberIn, groupsIn}
@@ -12,6 +12,11 @@ use Rattle.accepted.specs.declared.Taken.{Taken}
 pub record There (s : List ℕ) (at : ℕ) : Type 0 where
   pub value : ℕ
   pub is : numberIn (drop at s) ≡ Value value
+
+-- a number of one group is there
+pub record Single (s : List ℕ) (at : ℕ) : Type 0 where
+  pub there : There s at
+  pub small : there .value < 128
 
 -- it is this one, with the place after it
 pub record Reads (s : List ℕ) (at : ℕ) (r : Taken) : Type 0 where

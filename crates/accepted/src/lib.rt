@@ -1,6 +1,6 @@
 // A number of an accepted sheet, read. Its form and its size are not judged again.
 ghost use mathlib.Core.Path.{_≡_};
-ghost use Rattle.accepted.specs.Accepted.{There, Reads};
+ghost use Rattle.accepted.specs.Accepted.{There, Single, Reads};
 
 // A number, and the place after it.
 pub struct Taken {
@@ -12,6 +12,17 @@ fn wide(x: u8) -> u32
     ensures { λ r. ⌜ r ≡ x ⌝ }
 {
     x as u32
+}
+
+// The number at the byte from, of one group: the place after it waits for no byte.
+pub fn single(s: &[u8], from: usize) -> Taken
+    requires { ⌜ Single (now s) from ⌝ }
+    ensures { λ r. ⌜ Reads (now (s .entry)) from r ⌝ }
+{
+    Taken {
+        value: wide(s[from]),
+        next: from + 1,
+    }
 }
 
 // The number at the byte from, group by group.

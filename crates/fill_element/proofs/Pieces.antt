@@ -8,7 +8,7 @@ use lib.Dec.{lit<}
 use Rattle.bits.specs.Bits.{bitsOf}
 use Rattle.bits.proofs.Parts.{join-small}
 use Rattle.accepted.specs.declared.Taken.{Taken}
-use Rattle.accepted.specs.Accepted.{There, Reads}
+use Rattle.accepted.specs.Accepted.{There, Single, Reads}
 use Rattle.filling.specs.Filling.{Filling}
 use Rattle.kinds.specs.Kinds.{qDiff, class, speed, qFront, nIter, mVoltage, nidCTraction, mCurrent}
 use Rattle.fields.proofs.Lawful.{narrow, upTo-lawful, class-lawful, speed-lawful, voltage-lawful, traction-lawful, current-lawful}
@@ -19,7 +19,7 @@ use Rattle.segment.specs.Parts.{entry}
 use Rattle.segment.proofs.Parts.{class-width}
 use Rattle.fill_element.specs.declared.Spot.{Spot}
 use Rattle.fill_element.specs.Writing.{Ready, Wrote}
-use Rattle.fill_element.proofs.Writing.{bits-join, Has, has-same, has-small, Gone, gone-all, gone-there, gone-has, gone-field, Along, wrote-once, along-once}
+use Rattle.fill_element.proofs.Writing.{bits-join, Has, has-same, has-small, Gone, gone-all, gone-there, gone-single, gone-has, gone-field, Along, wrote-once, along-once}
 
 -- three fields in one piece
 three : (a b c x y z t : ℕ) {d : ℕ} → d ≡ b → y < 2 ^ b → z < 2 ^ c → t ≡ x * 2 ^ (b + c) + (y * 2 ^ c + z) → bitsOf a x ++ bitsOf d y ++ bitsOf c z ≡ bitsOf (a + (b + c)) t
@@ -30,8 +30,8 @@ module _ {s room : List ℕ} {p : Spot} (h : Ready entry s room p) where
   abbrev afterQ : ℕ → Format → Format
   afterQ x f = then (class x) (then speed f)
 
-  pub entry-first : There s (p .from)
-  entry-first = gone-there h refl qDiff afterQ (gone-all (h .inside))
+  pub entry-first : Single s (p .from)
+  entry-first = gone-single h refl qDiff afterQ (gone-all (h .inside)) (upTo-lawful 2 2 (narrow tt) (lit< tt)) (lit< tt)
 
   module _ {q : Taken} (tq : Reads s (p .from) q) where
     first : Has qDiff s (p .from) (q .value) (q .next) (q .value)
@@ -85,8 +85,8 @@ module _ {s room : List ℕ} {p : Spot} (h : Ready profile s room p) where
     after-speed : Gone s profile (λ f. then qFront (counted f)) (p .from) (v .next) (bitsOf 7 w)
     after-speed = gone-field speed (λ x f. then qFront (counted f)) (gone-all (h .inside)) steps
 
-    pub profile-second : There s (v .next)
-    profile-second = gone-there h refl qFront (λ x f. counted f) after-speed
+    pub profile-second : Single s (v .next)
+    profile-second = gone-single h refl qFront (λ x f. counted f) after-speed (upTo-lawful 1 1 (narrow tt) (lit< tt)) (lit< tt)
 
     pub profile-speed : w < 128
     profile-speed = has-small steps speed-lawful
@@ -98,8 +98,8 @@ module _ {s room : List ℕ} {p : Spot} (h : Ready profile s room p) where
       after-front : Gone s profile counted (p .from) (q .next) (bitsOf 7 w ++ bitsOf 1 (q .value))
       after-front = gone-field qFront (λ x f. counted f) after-speed front
 
-      pub profile-third : There s (q .next)
-      profile-third = gone-there h refl (nIter 31) entries after-front
+      pub profile-third : Single s (q .next)
+      profile-third = gone-single h refl (nIter 31) entries after-front (upTo-lawful 5 31 (narrow tt) (lit< tt)) (lit< tt)
 
       pub profile-front : q .value < 2
       profile-front = has-small front (upTo-lawful 1 1 (narrow tt) (lit< tt))

@@ -17,7 +17,7 @@ use Rattle.numbers.specs.Numbers.{numberIn, groupsIn}
 use Rattle.numbers.proofs.Counting.{count-some}
 use Rattle.numbers.proofs.Reading.{number-only}
 use Rattle.accepted.specs.declared.Taken.{Taken}
-use Rattle.accepted.specs.Accepted.{There, Reads}
+use Rattle.accepted.specs.Accepted.{There, Single, Reads}
 use Rattle.filling.specs.Filling.{Filling}
 use Rattle.kinds.specs.Kind.{Kind, when}
 use Rattle.kinds.specs.Judged.{numberInSheet}
@@ -91,6 +91,12 @@ module _ (k : Kind) (part : ℕ → Format → Format) (s : List ℕ) (ok : Byte
       go Bad e = never (number-none k s at e)
       go (Value v) e = record { value = v; is = e }
 
+  -- of one group, where the kind's numbers are
+  pub number-single : LawfulKind k → k .highest < 128 → Single s at
+  number-single w m =
+      let t = number-there in
+      record { there = t; small = omega (arith, w .top (t .value) (lowered k (t .value)) (lower-some (t .value) (t .is))) }
+
   pub number-has : {r : Taken} → Reads s at r → Has k s at (r .value) (r .next) (lowered k (r .value))
   number-has {r} t =
       let b : ℕ = r .value in
@@ -131,6 +137,9 @@ module _ {s : List ℕ} {p : Format → Format} {from to : ℕ} {bits : List Boo
       (g : Gone s p (λ f. field k (λ v. part v f)) from to bits) where
     pub gone-there : There s to
     gone-there = number-there k part s (h .bytes) to (ahead-left (g (h .bits)) (rw e at (h .ahead)))
+
+    pub gone-single : LawfulKind k → k .highest < 128 → Single s to
+    gone-single w m = number-single k part s (h .bytes) to (ahead-left (g (h .bits)) (rw e at (h .ahead))) w m
 
     pub gone-has : {r : Taken} → Reads s to r → Has k s to (r .value) (r .next) (lowered k (r .value))
     gone-has t = number-has k part s (h .bytes) to (ahead-left (g (h .bits)) (rw e at (h .ahead))) t

@@ -21,7 +21,7 @@ fn entry(sheet: &[u8], figures: &[u32; 11], room: &mut [u8], p: Spot) -> Spot
     requires { ⌜ Ready parts.entry (now sheet) (now room) p × (now figures ≡ cantFigures) ⌝ }
     ensures { λ r. ⌜ Wrote parts.entry (now (sheet .entry)) (now (room .entry)) p (now (room .exit)) r ⌝ }
 {
-    let q = accepted::number(sheet, p.from);
+    let q = accepted::single(sheet, p.from);
     let a = accepted::number(sheet, q.next);
     let v = accepted::number(sheet, a.next);
     let class = lowering::class_place(figures, q.value, a.value);
@@ -55,8 +55,8 @@ fn profile(sheet: &[u8], room: &mut [u8], p: Spot) -> Spot
     ensures { λ r. ⌜ Wrote segment.profile (now (sheet .entry)) (now (room .entry)) p (now (room .exit)) r ⌝ }
 {
     let v = accepted::number(sheet, p.from);
-    let q = accepted::number(sheet, v.next);
-    let n = accepted::number(sheet, q.next);
+    let q = accepted::single(sheet, v.next);
+    let n = accepted::single(sheet, q.next);
     let bits = lowering::speed_steps(v.value) * 64 + q.value * 32 + n.value;
     let wait = filling::put(room, p.at, p.wait, 13, bits);
     let first = Spot {

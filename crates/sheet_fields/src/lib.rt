@@ -1,7 +1,7 @@
 // A field of a sheet judged at its byte, with the bits of its packet counted.
 ghost use mathlib.Core.Path.{_≡_};
 ghost use Prim.Native.Nat.{_+_, _^_, _<_};
-ghost use Rattle.kinds.specs.Kind.{range};
+ghost use Rattle.kinds.specs.Kind.{range, upTo};
 ghost use Rattle.kinds.specs.Kinds as kind;
 ghost use Rattle.kinds.specs.Tables.{cantFigures};
 ghost use Rattle.format.specs.Format.{then};
@@ -67,6 +67,26 @@ pub fn ranged(
         at + found.count as usize,
         std::num::wrapping_add_u32(n, width),
     )
+}
+
+fn wide(x: u8) -> u32
+    ensures { λ r. ⌜ r ≡ x ⌝ }
+{
+    x as u32
+}
+
+// A field up to a largest value below 128: a byte that is not above it is the whole number, so that the place after it waits for no byte.
+pub fn single(s: &[u8], at: usize, n: u32, width: u32, largest: u32) -> Next
+    requires { ⌜ Standing (now s) at × (largest < 128) ⌝ }
+    ensures { λ r. ⌜ Took (upTo width largest) (now (s .entry)) at n r ⌝ }
+{
+    if at < s.len() {
+        let v = wide(s[at]);
+        if v <= largest {
+            return Next::Is(v, at + 1, std::num::wrapping_add_u32(n, width));
+        }
+    }
+    ranged(s, at, n, width, 0, largest, OUT_OF_RANGE)
 }
 
 // A change's location, after the last one and before the segment's end.

@@ -1,5 +1,6 @@
 // The lists of a sheet judged part by part, with the bits of its packet counted. Nothing is written.
 ghost use mathlib.Core.Path.{_≡_};
+ghost use Prim.Native.Nat.{_<_};
 ghost use Rattle.kinds.specs.Kinds as kind;
 ghost use Rattle.kinds.specs.Tables.{cantFigures};
 ghost use Rattle.segment.specs.Segment as segment;
@@ -16,6 +17,7 @@ use sheet_fields::class;
 use sheet_fields::current;
 use sheet_fields::location;
 use sheet_fields::ranged;
+use sheet_fields::single;
 use sheet_fields::speed;
 use sheet_fields::voltage;
 
@@ -24,15 +26,7 @@ fn entry(s: &[u8], figures: &[u32; 11], at: usize, n: u32) -> Step
     requires { ⌜ Standing (now s) at × (now figures ≡ cantFigures) ⌝ }
     ensures { λ r. ⌜ Over parts.entry (now (s .entry)) at n r ⌝ }
 {
-    match ranged(
-        s,
-        at,
-        n,
-        body::QDiff::WIDTH,
-        0,
-        body::QDiff::LARGEST,
-        OUT_OF_RANGE,
-    ) {
+    match single(s, at, n, body::QDiff::WIDTH, body::QDiff::LARGEST) {
         Next::Refused(r, place) => Step::Refused(r, place),
         Next::Is(q, at2, n2) => match class(s, figures, at2, n2, q) {
             Step::Refused(r, place) => Step::Refused(r, place),
@@ -72,24 +66,14 @@ fn profile(s: &[u8], at: usize, n: u32) -> Step
 {
     match speed(s, at, n) {
         Step::Refused(r, place) => Step::Refused(r, place),
-        Step::On(at2, n2) => match ranged(
-            s,
-            at2,
-            n2,
-            body::QFront::WIDTH,
-            0,
-            body::QFront::LARGEST,
-            OUT_OF_RANGE,
-        ) {
+        Step::On(at2, n2) => match single(s, at2, n2, body::QFront::WIDTH, body::QFront::LARGEST) {
             Next::Refused(r, place) => Step::Refused(r, place),
-            Next::Is(_, at3, n3) => match ranged(
+            Next::Is(_, at3, n3) => match single(
                 s,
                 at3,
                 n3,
                 body::NIter::WIDTH,
-                0,
                 body::NIter::LARGEST,
-                OUT_OF_RANGE,
             ) {
                 Next::Refused(r, place) => Step::Refused(r, place),
                 Next::Is(count, at4, n4) => entries(s, at4, n4, count),
@@ -174,12 +158,12 @@ fn changes(part: Part, s: &[u8], at: usize, n: u32, lsp: u32, count: u32) -> Ste
 
 // A part: its first element, the count of its changes, and the changes.
 fn list(part: Part, s: &[u8], at: usize, n: u32, lsp: u32, limit: u32) -> Step
-    requires { ⌜ Standing (now s) at ⌝ }
+    requires { ⌜ Standing (now s) at × (limit < 128) ⌝ }
     ensures { λ r. ⌜ Over (segment.part (startOf part) limit lsp) (now (s .entry)) at n r ⌝ }
 {
     match element(part, s, at, n) {
         Step::Refused(r, place) => Step::Refused(r, place),
-        Step::On(at2, n2) => match ranged(s, at2, n2, body::NIter::WIDTH, 0, limit, OUT_OF_RANGE) {
+        Step::On(at2, n2) => match single(s, at2, n2, body::NIter::WIDTH, limit) {
             Next::Refused(r, place) => Step::Refused(r, place),
             Next::Is(count, at3, n3) => changes(part, s, at3, n3, lsp, count),
         },

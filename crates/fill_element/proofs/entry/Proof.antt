@@ -9,28 +9,28 @@ use borrow.Author.Needs.{needs}
 use Rattle.fill_element.proofs.entry.Statement.{statement}
 use Rattle.fill_element.proofs.entry.Tie as tie
 
+single-requires : tie.Need-single-requires
+single-requires c κs = entry-first (c .before .before .pre .0)
+
 number-requires : tie.Need-number-requires
-number-requires c κs = entry-first (c .before .before .pre .0)
+number-requires c κs = entry-second (c .before .before .before .pre .0) (c .single .ensures)
 
 number-requires-2 : tie.Need-number-requires-2
-number-requires-2 c κs = entry-second (c .before .before .before .pre .0) (c .number .ensures)
-
-number-requires-3 : tie.Need-number-requires-3
-number-requires-3 c κs = entry-third (c .before .before .before .before .pre .0) (c .before .number .ensures) (c .number2 .ensures) refl
+number-requires-2 c κs = entry-third (c .before .before .before .before .pre .0) (c .before .single .ensures) (c .number .ensures) refl
 
 class-place-requires : tie.Need-class-place-requires
 class-place-requires c κs = search needs
 
 -- the qualifier and the class fit their widths
-named : (c : tie.After-class-place) → (c .before .before .before .number .result .value < 4) × (c .class-place .result < 16)
+named : (c : tie.After-class-place) → (c .before .before .before .single .result .value < 4) × (c .class-place .result < 16)
 named c =
     let h = c .before .before .before .before .before .before .pre .0 in
-    let a = c .before .before .before .number .ensures in
-    (entry-q h a, entry-class h a (c .before .before .number2 .ensures) (c .class-place .ensures))
+    let a = c .before .before .before .single .ensures in
+    (entry-q h a, entry-class h a (c .before .before .number .ensures) (c .class-place .ensures))
 
 -- and so does the speed
 speed : (c : tie.After-speed-steps) → c .speed-steps .result < 128
-speed c = entry-speed (c .before .before .before .before .before .before .before .before .pre .0) (c .before .before .before .before .before .number .ensures) (c .before .before .before .before .number2 .ensures) (c .before .before .class-place .ensures) (c .before .before .before .number3 .ensures) (c .speed-steps .ensures)
+speed c = entry-speed (c .before .before .before .before .before .before .before .before .pre .0) (c .before .before .before .before .before .single .ensures) (c .before .before .before .before .number .ensures) (c .before .before .class-place .ensures) (c .before .before .before .number2 .ensures) (c .speed-steps .ensures)
 
 mul-bits : tie.Need-mul-bits
 mul-bits c = omega (arith, named (c .before))
@@ -59,15 +59,15 @@ same-length c = search needs
 
 returns : tie.Need-returns
 returns c =
-    entry-wrote (c .before .before .before .before .before .before .before .before .before .before .before .before .before .pre .0) (c .before .before .before .before .before .before .before .before .before .before .number .ensures) (c .before .before .before .before .before .before .before .before .before .number2 .ensures) (c .before .before .before .before .before .before .before .class-place .ensures) (c .before .before .before .before .before .before .before .before .number3 .ensures) (c .before .before .before .before .before .speed-steps .ensures) (c .before .before .before .put .ensures)
+    entry-wrote (c .before .before .before .before .before .before .before .before .before .before .before .before .before .pre .0) (c .before .before .before .before .before .before .before .before .before .before .single .ensures) (c .before .before .before .before .before .before .before .before .before .number .ensures) (c .before .before .before .before .before .before .before .class-place .ensures) (c .before .before .before .before .before .before .before .before .number2 .ensures) (c .before .before .before .before .before .speed-steps .ensures) (c .before .before .before .put .ensures)
 
 pub entry-spec : {M : Type 1} → statement M
 entry-spec =
     tie.close
     (tie.spec
+    single-requires
     number-requires
     number-requires-2
-    number-requires-3
     class-place-requires
     mul-bits
     mul-bits-2

@@ -13,23 +13,23 @@ use Rattle.fill_element.proofs.profile.Tie as tie
 number-requires : tie.Need-number-requires
 number-requires c κs = profile-first (c .before .before .pre)
 
-number-requires-2 : tie.Need-number-requires-2
-number-requires-2 c κs = profile-second (c .before .before .before .pre) (c .number .ensures) refl
+single-requires : tie.Need-single-requires
+single-requires c κs = profile-second (c .before .before .before .pre) (c .number .ensures) refl
 
-number-requires-3 : tie.Need-number-requires-3
-number-requires-3 c κs = profile-third (c .before .before .before .before .pre) (c .before .number .ensures) refl (c .number2 .ensures)
+single-requires-2 : tie.Need-single-requires-2
+single-requires-2 c κs = profile-third (c .before .before .before .before .pre) (c .before .number .ensures) refl (c .single .ensures)
 
 speed-steps-requires : tie.Need-speed-steps-requires
 speed-steps-requires c κs = search needs
 
 -- the three numbers fit their widths
-small : (c : tie.After-speed-steps) → (c .speed-steps .result < 128) × (c .before .before .number2 .result .value < 2) × (c .before .number3 .result .value < 32)
+small : (c : tie.After-speed-steps) → (c .speed-steps .result < 128) × (c .before .before .single .result .value < 2) × (c .before .single2 .result .value < 32)
 small c =
     let h = c .before .before .before .before .before .before .pre in
     let a = c .before .before .before .number .ensures in
-    let b = c .before .before .number2 .ensures in
+    let b = c .before .before .single .ensures in
     let v = c .speed-steps .ensures in
-    (profile-speed h a v, profile-front h a v b, profile-count h a v b (c .before .number3 .ensures))
+    (profile-speed h a v, profile-front h a v b, profile-count h a v b (c .before .single2 .ensures))
 
 mul-bits : tie.Need-mul-bits
 mul-bits c = omega (arith, small c)
@@ -52,24 +52,24 @@ add-t16 c =
 
 entries-requires : tie.Need-entries-requires
 entries-requires c κs =
-    let l = profile-along (c .before .before .before .before .before .before .before .before .before .before .before .before .before .before .pre) (c .before .before .before .before .before .before .before .before .before .before .before .number .ensures) (c .before .before .before .before .before .before .before .before .speed-steps .ensures) (c .before .before .before .before .before .before .before .before .before .before .number2 .ensures) (c .before .before .before .before .before .before .before .before .before .number3 .ensures) (c .before .before .before .before .put .ensures) in
-    along-next (entries (c .before .before .before .before .before .before .before .before .before .number3 .result .value)) (λ f. f) l (c .before .before .before .before .before .before .before .before .before .before .before .before .before .before .pre)
+    let l = profile-along (c .before .before .before .before .before .before .before .before .before .before .before .before .before .before .pre) (c .before .before .before .before .before .before .before .before .before .before .before .number .ensures) (c .before .before .before .before .before .before .before .before .speed-steps .ensures) (c .before .before .before .before .before .before .before .before .before .before .single .ensures) (c .before .before .before .before .before .before .before .before .before .single2 .ensures) (c .before .before .before .before .put .ensures) in
+    along-next (entries (c .before .before .before .before .before .before .before .before .before .single2 .result .value)) (λ f. f) l (c .before .before .before .before .before .before .before .before .before .before .before .before .before .before .pre)
 
 same-length : tie.Need-same-length
 same-length c = search needs
 
 returns : tie.Need-returns
 returns c =
-    let l = profile-along (c .before .before .before .before .before .before .before .before .before .before .before .before .before .before .before .before .before .pre) (c .before .before .before .before .before .before .before .before .before .before .before .before .before .before .number .ensures) (c .before .before .before .before .before .before .before .before .before .before .before .speed-steps .ensures) (c .before .before .before .before .before .before .before .before .before .before .before .before .before .number2 .ensures) (c .before .before .before .before .before .before .before .before .before .before .before .before .number3 .ensures) (c .before .before .before .before .before .before .before .put .ensures) in
-    along-none (along-on (entries (c .before .before .before .before .before .before .before .before .before .before .before .before .number3 .result .value)) (λ f. f) l (c .before .before .entries .ensures))
+    let l = profile-along (c .before .before .before .before .before .before .before .before .before .before .before .before .before .before .before .before .before .pre) (c .before .before .before .before .before .before .before .before .before .before .before .before .before .before .number .ensures) (c .before .before .before .before .before .before .before .before .before .before .before .speed-steps .ensures) (c .before .before .before .before .before .before .before .before .before .before .before .before .before .single .ensures) (c .before .before .before .before .before .before .before .before .before .before .before .before .single2 .ensures) (c .before .before .before .before .before .before .before .put .ensures) in
+    along-none (along-on (entries (c .before .before .before .before .before .before .before .before .before .before .before .before .single2 .result .value)) (λ f. f) l (c .before .before .entries .ensures))
 
 pub profile-spec : {M : Type 1} → statement M
 profile-spec =
     tie.close
     (tie.spec
     number-requires
-    number-requires-2
-    number-requires-3
+    single-requires
+    single-requires-2
     speed-steps-requires
     mul-bits
     mul-bits-2

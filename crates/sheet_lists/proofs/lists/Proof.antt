@@ -1,5 +1,6 @@
 -- `sheet_lists::lists` meets its contract.
 use Rattle.format.proofs.Ways.{over-on, over-off}
+use lib.Dec.{lit<}
 use borrow.Author.Needs.{needs}
 use Rattle.sheet_lists.proofs.lists.Statement.{statement}
 use Rattle.sheet_lists.proofs.lists.Tie as tie
@@ -14,7 +15,7 @@ enum-known-at2 : tie.Need-enum-known-at2
 enum-known-at2 c = search needs
 
 list-requires-2 : tie.Need-list-requires-2
-list-requires-2 c κs = (rw (c .before .at2 .given .1) at (c .before .before .before .list .ensures)) .stands
+list-requires-2 c κs = ((rw (c .before .at2 .given .1) at (c .before .before .before .list .ensures)) .stands, lit< tt)
 
 enum-known-r-2 : tie.Need-enum-known-r-2
 enum-known-r-2 c = search needs
@@ -23,7 +24,7 @@ enum-known-at3 : tie.Need-enum-known-at3
 enum-known-at3 c = search needs
 
 list-requires-3 : tie.Need-list-requires-3
-list-requires-3 c κs = (rw (c .before .at3 .given .1) at (c .before .before .before .list2 .ensures)) .stands
+list-requires-3 c κs = ((rw (c .before .at3 .given .1) at (c .before .before .before .list2 .ensures)) .stands, lit< tt)
 
 returns : tie.Need-returns
 returns c = over-off (rw (c .before .r .given .1) at (c .before .before .before .list .ensures))

@@ -3,6 +3,7 @@ use Rattle.kinds.specs.Kinds.{nIter}
 use Rattle.format.specs.Format.{field}
 use Rattle.segment.specs.Segment.{entries}
 use Rattle.format.proofs.Ways.{over-on, over-off, value-on, value-off}
+use lib.Dec.{lit<}
 use borrow.Author.Needs.{needs}
 use Rattle.sheet_lists.proofs.profile.Statement.{statement}
 use Rattle.sheet_lists.proofs.profile.Tie as tie
@@ -16,8 +17,8 @@ enum-known-r c = search needs
 enum-known-at2 : tie.Need-enum-known-at2
 enum-known-at2 c = search needs
 
-ranged-requires : tie.Need-ranged-requires
-ranged-requires c κs = (rw (c .before .at2 .given .1) at (c .before .before .before .speed .ensures)) .stands
+single-requires : tie.Need-single-requires
+single-requires c κs = ((rw (c .before .at2 .given .1) at (c .before .before .before .speed .ensures)) .stands, lit< tt)
 
 enum-known-r-2 : tie.Need-enum-known-r-2
 enum-known-r-2 c = search needs
@@ -25,8 +26,8 @@ enum-known-r-2 c = search needs
 enum-known-at3 : tie.Need-enum-known-at3
 enum-known-at3 c = search needs
 
-ranged-requires-2 : tie.Need-ranged-requires-2
-ranged-requires-2 c κs = (rw (c .before .at3 .given .1) at (c .before .before .before .ranged .ensures)) .stands
+single-requires-2 : tie.Need-single-requires-2
+single-requires-2 c κs = ((rw (c .before .at3 .given .1) at (c .before .before .before .single .ensures)) .stands, lit< tt)
 
 enum-known-r-3 : tie.Need-enum-known-r-3
 enum-known-r-3 c = search needs
@@ -35,7 +36,7 @@ enum-known-count : tie.Need-enum-known-count
 enum-known-count c = search needs
 
 entries-requires : tie.Need-entries-requires
-entries-requires c κs = (rw (c .before .count .given .1) at (c .before .before .before .ranged2 .ensures)) .stands
+entries-requires c κs = (rw (c .before .count .given .1) at (c .before .before .before .single2 .ensures)) .stands
 
 returns : tie.Need-returns
 returns c = over-off (rw (c .before .r .given .1) at (c .before .before .before .speed .ensures))
@@ -43,19 +44,19 @@ returns c = over-off (rw (c .before .r .given .1) at (c .before .before .before 
 returns-2 : tie.Need-returns-2
 returns-2 c =
     over-on (rw (c .before .before .before .before .before .at2 .given .1) at (c .before .before .before .before .before .before .before .speed .ensures))
-    (value-off (λ v f. field (nIter 31) (λ m. entries m f)) (rw (c .before .r2 .given .1) at (c .before .before .before .ranged .ensures)))
+    (value-off (λ v f. field (nIter 31) (λ m. entries m f)) (rw (c .before .r2 .given .1) at (c .before .before .before .single .ensures)))
 
 returns-3 : tie.Need-returns-3
 returns-3 c =
     over-on (rw (c .before .before .before .before .before .before .before .before .before .at2 .given .1) at (c .before .before .before .before .before .before .before .before .before .before .before .speed .ensures))
-    (value-on (λ v f. field (nIter 31) (λ m. entries m f)) (rw (c .before .before .before .before .before .at3 .given .1) at (c .before .before .before .before .before .before .before .ranged .ensures))
-    (value-off entries (rw (c .before .r3 .given .1) at (c .before .before .before .ranged2 .ensures))))
+    (value-on (λ v f. field (nIter 31) (λ m. entries m f)) (rw (c .before .before .before .before .before .at3 .given .1) at (c .before .before .before .before .before .before .before .single .ensures))
+    (value-off entries (rw (c .before .r3 .given .1) at (c .before .before .before .single2 .ensures))))
 
 returns-4 : tie.Need-returns-4
 returns-4 c =
     over-on (rw (c .before .before .before .before .before .before .before .before .before .before .at2 .given .1) at (c .before .before .before .before .before .before .before .before .before .before .before .before .speed .ensures))
-    (value-on (λ v f. field (nIter 31) (λ m. entries m f)) (rw (c .before .before .before .before .before .before .at3 .given .1) at (c .before .before .before .before .before .before .before .before .ranged .ensures))
-    (value-on entries (rw (c .before .before .count .given .1) at (c .before .before .before .before .ranged2 .ensures)) (c .entries .ensures)))
+    (value-on (λ v f. field (nIter 31) (λ m. entries m f)) (rw (c .before .before .before .before .before .before .at3 .given .1) at (c .before .before .before .before .before .before .before .before .single .ensures))
+    (value-on entries (rw (c .before .before .count .given .1) at (c .before .before .before .before .single2 .ensures)) (c .entries .ensures)))
 
 pub profile-spec : {M : Type 1} → statement M
-profile-spec = tie.close (tie.spec speed-requires enum-known-r enum-known-at2 ranged-requires enum-known-r-2 enum-known-at3 ranged-requires-2 enum-known-r-3 enum-known-count entries-requires returns returns-2 returns-3 returns-4)
+profile-spec = tie.close (tie.spec speed-requires enum-known-r enum-known-at2 single-requires enum-known-r-2 enum-known-at3 single-requires-2 enum-known-r-3 enum-known-count entries-requires returns returns-2 returns-3 returns-4)
