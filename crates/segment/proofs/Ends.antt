@@ -2,7 +2,7 @@
 -- Assumes nothing.
 use mathlib.Core.Path.{_≡_, refl}
 use mathlib.Core.List.{List}
-use Prim.Native.Nat.{ℕ, zero, suc, _+_, _*_, _/_, _≤_}
+use Prim.Native.Nat.{ℕ, zero, suc, _+_, _≤_}
 use native.Mathlib.Omega.{arith}
 use lib.Dec.{lit≤}
 use lib.ListN.{length}
@@ -19,6 +19,7 @@ use Rattle.kinds.specs.declared.Item.{Item}
 use Rattle.segment.specs.Segment.{fields, sheetFields}
 use Rattle.segment.specs.Frame.{packetOfBits}
 use Rattle.segment.specs.Judgement.{segmentNumber}
+use Rattle.segment.specs.Ends.{mostBits, mostBytes, mostSheet}
 use Rattle.segment.proofs.Framing.{framed-length}
 use Rattle.segment.proofs.Tree.{Costs, fields-measured, sheetFields-measured}
 
@@ -90,31 +91,31 @@ module _ (limit : ℕ) (h : limit ≤ 31) where
   sheetFields-lawful = lawful (sheetFields-measured bit-costs limit h)
 
   -- the 96 bits of the header after L_PACKET_ATO, and the body's
-  pub fields-bits : Measured bits bits (fields limit) (96 + 185) (96 + (14228 + 72 * limit))
+  pub fields-bits : Measured bits bits (fields limit) (96 + 185) (96 + mostBits limit)
   unfolding bit-costs
-  fields-bits = within (96 + 185) (96 + (14228 + 72 * limit)) (fields-measured bit-costs limit h) (lit≤ tt) (omega arith)
+  fields-bits = within (96 + 185) (96 + mostBits limit) (fields-measured bit-costs limit h) (lit≤ tt) (omega arith)
 
   -- with the packet number's 8, as a sheet is judged
-  pub sheet-bits : Measured bits bits (sheetFields limit) (104 + 185) (104 + (14228 + 72 * limit))
+  pub sheet-bits : Measured bits bits (sheetFields limit) (104 + 185) (104 + mostBits limit)
   unfolding bit-costs
-  sheet-bits = within (104 + 185) (104 + (14228 + 72 * limit)) (sheetFields-measured bit-costs limit h) (lit≤ tt) (omega arith)
+  sheet-bits = within (104 + 185) (104 + mostBits limit) (sheetFields-measured bit-costs limit h) (lit≤ tt) (omega arith)
 
-  pub sheet-groups : Measured one groups (sheetFields limit) 23 (5263 + 15 * limit)
+  pub sheet-groups : Measured one groups (sheetFields limit) 23 (mostSheet limit)
   unfolding groupsIn group-costs
-  sheet-groups = within 23 (5263 + 15 * limit) (sheetFields-measured group-costs limit h) (lit≤ tt) (omega arith)
+  sheet-groups = within 23 (mostSheet limit) (sheetFields-measured group-costs limit h) (lit≤ tt) (omega arith)
 
   module _ {l : List Item} (c : Conforming InPacket (fields limit) l) where
     pub bits-least : 96 + 185 ≤ length (write packet (fields limit) l)
     bits-least = size-least packet-priced fields-bits c
 
-    pub bits-most : length (write packet (fields limit) l) ≤ 96 + (14228 + 72 * limit)
+    pub bits-most : length (write packet (fields limit) l) ≤ 96 + mostBits limit
     bits-most = size-most packet-priced fields-bits c
 
     pub packet-least : 39 ≤ length (packetOfBits segmentNumber (write packet (fields limit) l))
     packet-least = rw framed-length (omega (arith, bits-least))
 
-    pub packet-most : length (packetOfBits segmentNumber (write packet (fields limit) l)) ≤ 15 + (14228 + 72 * limit + 7) / 8
+    pub packet-most : length (packetOfBits segmentNumber (write packet (fields limit) l)) ≤ mostBytes limit
     packet-most = rw framed-length (omega (arith, bits-most))
 
-  pub sheet-most : {l : List Item} → Conforming InSheet (sheetFields limit) l → length (write sheet (sheetFields limit) l) ≤ 5263 + 15 * limit
+  pub sheet-most : {l : List Item} → Conforming InSheet (sheetFields limit) l → length (write sheet (sheetFields limit) l) ≤ mostSheet limit
   sheet-most c = size-most sheet-priced sheet-groups c

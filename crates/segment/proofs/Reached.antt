@@ -23,7 +23,7 @@ use Rattle.format.specs.Conforming.{Conforming, done, also, InSheet}
 use Rattle.format.proofs.Sized.{size-least, size-most, sheet-priced, lowered-priced}
 use Rattle.segment.specs.Segment.{entries, profile, voltage, current, changes, part, lists, body, fields, sheetFields, wireChanges}
 use Rattle.segment.specs.Judgement.{segmentNumber, afterNumber, toPacket, toSheet}
-use Rattle.segment.specs.Ends.{Sized, Ends}
+use Rattle.segment.specs.Ends.{mostBits, mostBytes, mostSheet, Sized, Ends}
 use Rattle.segment.proofs.Framing.{framed-length}
 use Rattle.segment.proofs.Ends.{fields-bits, sheet-groups}
 
@@ -191,13 +191,13 @@ module _ (limit : ℕ) (h : limit ≤ 31) where
       ∙ part-added m steady voltage volts b second limit h (part current limit longest end) (parted amperes limit []) (n + (a + ofCount + 31 * (ofPlace + a)))
       ∙ part-added m steady current amperes c third limit h end [] (n + (a + ofCount + 31 * (ofPlace + a)) + (b + ofCount + limit * (ofPlace + b)))
 
-  largest-bits : added packet (fields limit) (afterNumber (largest limit)) 0 ≡ 96 + (14228 + 72 * limit)
+  largest-bits : added packet (fields limit) (afterNumber (largest limit)) 0 ≡ 96 + mostBits limit
   unfolding entries lists body fields added
   largest-bits =
       lists-added packet packet-steady 416 14 10 (λ f l n. ap (added packet f l) (omega arith)) (λ f l n. ap (added packet f l) (omega arith)) (λ f l n. refl) 229
       ∙ omega arith
 
-  largest-bytes : added sheet (sheetFields limit) (largest limit) 0 ≡ 5263 + 15 * limit
+  largest-bytes : added sheet (sheetFields limit) (largest limit) 0 ≡ mostSheet limit
   unfolding groupsIn entries lists body fields sheetFields added
   largest-bytes =
       lists-added sheet sheet-steady 159 5 2 (λ f l n. ap (added sheet f l) (omega arith)) (λ f l n. ap (added sheet f l) (omega arith)) (λ f l n. refl) 41
@@ -213,11 +213,11 @@ module _ (limit : ℕ) (h : limit ≤ 31) where
   packet-bytes l = framed-length segmentNumber (write packet (fields limit) (afterNumber l))
 
   body-within : (l : List Item) → Conforming InSheet (sheetFields limit) l
-      → (96 + 185 ≤ length (write packet (fields limit) (afterNumber l))) × (length (write packet (fields limit) (afterNumber l)) ≤ 96 + (14228 + 72 * limit))
+      → (96 + 185 ≤ length (write packet (fields limit) (afterNumber l))) × (length (write packet (fields limit) (afterNumber l)) ≤ 96 + mostBits limit)
   unfolding sheetFields
   body-within (i ∷ l) (also g c) = (size-least lowered-priced (fields-bits limit h) c, size-most lowered-priced (fields-bits limit h) c)
 
-  sheet-within : (l : List Item) → Conforming InSheet (sheetFields limit) l → (23 ≤ length (toSheet limit l)) × (length (toSheet limit l) ≤ 5263 + 15 * limit)
+  sheet-within : (l : List Item) → Conforming InSheet (sheetFields limit) l → (23 ≤ length (toSheet limit l)) × (length (toSheet limit l) ≤ mostSheet limit)
   unfolding toSheet
   sheet-within l c = (size-least sheet-priced (sheet-groups limit h) c, size-most sheet-priced (sheet-groups limit h) c)
 
@@ -235,13 +235,13 @@ module _ (limit : ℕ) (h : limit ≤ 31) where
       }
 
   -- "The smallest body has 185 bits (packet of 39 bytes), the largest ..", at any limit
-  pub ends : Ends limit (14228 + 72 * limit) (15 + (14228 + 72 * limit + 7) / 8) (5263 + 15 * limit)
+  pub ends : Ends limit (mostBits limit) (mostBytes limit) (mostSheet limit)
   unfolding groupsIn entries changes lists body fields sheetFields added
   ends = record {
     least = λ {l} z. (omega (arith, body-within l (z .conforming)), omega (arith, body-within l (z .conforming), packet-bytes l), omega (arith, sheet-within l (z .conforming)));
     most = λ {l} z. (omega (arith, body-within l (z .conforming)), omega (arith, body-within l (z .conforming), packet-bytes l), omega (arith, sheet-within l (z .conforming)));
     smallest = (smallest, sized smallest 185 23 smallest-conforms refl refl);
-    largest = (largest limit, sized (largest limit) (14228 + 72 * limit) (5263 + 15 * limit) largest-conforms largest-bits largest-bytes);
+    largest = (largest limit, sized (largest limit) (mostBits limit) (mostSheet limit) largest-conforms largest-bits largest-bytes);
   }
 
 -- "the largest 15,884 (2,001 bytes)", "A sheet has at most 5,608 bytes", with 23 wire changes

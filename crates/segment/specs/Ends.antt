@@ -2,7 +2,7 @@
 -- Assumes nothing.
 use mathlib.Core.Path.{_≡_}
 use mathlib.Core.List.{List}
-use Prim.Native.Nat.{ℕ, _+_, _≤_}
+use Prim.Native.Nat.{ℕ, _+_, _*_, _/_, _≤_}
 use lib.ListN.{length}
 use Rattle.kinds.specs.declared.Item.{Item}
 use Rattle.format.specs.Format.{write}
@@ -10,6 +10,16 @@ use Rattle.format.specs.Media.{packet}
 use Rattle.format.specs.Conforming.{Conforming, InSheet}
 use Rattle.segment.specs.Segment.{fields, sheetFields}
 use Rattle.segment.specs.Judgement.{afterNumber, toPacket, toSheet}
+
+-- the largest body, packet and sheet, by the limit: a change more in both lists of wires has 72 bits, and 15 bytes in the sheet
+abbrev pub mostBits : ℕ → ℕ
+mostBits limit = 14228 + 72 * limit
+
+abbrev pub mostBytes : ℕ → ℕ
+mostBytes limit = 15 + (mostBits limit + 7) / 8
+
+abbrev pub mostSheet : ℕ → ℕ
+mostSheet limit = 5263 + 15 * limit
 
 -- values that conform at the limit, with the bits of their body, beside the header's 96 after L_PACKET_ATO, and the bytes of their packet and their sheet
 pub record Sized (limit : ℕ) (l : List Item) (bodyBits packetBytes sheetBytes : ℕ) : Type 0 where
