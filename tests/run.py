@@ -140,6 +140,15 @@ def listed():
                 yield f"docs/CONTRACTS.md lists {label}, which no crate tries"
 
 
+def placed():
+    """Every file of definitions stands on the promises' page, in a row with its crate."""
+    rows = re.findall(r"^\|(.*)\|(.*)\|$", (ROOT / "docs" / "PROMISES.md").read_text(), re.M)
+    for crate in CRATES:
+        for path in sources(crate, "specs", ".antt"):
+            if path.name != "Lib.antt" and not any(f"`{crate}`" in names and f"`{path.stem}`" in files for names, files in rows):
+                yield f"docs/PROMISES.md does not place {path.relative_to(ROOT)}"
+
+
 def used(name, text):
     """Whether a name that a file imports, an operator's by its sign, stands in its text."""
     name = name.split(" as ")[-1].strip()
@@ -160,7 +169,7 @@ def imports():
                         yield f"{path.relative_to(ROOT)} imports {name.strip()} and does not use it"
 
 
-TESTS = {"sources": (contracts, headed, imports, appliable, listed, promises), "logs": (no_axioms, quick, edits)}
+TESTS = {"sources": (contracts, headed, imports, appliable, listed, promises, placed), "logs": (no_axioms, quick, edits)}
 
 
 def main(words):
