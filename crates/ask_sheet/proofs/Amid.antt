@@ -11,8 +11,8 @@ use Rattle.bits.specs.Bits.{Bytes}
 use Rattle.bits.proofs.Tests.{by-cases}
 use Rattle.segment.specs.Parts.{kindAt, runs}
 use Rattle.elements.specs.Reading.{Readable}
-use Rattle.ask_sheet.specs.Asking.{NumberHere, numberEnd, Reads}
-use Rattle.ask_sheet.proofs.Groups.{number-some, number-inside, group-at}
+use Rattle.ask_sheet.specs.Asking.{numberEnd, Reads}
+use Rattle.ask_sheet.proofs.Groups.{NumberHere, number-some, number-inside, group-at}
 use Rattle.ask_sheet.proofs.Numbers.{known}
 use Rattle.ask_sheet.proofs.Parts.{Running, running-readable, running-next}
 

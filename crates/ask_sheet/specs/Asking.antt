@@ -5,7 +5,6 @@ use mathlib.Core.List.{List}
 use Prim.Native.Nat.{ℕ, _+_, _/_, _%_, _≤_}
 use lib.ListN.{length, drop, getD}
 use Rattle.bits.specs.Bits.{Bytes}
-use Rattle.numbers.specs.declared.Number.the-variants.{Value}
 use Rattle.numbers.specs.Numbers.{numberIn}
 use Rattle.numbers.specs.Groups.{counted}
 use Rattle.kinds.specs.declared.Item.{Item}
@@ -29,10 +28,7 @@ numbersOfSheet s = sheetNumbers (valuesOf (fromSheet wireChanges s))
 abbrev pub countedAt : List ℕ → ℕ → ℕ
 countedAt s at = counted (numberIn (drop at s))
 
--- there is a number at the byte at, and the byte after it
-abbrev pub NumberHere : List ℕ → ℕ → Type 0
-NumberHere s at = numberIn (drop at s) ≡ Value (countedAt s at % 4294967296)
-
+-- the byte after the number at the byte at
 abbrev pub numberEnd : List ℕ → ℕ → ℕ
 numberEnd s at = at + countedAt s at / 4294967296
 

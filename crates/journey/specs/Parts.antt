@@ -37,12 +37,12 @@ abbrev pub stoppingMost : ℕ → List ℕ
 stoppingMost stop =
     1 ∷ 1 ∷ mostAt stop 3 ∷ mostAt stop 1 ∷ mostAt stop 1 ∷ mostAt stop 1 ∷ mostAt stop 32767 ∷ mostAt stop 86399 ∷ mostAt stop 1023 ∷ mostAt stop 1 ∷ []
 
--- a temporary constraint after its type, and after its range
-abbrev pub afterType : ℕ → Format → Format
-afterType type f = field qTcRange λ range. stretch range (restriction type f)
-
+-- a temporary constraint after its range, and after its type
 abbrev pub afterRange : ℕ → ℕ → Format → Format
 afterRange type range f = stretch range (restriction type f)
+
+abbrev pub afterType : ℕ → Format → Format
+afterType type f = field qTcRange λ range. afterRange type range f
 
 -- the count of a segment's temporary constraints, and the constraints
 abbrev pub constraintList : ℕ → Format → Format

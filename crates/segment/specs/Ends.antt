@@ -11,7 +11,7 @@ use Rattle.format.specs.Conforming.{Conforming, InSheet}
 use Rattle.segment.specs.Segment.{fields, sheetFields}
 use Rattle.segment.specs.Judgement.{afterNumber, toPacket, toSheet}
 
--- the largest body, packet and sheet, by the limit: a change more in both lists of wires has 72 bits, and 15 bytes in the sheet
+-- "The largest body becomes 16,460 bits, the packet 2,073 bytes, the sheet 5,728", at 31; a change more in both lists has 72 bits, and 15 bytes in the sheet
 abbrev pub mostBits : ℕ → ℕ
 mostBits limit = 14228 + 72 * limit
 

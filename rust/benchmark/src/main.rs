@@ -51,7 +51,7 @@ the others write a sheet, and writes a packet from that structure. Reading, it r
 value outside its range; it answers no speeds and has no journeys. Freeing the structures is not counted. The run stops where a packet
 does not come back from it unchanged.
 At once and byte by byte: an intake takes a packet in one delivery, and in one for each byte; beside them plain copies of the same bytes, a
-call each. Completion judges the packet. A delivery is to cost what a copy costs, and not what a completion does.";
+call each. Completion judges the packet. A delivery is to cost a call and a copy, and not what a completion does.";
 
 fn main() {
     println!("Processor: {}", machine::processor());
