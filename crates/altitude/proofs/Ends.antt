@@ -4,9 +4,9 @@ use mathlib.Core.Path.{_≡_, refl}
 use lib.IntN.{pos, negsuc}
 use Rattle.bits.specs.Bits.{fieldAt}
 use Rattle.kinds.specs.Kinds.{digits}
-use Rattle.segment.specs.Segment.{entries, changes}
-use Rattle.segment.specs.Judgement.{fromPacket}
-use Rattle.segment.specs.Desk.{firstPacket}
+use Rattle.grammar.specs.segment.Segment.{entries, changes}
+use Rattle.grammar.specs.segment.Judgement.{fromPacket}
+use Rattle.grammar.specs.segment.Desk.{firstPacket}
 use Rattle.altitude.specs.Altitude.{centimetres, altitudeOf}
 
 -- "Altitude is -100,000 to 948,575 cm"

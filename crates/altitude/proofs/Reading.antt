@@ -17,21 +17,21 @@ use Rattle.bits.proofs.Fields.{drop-take, field-small}
 use Rattle.kinds.specs.declared.Item.{Item}
 use Rattle.format.specs.Format.{accepted, refused, valuesOf}
 use Rattle.format.proofs.Media.{packet-only}
-use Rattle.segment.specs.Segment.{body, fields, sheetFields, wireChanges}
-use Rattle.segment.specs.Judgement.{fromPacket}
+use Rattle.grammar.specs.segment.Segment.{body, fields, sheetFields, wireChanges}
+use Rattle.grammar.specs.segment.Judgement.{fromPacket}
 use Rattle.format.specs.Places.{bitsBetween}
 use Rattle.format.proofs.Places.{rest-length}
 use Rattle.format.specs.Media.{sheet}
-use Rattle.judge.specs.declared.PacketVerdict.the-variants.{SheetBytes, Refused}
-use Rattle.frame.specs.declared.Frame.{Frame}
-use Rattle.frame.specs.declared.Frame.the-variants as Frame
-use Rattle.judge.specs.Verdict.{sizeFrom, packetVerdict}
-use Rattle.link.specs.declared.Tree.the-variants.{Segment}
-use Rattle.link.specs.Trees.{treeSheetFields}
-use Rattle.frame.specs.Framed.{frameOf}
-use Rattle.frame.proofs.Framing.{whole}
-use Rattle.judge.proofs.Sizes.{packet-sorts}
-use Rattle.judge.proofs.Accepted.{verdict-accepted, verdict-refused, parts, accepted-frame}
+use Rattle.verdict.specs.declared.PacketVerdict.the-variants.{SheetBytes, Refused}
+use Rattle.verdict.specs.declared.frame.Frame.{Frame}
+use Rattle.verdict.specs.declared.frame.Frame.the-variants as Frame
+use Rattle.verdict.specs.Verdict.{sizeFrom, packetVerdict}
+use Rattle.grammar.specs.declared.link.Tree.the-variants.{Segment}
+use Rattle.grammar.specs.link.Trees.{treeSheetFields}
+use Rattle.verdict.specs.frame.Framed.{frameOf}
+use Rattle.verdict.proofs.frame.Framing.{whole}
+use Rattle.verdict.proofs.Sizes.{packet-sorts}
+use Rattle.verdict.proofs.Accepted.{verdict-accepted, verdict-refused, parts, accepted-frame}
 use Rattle.altitude.specs.declared.Altitude.{Altitude}
 use Rattle.altitude.specs.Altitude.{centimetres, altitudeField, altitudeOfRead, altitudeOf}
 use Rattle.altitude.proofs.Signs.{centimetres-fit}

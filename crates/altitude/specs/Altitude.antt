@@ -6,8 +6,8 @@ use lib.IntN.{ℤ, pos, _-ℤ_}
 use lib.ListN.{getD}
 use Rattle.kinds.specs.declared.Item.{Item}
 use Rattle.format.specs.Format.{Read, accepted, refused, packetValues}
-use Rattle.segment.specs.Segment.{wireChanges}
-use Rattle.segment.specs.Judgement.{fromPacket}
+use Rattle.grammar.specs.segment.Segment.{wireChanges}
+use Rattle.grammar.specs.segment.Judgement.{fromPacket}
 use Rattle.altitude.specs.declared.Altitude.{Altitude}
 
 -- "Altitude is -100,000 to 948,575 cm and is sent with 100,000 added"

@@ -2,9 +2,9 @@
 ghost use mathlib.Core.Path.{_≡_};
 ghost use Prim.Native.Nat.{_<_, _^_};
 ghost use Rattle.altitude.specs.Altitude.{centimetres, altitudeOf};
-use judge::PacketVerdict;
+use grammar::link::Tree;
 use kinds::body;
-use link::Tree;
+use verdict::PacketVerdict;
 
 // A refusal's number and its place, or 0 and the altitude.
 #[repr(C)]
@@ -18,7 +18,7 @@ pub struct Altitude {
 const ADDED: i32 = 100000;
 
 // The bit of M_SP_ALTITUDE, after the header and the seven fields before it.
-const FIELD: usize = 8 * frame::HEADER
+const FIELD: usize = 8 * verdict::frame::HEADER
     + (body::NidC::WIDTH
         + body::NidSp::WIDTH
         + 2 * body::MSpVersion::WIDTH
@@ -38,7 +38,7 @@ fn signed(v: u32) -> i32
 pub fn altitude_of_packet(packet: &[u8]) -> Altitude
     ensures { λ r. ⌜ r ≡ altitudeOf (now (packet .entry)) ⌝ }
 {
-    match judge_packet::judge_packet(Tree::Segment, packet) {
+    match packet_judge::judge_packet(Tree::Segment, packet) {
         PacketVerdict::Refused(r, place) => Altitude {
             refusal: r,
             place,

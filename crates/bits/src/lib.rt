@@ -1,4 +1,6 @@
 // A field of up to 32 bits at any bit of a slice, read through the eight bytes that hold it.
+pub mod write;
+
 ghost use mathlib.Core.Path.{_≡_};
 ghost use Prim.Native.Nat.{_+_, _*_, _-_, _/_, _%_, _^_, _≤_, _<_, min};
 ghost use lib.ListN.{length};

@@ -7,7 +7,7 @@ use lib.Dec.{ltb}
 use lib.ListN.{length, drop}
 use Rattle.kinds.specs.declared.Item.{Item}
 use Rattle.format.specs.Format.{Read, accepted, refused}
-use Rattle.link.specs.Link.{fromEitherPacket, fromEitherSheet, toEitherPacket, toEitherSheet}
+use Rattle.grammar.specs.link.Link.{fromEitherPacket, fromEitherSheet, toEitherPacket, toEitherSheet}
 use Rattle.convert.specs.declared.Converted.{Converted}
 
 -- "answer, length and all bytes of the room"

@@ -9,11 +9,11 @@ use Rattle.bits.specs.Bits.{bytesOfBits}
 use Rattle.format.specs.Format.{Read, accepted, read, write, valuesOf}
 use Rattle.format.specs.Media.{packet, sheet}
 use Rattle.format.specs.Places.{bitsBetween, Placed}
-use Rattle.segment.specs.Frame.{frame}
-use Rattle.segment.specs.Judgement.{afterNumber}
-use Rattle.link.specs.declared.Tree.{Tree}
-use Rattle.link.specs.Link.{treeNumber, treeBody, treeFields, withinCount, toEitherPacket, toEitherSheet}
-use Rattle.link.specs.Trees.{treePacket, treeSheet}
+use Rattle.grammar.specs.segment.Frame.{frame}
+use Rattle.grammar.specs.segment.Judgement.{afterNumber}
+use Rattle.grammar.specs.declared.link.Tree.{Tree}
+use Rattle.grammar.specs.link.Link.{treeNumber, treeBody, treeFields, withinCount, toEitherPacket, toEitherSheet}
+use Rattle.grammar.specs.link.Trees.{treePacket, treeSheet}
 use Rattle.convert.specs.Convert.{Outcome, converted}
 
 -- the conversions where the tree is known

@@ -1,4 +1,7 @@
 // How many bits a field has by its rule; and the two tables of figures, which both conversions look up.
+pub mod lower;
+pub mod size;
+
 ghost use mathlib.Core.Path.{_≡_};
 ghost use Rattle.kinds.specs.Rules.{meaning};
 

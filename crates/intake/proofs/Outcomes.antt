@@ -13,12 +13,12 @@ use lib.Seq.{take-all, drop-drop}
 use borrow.Rule.Slice.PartMut.{putMid, midOf}
 use Rattle.format.specs.Format.{Read, accepted, refused}
 use Rattle.format.specs.Media.{sheet}
-use Rattle.segment.specs.Frame.{packetNumber}
-use Rattle.link.specs.Link.{treeOf, fromEitherPacket}
-use Rattle.link.specs.Trees.{treeSheetFields}
-use Rattle.judge.specs.declared.PacketVerdict.{PacketVerdict}
-use Rattle.judge.specs.declared.PacketVerdict.the-variants as PacketVerdict
-use Rattle.judge.specs.Verdict.{verdictOf, sizeFrom, packetVerdict}
+use Rattle.grammar.specs.segment.Frame.{packetNumber}
+use Rattle.grammar.specs.link.Link.{treeOf, fromEitherPacket}
+use Rattle.grammar.specs.link.Trees.{treeSheetFields}
+use Rattle.verdict.specs.declared.PacketVerdict.{PacketVerdict}
+use Rattle.verdict.specs.declared.PacketVerdict.the-variants as PacketVerdict
+use Rattle.verdict.specs.Verdict.{verdictOf, sizeFrom, packetVerdict}
 use Rattle.convert.specs.declared.Converted.{Converted}
 use Rattle.convert.specs.Convert.{Outcome, packetToSheet}
 use Rattle.intake.specs.declared.Intake.{Intake}

@@ -6,7 +6,7 @@ use Prim.Native.Nat.{ℕ, _+_}
 use lib.Dec.{eqb, leb}
 use lib.ListN.{length, take, drop}
 use Rattle.format.specs.Format.{Read, accepted, refused}
-use Rattle.link.specs.Link.{fromEitherPacket}
+use Rattle.grammar.specs.link.Link.{fromEitherPacket}
 use Rattle.convert.specs.Convert.{Outcome, refusedWith, packetToSheet}
 use Rattle.intake.specs.declared.Intake.{Intake}
 

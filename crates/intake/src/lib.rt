@@ -4,8 +4,8 @@ ghost use Rattle.intake.specs.Intake.{gathering, passed, judgedAs, gathe
 use convert::Converted;
 use convert::TOO_LONG;
 use convert::refused;
-use judge::PacketVerdict;
-use to_sheet::tree_of;
+use convert_packet::tree_of;
+use verdict::PacketVerdict;
 
 // The phase; the bytes that are in the room or were judged; the verdict's refusal and its place.
 #[repr(C)]
@@ -118,7 +118,7 @@ fn verdict(n: u32, room: &[u8]) -> Intake
         return judge(0, TOO_LONG, 0);
     }
     let packet = &room[..n as usize];
-    match judge_packet::judge_packet(tree_of(packet), packet) {
+    match packet_judge::judge_packet(tree_of(packet), packet) {
         PacketVerdict::Refused(r, place) => judge(n, r, place),
         PacketVerdict::SheetBytes(_) => judge(n, 0, 0),
     }
@@ -147,5 +147,5 @@ pub fn sheet(intake: Intake, taken: &[u8], room: &mut [u8]) -> Converted
     if taken.len() < intake.length as usize {
         return refused(TOO_EARLY, 0);
     }
-    to_sheet::packet_to_sheet(&taken[..intake.length as usize], room)
+    convert_packet::packet_to_sheet(&taken[..intake.length as usize], room)
 }

@@ -3,3 +3,4 @@ pub mod Tables
 pub mod Kinds
 pub mod Judged
 pub mod Rules
+pub mod journey

@@ -1,4 +1,6 @@
 // The field kinds of the header and the body: a type each, with its width and its largest value, and the rule that judges its values.
+pub mod journey;
+
 ghost use mathlib.Core.Path.{_≡_};
 ghost use Rattle.kinds.specs.Kind.{upTo};
 ghost use Rattle.kinds.specs.Rules.{meaning};

@@ -12,10 +12,10 @@ use Rattle.kinds.specs.Kinds.{speed, mCurrent}
 use Rattle.format.specs.Format.{Format, accepted, sheetNumbers}
 use Rattle.format.specs.Conforming.{Conforming, done, also, InPacket, InSheet, givenBack}
 use Rattle.format.proofs.Lawful.{Lawful, goes}
-use Rattle.link.specs.Link.{linkFields, fromEitherPacket, fromEitherSheet, toEitherPacket, toEitherSheet}
-use Rattle.link.specs.Grounds.{EitherSheetValues}
-use Rattle.link.proofs.Trees.{link-lawful}
-use Rattle.link.proofs.Values.{either-packet-taken, either-sheet-taken}
+use Rattle.grammar.specs.link.Link.{linkFields, fromEitherPacket, fromEitherSheet, toEitherPacket, toEitherSheet}
+use Rattle.grammar.specs.link.Grounds.{EitherSheetValues}
+use Rattle.grammar.proofs.link.Trees.{link-lawful}
+use Rattle.grammar.proofs.link.Values.{either-packet-taken, either-sheet-taken}
 use Rattle.promises.specs.Promised.{spelled, LoweredTo, Lowering, over, one, Agreeing}
 use Rattle.promises.proofs.Values.{either-lowered, either-lowered-good, either-good-sheet, numbers-spelled, lowered-to, lowering}
 

@@ -9,11 +9,11 @@ use lib.IntN.{pos}
 use lib.ListN.{length}
 use Rattle.bits.specs.Bits.{Bytes}
 use Rattle.format.specs.Grounds.{OneEnding, OneJudgement}
-use Rattle.segment.specs.Segment.{wireChanges}
-use Rattle.segment.specs.Judgement.{fromPacket}
-use Rattle.link.specs.Link.{fromEitherPacket, fromEitherSheet, toEitherPacket, toEitherSheet}
-use Rattle.link.specs.Grounds.{EitherPacketGround, EitherSheetGround, EitherPacketValues, EitherSheetValues}
-use Rattle.question.specs.Question.{Brought}
+use Rattle.grammar.specs.segment.Segment.{wireChanges}
+use Rattle.grammar.specs.segment.Judgement.{fromPacket}
+use Rattle.grammar.specs.link.Link.{fromEitherPacket, fromEitherSheet, toEitherPacket, toEitherSheet}
+use Rattle.grammar.specs.link.Grounds.{EitherPacketGround, EitherSheetGround, EitherPacketValues, EitherSheetValues}
+use Rattle.speed_question.specs.Question.{Brought}
 use Rattle.altitude.specs.Altitude.{altitudeOf}
 use Rattle.convert.specs.Convert.{refusedWith, packetToSheet, sheetToPacket}
 use Rattle.promises.specs.Promised.{SegmentValues, segmentOf, SegmentOfValues, ConvertiblePacket, ConvertibleSheet, Done}

@@ -9,15 +9,15 @@ use Rattle.bits.specs.Bits.{Bytes}
 use Rattle.kinds.specs.declared.Item.{Item}
 use Rattle.format.specs.Format.{accepted}
 use Rattle.format.specs.Conforming.{givenBack}
-use Rattle.segment.specs.Segment.{sheetFields, wireChanges}
-use Rattle.segment.specs.Judgement.{fromPacket, toPacket, toSheet}
-use Rattle.link.specs.Link.{fromEitherSheet, toEitherPacket}
-use Rattle.link.specs.Grounds.{EitherSheetValues}
-use Rattle.link.proofs.Values.{either-sheet-taken}
-use Rattle.link.proofs.Segments.{on-link}
+use Rattle.grammar.specs.segment.Segment.{sheetFields, wireChanges}
+use Rattle.grammar.specs.segment.Judgement.{fromPacket, toPacket, toSheet}
+use Rattle.grammar.specs.link.Link.{fromEitherSheet, toEitherPacket}
+use Rattle.grammar.specs.link.Grounds.{EitherSheetValues}
+use Rattle.grammar.proofs.link.Values.{either-sheet-taken}
+use Rattle.grammar.proofs.link.Segments.{on-link}
 use Rattle.speed.specs.declared.Train.{Train}
-use Rattle.question.specs.declared.Speed.{Speed}
-use Rattle.question.specs.Question.{Brought, kindOf, permittedSpeed}
+use Rattle.speed_question.specs.declared.Speed.{Speed}
+use Rattle.speed_question.specs.Question.{Brought, kindOf, permittedSpeed}
 use Rattle.convert.specs.Convert.{successWith, sheetToPacket}
 use Rattle.promises.specs.Promised.{SegmentValues, segmentOf, ConvertibleSheet, Answerable, answerInFives, GreatestFive, Agreeing, Done, result}
 use Rattle.promises.proofs.Agreeing.{packets-agree, agreeing-packets}

@@ -10,14 +10,14 @@ use Rattle.bits.specs.Bits.{Bytes}
 use Rattle.kinds.specs.declared.Item.{Item}
 use Rattle.format.specs.Format.{Read, sheetNumbers}
 use Rattle.format.specs.Conforming.{givenBack}
-use Rattle.segment.specs.Frame.{packetOfBits}
-use Rattle.segment.specs.Judgement.{afterNumber}
-use Rattle.link.specs.Link.{treeFields, treeOf, linkFields, numberAmong, fromEitherPacket, toEitherPacket, toEitherSheet}
-use Rattle.link.specs.Grounds.{EitherPacketValues, EitherSheetValues}
-use Rattle.link.proofs.Trees.{link-lawful}
-use Rattle.link.proofs.Values.{either-packet-taken}
-use Rattle.link.proofs.Ends.{number-kept}
-use Rattle.question.specs.Question.{Brought}
+use Rattle.grammar.specs.segment.Frame.{packetOfBits}
+use Rattle.grammar.specs.segment.Judgement.{afterNumber}
+use Rattle.grammar.specs.link.Link.{treeFields, treeOf, linkFields, numberAmong, fromEitherPacket, toEitherPacket, toEitherSheet}
+use Rattle.grammar.specs.link.Grounds.{EitherPacketValues, EitherSheetValues}
+use Rattle.grammar.proofs.link.Trees.{link-lawful}
+use Rattle.grammar.proofs.link.Values.{either-packet-taken}
+use Rattle.grammar.proofs.link.Ends.{number-kept}
+use Rattle.speed_question.specs.Question.{Brought}
 use Rattle.altitude.specs.declared.Altitude.{Altitude}
 use Rattle.altitude.specs.Altitude.{centimetres, altitudeOf}
 use Rattle.convert.specs.Convert.{successWith, fitted, converted, packetToSheet, sheetToPacket}

@@ -9,11 +9,11 @@ use Rattle.numbers.specs.Numbers.{groupsIn}
 use Rattle.kinds.specs.declared.Item.{Item}
 use Rattle.kinds.specs.Kinds.{digits}
 use Rattle.format.specs.Format.{times}
-use Rattle.segment.proofs.Reached.{item, repeated, conformed}
-use Rattle.segment.proofs.Framing.{framed-length}
-use Rattle.journey.specs.Journey.{journeyBody}
-use Rattle.link.specs.Link.{linkFields, linkBits, toEitherPacket, toEitherSheet}
-use Rattle.link.specs.Grounds.{EitherSheetValues}
+use Rattle.grammar.proofs.segment.Reached.{item, repeated, conformed}
+use Rattle.grammar.proofs.segment.Framing.{framed-length}
+use Rattle.grammar.specs.journey.Journey.{journeyBody}
+use Rattle.grammar.specs.link.Link.{linkFields, linkBits, toEitherPacket, toEitherSheet}
+use Rattle.grammar.specs.link.Grounds.{EitherSheetValues}
 
 -- a sheet's values with a body of so many bits, a packet and a sheet of so many bytes
 pub record Reaches (l : List Item) (bits packet sheet : ℕ) : Type 0 where

@@ -15,17 +15,17 @@ use Rattle.format.specs.Media.{sheet}
 use Rattle.format.specs.Conforming.{InSheet}
 use Rattle.format.specs.Grounds.{Front, here, past, Every, Among, BitsFault, GroupsFault, Ground, atField, leftOver}
 use Rattle.format.proofs.Grounds.{every-front}
-use Rattle.segment.specs.Segment.{sheetFields, wireChanges}
-use Rattle.segment.specs.Judgement.{segmentNumber}
-use Rattle.segment.specs.Grounds.{PacketGround, short, otherNumber, otherSize, inFields, inPadding, FieldRefusal}
-use Rattle.segment.proofs.Grounds.{fields-refusals, listed}
-use Rattle.segment.proofs.Refusals.{among-positive}
-use Rattle.link.specs.declared.Tree.the-variants.{Segment, Journey}
-use Rattle.link.specs.Link.{treeNumber, treeOf, linkFields}
-use Rattle.link.specs.Grounds.{EitherPacketGround, ofJourney, ofSegment, EitherSheetGround, inNumbers, tooLong}
-use Rattle.link.proofs.Grounds.{tree-refusals}
+use Rattle.grammar.specs.segment.Segment.{sheetFields, wireChanges}
+use Rattle.grammar.specs.segment.Judgement.{segmentNumber}
+use Rattle.grammar.specs.segment.Grounds.{PacketGround, short, otherNumber, otherSize, inFields, inPadding, FieldRefusal}
+use Rattle.grammar.proofs.segment.Grounds.{fields-refusals, listed}
+use Rattle.grammar.proofs.segment.Refusals.{among-positive}
+use Rattle.grammar.specs.declared.link.Tree.the-variants.{Segment, Journey}
+use Rattle.grammar.specs.link.Link.{treeNumber, treeOf, linkFields}
+use Rattle.grammar.specs.link.Grounds.{EitherPacketGround, ofJourney, ofSegment, EitherSheetGround, inNumbers, tooLong}
+use Rattle.grammar.proofs.link.Grounds.{tree-refusals}
 use Rattle.speed.specs.declared.Train.{Train}
-use Rattle.question.specs.Question.{Brought, permittedSpeed}
+use Rattle.speed_question.specs.Question.{Brought, permittedSpeed}
 use Rattle.altitude.specs.Altitude.{altitudeOf}
 use Rattle.convert.specs.Convert.{packetToSheet, sheetToPacket}
 use Rattle.promises.specs.Refused.{Refuses, ConversionGround, SegmentGround, SpeedGround, packetToSheetRefusals, sheetToPacketRefusals, speedRefusals, altitudeRefusals, placeless}

@@ -11,20 +11,20 @@ use Rattle.kinds.specs.declared.Item.{Item}
 use Rattle.format.specs.Format.{sheetNumbers}
 use Rattle.format.specs.Grounds.{Among}
 use Rattle.format.proofs.Lawful.{to-sheet}
-use Rattle.segment.specs.Segment.{wireChanges}
-use Rattle.segment.specs.Judgement.{segmentNumber}
-use Rattle.segment.proofs.Ends.{sheetFields-lawful}
-use Rattle.segment.proofs.Grounds.{fields-refusals, packet-listed, sheet-listed}
-use Rattle.link.specs.Link.{toEitherPacket, toEitherSheet}
-use Rattle.link.specs.Grounds.{EitherPacketGround, EitherSheetGround, EitherPacketValues, EitherSheetValues}
-use Rattle.link.proofs.Grounds.{either-packet-listed, either-sheet-listed}
-use Rattle.link.proofs.Ends.{either-sheet-size, either-packet-size}
+use Rattle.grammar.specs.segment.Segment.{wireChanges}
+use Rattle.grammar.specs.segment.Judgement.{segmentNumber}
+use Rattle.grammar.proofs.segment.Ends.{sheetFields-lawful}
+use Rattle.grammar.proofs.segment.Grounds.{fields-refusals, packet-listed, sheet-listed}
+use Rattle.grammar.specs.link.Link.{toEitherPacket, toEitherSheet}
+use Rattle.grammar.specs.link.Grounds.{EitherPacketGround, EitherSheetGround, EitherPacketValues, EitherSheetValues}
+use Rattle.grammar.proofs.link.Grounds.{either-packet-listed, either-sheet-listed}
+use Rattle.grammar.proofs.link.Ends.{either-sheet-size, either-packet-size}
 use Rattle.speed.specs.declared.Train.{Train}
 use Rattle.speed.specs.Speed.{speedIn, inFives}
 use Rattle.speed.proofs.Lowering.{speed-in-fives}
 use Rattle.speed.proofs.Bounds.{speed-most}
-use Rattle.question.specs.declared.Speed.{Speed}
-use Rattle.question.specs.Question.{Brought}
+use Rattle.speed_question.specs.declared.Speed.{Speed}
+use Rattle.speed_question.specs.Question.{Brought}
 use Rattle.altitude.specs.Altitude.{altitudeField}
 use Rattle.promises.specs.Promised.{SegmentValues}
 use Rattle.promises.specs.Refused.{ConversionGround, SegmentGround, PacketToSheetGround, SheetToPacketGround, packetToSheetRefusals, sheetToPacketRefusals, speedRefusals, altitudeRefusals}

@@ -7,11 +7,11 @@ use Rattle.bits.specs.Bits.{fieldAt}
 use Rattle.numbers.specs.Numbers.{numberOf, groupsIn}
 use Rattle.kinds.specs.Kinds.{digits}
 use Rattle.kinds.specs.Tables.{place}
-use Rattle.segment.specs.Segment.{entries, changes, lists, body, fields, sheetFields}
-use Rattle.segment.specs.Judgement.{fromPacket, fromSheet, toPacket, toSheet}
-use Rattle.journey.specs.Journey.{journeyBody}
-use Rattle.link.specs.Link.{linkFields, fromEitherPacket, fromEitherSheet, toEitherPacket, toEitherSheet}
-use Rattle.question.specs.Question.{Brought, permittedSpeed}
+use Rattle.grammar.specs.segment.Segment.{entries, changes, lists, body, fields, sheetFields}
+use Rattle.grammar.specs.segment.Judgement.{fromPacket, fromSheet, toPacket, toSheet}
+use Rattle.grammar.specs.journey.Journey.{journeyBody}
+use Rattle.grammar.specs.link.Link.{linkFields, fromEitherPacket, fromEitherSheet, toEitherPacket, toEitherSheet}
+use Rattle.speed_question.specs.Question.{Brought, permittedSpeed}
 use Rattle.altitude.specs.Altitude.{altitudeOf}
 use Rattle.convert.specs.Convert.{packetToSheet, sheetToPacket}
 use Rattle.promises.specs.Refused.{packetToSheetRefusals, sheetToPacketRefusals, speedRefusals, altitudeRefusals}

@@ -15,13 +15,13 @@ use Rattle.kinds.specs.declared.Item.{Item}
 use Rattle.format.specs.Format.{Read, accepted, refused}
 use Rattle.format.specs.Grounds.{Ending, grounded, OneEnding, OneJudgement, Among, first, later}
 use Rattle.format.proofs.Grounds.{judged}
-use Rattle.segment.specs.Segment.{fields, wireChanges}
-use Rattle.segment.specs.Judgement.{segmentNumber, fromPacket}
-use Rattle.segment.proofs.Grounds.{packet-grounds, sheet-grounds}
-use Rattle.link.specs.Link.{fromEitherPacket, fromEitherSheet}
-use Rattle.link.specs.Grounds.{EitherPacketGround, EitherSheetGround}
-use Rattle.link.proofs.Grounds.{either-packet-grounds, either-sheet-grounds}
-use Rattle.question.specs.Question.{Brought, readAs}
+use Rattle.grammar.specs.segment.Segment.{fields, wireChanges}
+use Rattle.grammar.specs.segment.Judgement.{segmentNumber, fromPacket}
+use Rattle.grammar.proofs.segment.Grounds.{packet-grounds, sheet-grounds}
+use Rattle.grammar.specs.link.Link.{fromEitherPacket, fromEitherSheet}
+use Rattle.grammar.specs.link.Grounds.{EitherPacketGround, EitherSheetGround}
+use Rattle.grammar.proofs.link.Grounds.{either-packet-grounds, either-sheet-grounds}
+use Rattle.speed_question.specs.Question.{Brought, readAs}
 use Rattle.altitude.specs.declared.Altitude.{Altitude}
 use Rattle.altitude.specs.Altitude.{altitudeOfRead, altitudeField, centimetres}
 use Rattle.convert.specs.Convert.{Outcome, fitted, converted}

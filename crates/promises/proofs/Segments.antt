@@ -16,19 +16,19 @@ use Rattle.kinds.specs.declared.Item.{Item}
 use Rattle.format.specs.Format.{Read, accepted, refused}
 use Rattle.format.specs.Conforming.{also, givenBack}
 use Rattle.format.proofs.Sized.{size-least, sheet-priced}
-use Rattle.segment.specs.Segment.{fields, sheetFields, wireChanges}
-use Rattle.segment.specs.Frame.{packetNumber}
-use Rattle.segment.specs.Judgement.{segmentNumber, fromPacket, fromSheet, toPacket, toSheet}
-use Rattle.segment.proofs.Ends.{sheet-groups, sheet-most, packet-least, packet-most}
-use Rattle.segment.proofs.Grounds.{packet-grounds, sheet-grounds, fields-refusals, packet-listed, sheet-listed}
-use Rattle.link.specs.declared.Tree.{Tree}
-use Rattle.link.specs.declared.Tree.the-variants.{Segment}
-use Rattle.link.specs.Link.{linkBits, withinCount, fromEitherSheet, toEitherPacket, toEitherSheet}
-use Rattle.link.specs.Trees.{treeSheet, byNumber}
-use Rattle.link.proofs.Grounds.{segment-judged}
-use Rattle.link.proofs.Sheets.{sheet-by-tree}
-use Rattle.link.proofs.Segments.{on-link}
-use Rattle.question.specs.Question.{Brought}
+use Rattle.grammar.specs.segment.Segment.{fields, sheetFields, wireChanges}
+use Rattle.grammar.specs.segment.Frame.{packetNumber}
+use Rattle.grammar.specs.segment.Judgement.{segmentNumber, fromPacket, fromSheet, toPacket, toSheet}
+use Rattle.grammar.proofs.segment.Ends.{sheet-groups, sheet-most, packet-least, packet-most}
+use Rattle.grammar.proofs.segment.Grounds.{packet-grounds, sheet-grounds, fields-refusals, packet-listed, sheet-listed}
+use Rattle.grammar.specs.declared.link.Tree.{Tree}
+use Rattle.grammar.specs.declared.link.Tree.the-variants.{Segment}
+use Rattle.grammar.specs.link.Link.{linkBits, withinCount, fromEitherSheet, toEitherPacket, toEitherSheet}
+use Rattle.grammar.specs.link.Trees.{treeSheet, byNumber}
+use Rattle.grammar.proofs.link.Grounds.{segment-judged}
+use Rattle.grammar.proofs.link.Sheets.{sheet-by-tree}
+use Rattle.grammar.proofs.link.Segments.{on-link}
+use Rattle.speed_question.specs.Question.{Brought}
 use Rattle.convert.specs.Convert.{converted, fitted, packetToSheet, sheetToPacket}
 use Rattle.promises.specs.Promised.{SegmentValues}
 use Rattle.promises.proofs.Values.{packet-values, sheet-values, lowered-packet, lowered-good}

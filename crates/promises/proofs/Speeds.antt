@@ -15,9 +15,9 @@ use Rattle.format.specs.Format.{Read, accepted, refused, answerOf, sheetNumbers
 use Rattle.format.specs.Grounds.{Ending, grounded, OneEnding}
 use Rattle.speed.specs.declared.Train.{Train}
 use Rattle.speed.specs.Speed.{validTrain, segmentLength, speedIn, inFives}
-use Rattle.question.specs.declared.Speed.{Speed}
-use Rattle.question.specs.Question.{Brought, kindOf, noSpeed, speedOfValues, readAs, permittedSpeed}
-use Rattle.question.proofs.Asked.{either-kind, asked, neither-first}
+use Rattle.speed_question.specs.declared.Speed.{Speed}
+use Rattle.speed_question.specs.Question.{Brought, kindOf, noSpeed, speedOfValues, readAs, permittedSpeed}
+use Rattle.speed_question.proofs.Asked.{either-kind, asked, neither-first}
 use Rattle.promises.specs.Promised.{goodIn, SegmentValues, SegmentOfValues, Answerable, LengthOf, heldAt, LowestOf}
 use Rattle.promises.specs.Refused.{Refuses, SpeedGround}
 use Rattle.promises.specs.Ranges.{SpeedEnds, OneOutcome}

@@ -12,7 +12,7 @@ use Rattle.format.specs.Format.{Format, field, then, sheetNumbers}
 use Rattle.format.specs.Conforming.{Conforming, also}
 use Rattle.format.specs.Grounds.{Front, here, past}
 use Rattle.format.specs.Place.{skip}
-use Rattle.segment.specs.Segment.{body, fields, sheetFields, wireChanges}
+use Rattle.grammar.specs.segment.Segment.{body, fields, sheetFields, wireChanges}
 use Rattle.speed.specs.Speed.{segmentLength}
 use Rattle.altitude.specs.Altitude.{altitudeField}
 use Rattle.promises.specs.Promised.{StandsAt, LengthOf}

@@ -6,15 +6,15 @@ use Prim.Native.Nat.{ℕ, _≤_}
 use Rattle.bits.specs.Bits.{Bytes}
 use Rattle.kinds.specs.declared.Item.{Item}
 use Rattle.format.specs.Format.{Read, accepted, answerOf}
-use Rattle.segment.specs.Segment.{wireChanges}
-use Rattle.segment.specs.Judgement.{fromPacket, fromSheet, toPacket, toSheet}
-use Rattle.segment.proofs.Higher.{higher-packet, higher-sheet, same-packet, same-sheet}
-use Rattle.link.specs.Link.{fromEitherSheet, toEitherPacket, toEitherSheet}
-use Rattle.link.proofs.Values.{either-sheet-taken}
-use Rattle.link.proofs.Segments.{segment-accepted, on-link}
+use Rattle.grammar.specs.segment.Segment.{wireChanges}
+use Rattle.grammar.specs.segment.Judgement.{fromPacket, fromSheet, toPacket, toSheet}
+use Rattle.grammar.proofs.segment.Higher.{higher-packet, higher-sheet, same-packet, same-sheet}
+use Rattle.grammar.specs.link.Link.{fromEitherSheet, toEitherPacket, toEitherSheet}
+use Rattle.grammar.proofs.link.Values.{either-sheet-taken}
+use Rattle.grammar.proofs.link.Segments.{segment-accepted, on-link}
 use Rattle.speed.specs.declared.Train.{Train}
-use Rattle.question.specs.Question.{Brought, kindOf, noSpeed, speedOfValues, permittedSpeed}
-use Rattle.question.proofs.Asked.{asked}
+use Rattle.speed_question.specs.Question.{Brought, kindOf, noSpeed, speedOfValues, permittedSpeed}
+use Rattle.speed_question.proofs.Asked.{asked}
 use Rattle.altitude.specs.Altitude.{altitudeOfRead, altitudeOf}
 use Rattle.convert.specs.Convert.{converted, fitted, packetToSheet, sheetToPacket}
 use Rattle.promises.specs.Promised.{readAt}

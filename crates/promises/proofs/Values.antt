@@ -24,22 +24,22 @@ use Rattle.format.specs.Media.{packet, sheet}
 use Rattle.format.specs.Conforming.{Conforming, done, also, InSheet, givenBack}
 use Rattle.format.proofs.Lawful.{Lawful, goes, to-sheet, to-packet, lowered-bits}
 use Rattle.format.proofs.Media.{sheet-again, sheet-only}
-use Rattle.segment.specs.Segment.{fields, sheetFields, wireChanges}
-use Rattle.segment.specs.Frame.{packetOfBits, numberItem}
-use Rattle.segment.specs.Judgement.{segmentNumber, fromPacket, fromSheet, toPacket, toSheet}
-use Rattle.segment.proofs.Framing.{framed-again, framed-only}
-use Rattle.segment.proofs.Ends.{sheetFields-lawful, bits-least, bits-most}
-use Rattle.segment.proofs.Refusals.{among-positive, packet-refusal, sheet-refusal}
-use Rattle.link.specs.Link.{treeNumber, treeFields, treeOf, linkFields, linkBits, fromEitherPacket, fromEitherSheet, toEitherPacket, toEitherSheet}
-use Rattle.link.specs.Grounds.{EitherPacketValues, EitherSheetValues}
-use Rattle.link.proofs.Trees.{link-lawful}
-use Rattle.link.proofs.Values.{either-packet-values, either-packet-taken, either-sheet-values, either-sheet-taken}
-use Rattle.link.proofs.Grounds.{either-packet-grounds, either-sheet-grounds, either-packet-listed, either-sheet-listed}
+use Rattle.grammar.specs.segment.Segment.{fields, sheetFields, wireChanges}
+use Rattle.grammar.specs.segment.Frame.{packetOfBits, numberItem}
+use Rattle.grammar.specs.segment.Judgement.{segmentNumber, fromPacket, fromSheet, toPacket, toSheet}
+use Rattle.grammar.proofs.segment.Framing.{framed-again, framed-only}
+use Rattle.grammar.proofs.segment.Ends.{sheetFields-lawful, bits-least, bits-most}
+use Rattle.grammar.proofs.segment.Refusals.{among-positive, packet-refusal, sheet-refusal}
+use Rattle.grammar.specs.link.Link.{treeNumber, treeFields, treeOf, linkFields, linkBits, fromEitherPacket, fromEitherSheet, toEitherPacket, toEitherSheet}
+use Rattle.grammar.specs.link.Grounds.{EitherPacketValues, EitherSheetValues}
+use Rattle.grammar.proofs.link.Trees.{link-lawful}
+use Rattle.grammar.proofs.link.Values.{either-packet-values, either-packet-taken, either-sheet-values, either-sheet-taken}
+use Rattle.grammar.proofs.link.Grounds.{either-packet-grounds, either-sheet-grounds, either-packet-listed, either-sheet-listed}
 use Rattle.speed.specs.declared.Train.{Train}
 use Rattle.speed.specs.Speed.{validTrain, segmentLength, speedIn, inFives}
 use Rattle.speed.proofs.Lowering.{length-stays, speed-in-fives}
-use Rattle.question.specs.declared.Speed.{Speed}
-use Rattle.question.specs.Question.{Brought, judgedSpeed, speedOfValues, readAs}
+use Rattle.speed_question.specs.declared.Speed.{Speed}
+use Rattle.speed_question.specs.Question.{Brought, judgedSpeed, speedOfValues, readAs}
 use Rattle.altitude.specs.Altitude.{altitudeOfRead}
 use Rattle.convert.specs.Convert.{Outcome, refusedWith, successWith, fitted, converted}
 use Rattle.promises.specs.Promised.{SegmentValues, segmentOf, Convertible, answerInFives, GreatestFive, Done, result, spelled, spelledBits, LoweredTo, Lowering, over, one}

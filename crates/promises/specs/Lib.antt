@@ -2,3 +2,5 @@ pub mod Promised
 pub mod Refused
 pub mod Ranges
 pub mod Samples
+pub mod deliveries
+pub mod desk

@@ -15,14 +15,14 @@ use Rattle.kinds.specs.Kinds.{lSp, mSpAltitude, speed, mCurrent}
 use Rattle.format.specs.Format.{Format, end, field, Read, sheetNumbers}
 use Rattle.format.specs.Conforming.{Conforming, InPacket, InSheet}
 use Rattle.format.specs.Grounds.{Front, Among}
-use Rattle.segment.specs.Segment.{sheetFields, wireChanges}
-use Rattle.segment.specs.Judgement.{fromPacket, fromSheet, toPacket, toSheet}
-use Rattle.link.specs.Link.{linkFields, toEitherPacket, toEitherSheet}
-use Rattle.link.specs.Grounds.{EitherPacketValues, EitherSheetValues}
+use Rattle.grammar.specs.segment.Segment.{sheetFields, wireChanges}
+use Rattle.grammar.specs.segment.Judgement.{fromPacket, fromSheet, toPacket, toSheet}
+use Rattle.grammar.specs.link.Link.{linkFields, toEitherPacket, toEitherSheet}
+use Rattle.grammar.specs.link.Grounds.{EitherPacketValues, EitherSheetValues}
 use Rattle.speed.specs.declared.Train.{Train}
 use Rattle.speed.specs.Speed.{validTrain, heldSpeeds, elementsFrom, segmentLength, profileOf, inFives}
-use Rattle.question.specs.declared.Speed.{Speed}
-use Rattle.question.specs.Question.{Brought, packet, sheet, kindOf}
+use Rattle.speed_question.specs.declared.Speed.{Speed}
+use Rattle.speed_question.specs.Question.{Brought, packet, sheet, kindOf}
 use Rattle.convert.specs.Convert.{Outcome}
 
 -- a good value of a field: of a packet's, and of a sheet's

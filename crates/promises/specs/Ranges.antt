@@ -7,8 +7,8 @@ use lib.IntN.{pos}
 use lib.ListN.{length}
 use Rattle.format.specs.Grounds.{Among}
 use Rattle.convert.specs.Convert.{Outcome}
-use Rattle.question.specs.declared.Speed.{Speed}
-use Rattle.question.specs.Question.{Brought, packet, sheet, kindOf, Neither}
+use Rattle.speed_question.specs.declared.Speed.{Speed}
+use Rattle.speed_question.specs.Question.{Brought, packet, sheet, kindOf, Neither}
 use Rattle.altitude.specs.declared.Altitude.{Altitude}
 use Rattle.altitude.specs.Altitude.{centimetres}
 use Rattle.promises.specs.Refused.{speedRefusals}

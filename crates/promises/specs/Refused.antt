@@ -7,14 +7,14 @@ use Prim.Native.Nat.{ℕ, _≤_, _<_}
 use lib.ListN.{length}
 use Rattle.kinds.specs.declared.Item.{Item}
 use Rattle.format.specs.Format.{sheetNumbers}
-use Rattle.segment.specs.Segment.{fields, wireChanges}
-use Rattle.segment.specs.Judgement.{segmentNumber}
-use Rattle.segment.specs.Grounds.{PacketGround, SheetGround, packetRefusals}
-use Rattle.link.specs.Link.{toEitherPacket, toEitherSheet}
-use Rattle.link.specs.Grounds.{EitherPacketGround, EitherSheetGround, EitherPacketValues, EitherSheetValues}
+use Rattle.grammar.specs.segment.Segment.{fields, wireChanges}
+use Rattle.grammar.specs.segment.Judgement.{segmentNumber}
+use Rattle.grammar.specs.segment.Grounds.{PacketGround, SheetGround, packetRefusals}
+use Rattle.grammar.specs.link.Link.{toEitherPacket, toEitherSheet}
+use Rattle.grammar.specs.link.Grounds.{EitherPacketGround, EitherSheetGround, EitherPacketValues, EitherSheetValues}
 use Rattle.speed.specs.declared.Train.{Train}
 use Rattle.speed.specs.Speed.{validTrain, segmentLength}
-use Rattle.question.specs.Question.{Brought, packet, sheet, kindOf, Neither}
+use Rattle.speed_question.specs.Question.{Brought, packet, sheet, kindOf, Neither}
 use Rattle.promises.specs.Promised.{OfValues, SegmentOfValues}
 
 -- "Every refusal carries its place": what an answer says is the refusal r at this place, and r is not 0, which is success

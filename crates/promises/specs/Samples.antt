@@ -5,12 +5,12 @@ use mathlib.Core.List.{List, [], _∷_, _++_}
 use Prim.Native.Nat.{ℕ, zero, suc}
 use lib.ListN.{replicate}
 use Rattle.kinds.specs.declared.Item.{Item}
-use Rattle.segment.specs.Segment.{wireChanges}
-use Rattle.segment.specs.Judgement.{toPacket, toSheet}
-use Rattle.segment.specs.Desk.{packetWith, firstPacket, firstSheet, counting}
+use Rattle.grammar.specs.segment.Segment.{wireChanges}
+use Rattle.grammar.specs.segment.Judgement.{toPacket, toSheet}
+use Rattle.grammar.specs.segment.Desk.{packetWith, firstPacket, firstSheet, counting}
 use Rattle.speed.specs.Desk.{trainOf, plain}
-use Rattle.question.specs.declared.Speed.{Speed}
-use Rattle.question.specs.Question.{permittedSpeed}
+use Rattle.speed_question.specs.declared.Speed.{Speed}
+use Rattle.speed_question.specs.Question.{permittedSpeed}
 
 -- "They equal the packet fields": a value that is the same number in both
 abbrev item : ℕ → Item

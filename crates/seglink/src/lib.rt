@@ -1,21 +1,21 @@
 // The public operations, under the names that the customer's server links.
 ghost use mathlib.Core.Path.{_≡_};
 ghost use Rattle.convert.specs.Convert.{packetToSheet, sheetToPacket};
-ghost use Rattle.question.specs.Question.{permittedSpeed};
+ghost use Rattle.speed_question.specs.Question.{permittedSpeed};
 ghost use Rattle.altitude.specs.Altitude.{altitudeOf};
 ghost use Rattle.intake.specs.Intake.{gathering, delivered, completed, asked};
 use altitude::Altitude;
 use convert::Converted;
 use intake::Intake;
-use question::Speed;
 use speed::Train;
+use speed_question::Speed;
 
 // The sheet of a packet, in a lent room: a refusal's number and place, or 0 and the sheet's length.
 #[no_mangle]
 pub extern "C" fn seglink_packet_to_sheet(packet: &[u8], room: &mut [u8]) -> Converted
     ensures { λ r. ⌜ record { answer = r; room = now (room .exit) } ≡ packetToSheet (now (packet .entry)) (now (room .entry)) ⌝ }
 {
-    to_sheet::packet_to_sheet(packet, room)
+    convert_packet::packet_to_sheet(packet, room)
 }
 
 // The packet of a sheet, in a lent room: a refusal's number and place, or 0 and the packet's length.
@@ -23,7 +23,7 @@ pub extern "C" fn seglink_packet_to_sheet(packet: &[u8], room: &mut [u8]) -> Con
 pub extern "C" fn seglink_sheet_to_packet(sheet: &[u8], room: &mut [u8]) -> Converted
     ensures { λ r. ⌜ record { answer = r; room = now (room .exit) } ≡ sheetToPacket (now (sheet .entry)) (now (room .entry)) ⌝ }
 {
-    to_packet::sheet_to_packet(sheet, room)
+    convert_sheet::sheet_to_packet(sheet, room)
 }
 
 // The permitted speed at x for a train, from a packet, kind 0, or a sheet, kind 1: a refusal's number and place, or 0 and the speed in km/h.
@@ -31,7 +31,7 @@ pub extern "C" fn seglink_sheet_to_packet(sheet: &[u8], room: &mut [u8]) -> Conv
 pub extern "C" fn seglink_permitted_speed(kind: u32, segment: &[u8], train: Train, x: u32) -> Speed
     ensures { λ r. ⌜ r ≡ permittedSpeed kind (now (segment .entry)) train x ⌝ }
 {
-    question::permitted_speed(kind, segment, train, x)
+    speed_question::permitted_speed(kind, segment, train, x)
 }
 
 // The altitude of a packet in signed centimetres: a refusal's number and place, or 0 and the altitude.

@@ -20,8 +20,8 @@ use Rattle.kinds.specs.declared.Item.{Item}
 use Rattle.kinds.specs.Kind.{Kind, range}
 use Rattle.kinds.specs.Kinds.{digits, nidOperational, class, dLocation, dEndAfter, noCurrent}
 use Rattle.fields.proofs.Lawful.{LawfulKind}
-use Rattle.lowering.specs.Lowered.{valueOr, lowered}
-use Rattle.lowering.proofs.Lowering.{lowered-none}
+use Rattle.fields.specs.lower.Lowered.{valueOr, lowered}
+use Rattle.fields.proofs.lower.Lowering.{lowered-none}
 use Rattle.format.specs.Format.{then}
 use Rattle.format.specs.Places.{Taken, numberTaken}
 use Rattle.format.proofs.Places.{number-found, number-none}

@@ -12,8 +12,8 @@ use Rattle.format.specs.Pass.{Task}
 use Rattle.format.specs.Tasks.{countingWithin}
 use Rattle.format.specs.Ways as ways
 use Rattle.format.specs.Ways.{Way, passing, Went, Got}
-use Rattle.judge.specs.declared.SheetVerdict.{SheetVerdict}
-use Rattle.judge.specs.declared.SheetVerdict.the-variants as SheetVerdict
+use Rattle.verdict.specs.declared.SheetVerdict.{SheetVerdict}
+use Rattle.verdict.specs.declared.SheetVerdict.the-variants as SheetVerdict
 use Rattle.sheet_fields.specs.declared.Step.{Step}
 use Rattle.sheet_fields.specs.declared.Step.the-variants.{On, Refused}
 use Rattle.sheet_fields.specs.declared.Next.{Next}

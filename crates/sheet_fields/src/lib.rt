@@ -1,4 +1,6 @@
 // A field of a sheet judged at its byte, with the bits of its packet counted.
+pub mod row;
+
 ghost use mathlib.Core.Path.{_≡_};
 ghost use Prim.Native.Nat.{_+_, _^_, _<_};
 ghost use Rattle.kinds.specs.Kind.{range, upTo};
@@ -6,11 +8,11 @@ ghost use Rattle.kinds.specs.Kinds as kind;
 ghost use Rattle.kinds.specs.Tables.{cantFigures};
 ghost use Rattle.format.specs.Format.{then};
 ghost use Rattle.sheet_fields.specs.Judging.{Standing, Took, Over, Lowers};
-use journey_kinds::DTcEndLocation;
 use kinds::LOCATION;
 use kinds::OUT_OF_RANGE;
 use kinds::body;
 use kinds::header;
+use kinds::journey::DTcEndLocation;
 
 // The place after a part with the bits counted so far, round 2 to the 32, or a refusal and its place.
 pub enum Step {
@@ -30,7 +32,7 @@ fn lowered(at: usize, n: u32, count: u32, v: u32, none: u32, width: u32) -> Step
     ensures { λ r. ⌜ Lowers at n count v none width r ⌝ }
 {
     if count == 0 {
-        return Step::Refused(judge::NO_NUMBER, at);
+        return Step::Refused(verdict::NO_NUMBER, at);
     }
     if v == none {
         return Step::Refused(OUT_OF_RANGE, at);
@@ -53,7 +55,7 @@ pub fn ranged(
 {
     let found = numbers::found_at(s, at);
     if found.count == 0 {
-        return Next::Refused(judge::NO_NUMBER, at);
+        return Next::Refused(verdict::NO_NUMBER, at);
     }
     let v = found.value;
     if v < least {
@@ -96,7 +98,7 @@ pub fn location(s: &[u8], at: usize, n: u32, last: u32, lsp: u32) -> Next
 {
     let a = numbers::found_at(s, at);
     if a.count == 0 {
-        return Next::Refused(judge::NO_NUMBER, at);
+        return Next::Refused(verdict::NO_NUMBER, at);
     }
     let v = a.value;
     if v <= last {
@@ -119,7 +121,7 @@ pub fn after(s: &[u8], at: usize, n: u32, start: u32) -> Step
 {
     let a = numbers::found_at(s, at);
     if a.count == 0 {
-        return Step::Refused(judge::NO_NUMBER, at);
+        return Step::Refused(verdict::NO_NUMBER, at);
     }
     let v = a.value;
     if DTcEndLocation::LARGEST < v {
@@ -141,9 +143,9 @@ pub fn operational(s: &[u8], at: usize, n: u32) -> Step
 {
     let a = numbers::found_at(s, at);
     if a.count == 0 {
-        return Step::Refused(judge::NO_NUMBER, at);
+        return Step::Refused(verdict::NO_NUMBER, at);
     }
-    if counts::digits_good(a.value) {
+    if fields::size::digits_good(a.value) {
         return Step::On(
             at + a.count as usize,
             std::num::wrapping_add_u32(n, header::NidOperational::WIDTH),
@@ -158,8 +160,15 @@ pub fn speed(s: &[u8], at: usize, n: u32) -> Step
     ensures { λ r. ⌜ Over (then kind.speed) (now (s .entry)) at n r ⌝ }
 {
     let a = numbers::found_at(s, at);
-    let v = lowering::speed_steps(a.value);
-    lowered(at, n, a.count, v, lowering::NO_SPEED, body::VStatic::WIDTH)
+    let v = fields::lower::speed_steps(a.value);
+    lowered(
+        at,
+        n,
+        a.count,
+        v,
+        fields::lower::NO_SPEED,
+        body::VStatic::WIDTH,
+    )
 }
 
 // The class of an entry, by its Q_DIFF.
@@ -168,8 +177,15 @@ pub fn class(s: &[u8], figures: &[u32; 11], at: usize, n: u32, q: u32) -> Step
     ensures { λ r. ⌜ Over (then (kind.class q)) (now (s .entry)) at n r ⌝ }
 {
     let a = numbers::found_at(s, at);
-    let v = lowering::class_place(figures, q, a.value);
-    lowered(at, n, a.count, v, lowering::NO_CLASS, body::NcDiff::WIDTH)
+    let v = fields::lower::class_place(figures, q, a.value);
+    lowered(
+        at,
+        n,
+        a.count,
+        v,
+        fields::lower::NO_CLASS,
+        body::NcDiff::WIDTH,
+    )
 }
 
 // M_VOLTAGE, on which NID_CTRACTION depends.
@@ -179,10 +195,10 @@ pub fn voltage(s: &[u8], at: usize, n: u32) -> Next
 {
     let a = numbers::found_at(s, at);
     if a.count == 0 {
-        return Next::Refused(judge::NO_NUMBER, at);
+        return Next::Refused(verdict::NO_NUMBER, at);
     }
-    let v = lowering::volts_place(a.value);
-    if v == lowering::NO_VOLTAGE {
+    let v = fields::lower::volts_place(a.value);
+    if v == fields::lower::NO_VOLTAGE {
         return Next::Refused(OUT_OF_RANGE, at);
     }
     Next::Is(
@@ -198,13 +214,13 @@ pub fn current(s: &[u8], at: usize, n: u32) -> Step
     ensures { λ r. ⌜ Over (then kind.mCurrent) (now (s .entry)) at n r ⌝ }
 {
     let a = numbers::found_at(s, at);
-    let v = lowering::current_steps(a.value);
+    let v = fields::lower::current_steps(a.value);
     lowered(
         at,
         n,
         a.count,
         v,
-        lowering::NO_CURRENT,
+        fields::lower::NO_CURRENT,
         body::MCurrent::WIDTH,
     )
 }
@@ -216,7 +232,7 @@ pub fn no_current(s: &[u8], at: usize, n: u32) -> Step
 {
     let a = numbers::found_at(s, at);
     if a.count == 0 {
-        return Step::Refused(judge::NO_NUMBER, at);
+        return Step::Refused(verdict::NO_NUMBER, at);
     }
     if a.value == 0 {
         return Step::On(

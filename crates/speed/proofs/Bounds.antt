@@ -12,7 +12,7 @@ use Rattle.kinds.specs.Kinds.{speed, nIter}
 use Rattle.fields.proofs.Lawful.{speed-lawful}
 use Rattle.format.specs.Format.{Format, field, sheetNumbers}
 use Rattle.format.specs.Conforming.{Conforming, also, InSheet}
-use Rattle.segment.specs.Segment.{entries, profile, changes, part, lists, sheetFields, wireChanges}
+use Rattle.grammar.specs.segment.Segment.{entries, profile, changes, part, lists, sheetFields, wireChanges}
 use Rattle.speed.specs.declared.Train.{Train}
 use Rattle.speed.specs.Speed.{Entry, Element, belongs, isNotAbove, notAbove, greatestFigure, isOf, figureSpeeds, cantSpeeds, namedSpeeds, lowest, instead, elementSpeed, endBefore, holds, heldSpeeds, entriesOf, afterEntries, elementOf, afterElement, changesFrom, elementsFrom, segmentLength, profileOf, speedIn}
 use Rattle.speed.proofs.Lowering.{same-is, apart, at-lists}

@@ -15,7 +15,7 @@ use Rattle.bits.proofs.Tests.{by-cases}
 use Rattle.kinds.specs.Kinds.{class}
 use Rattle.kinds.specs.Tables.{cantFigures, place}
 use Rattle.fields.proofs.Lookup.{place-small}
-use Rattle.lowering.specs.Lowered.{valueOr, lowered}
+use Rattle.fields.specs.lower.Lowered.{valueOr, lowered}
 use Rattle.speed.specs.declared.Train.{Train}
 use Rattle.speed.specs.Speed.{found, figure, validTrain, belongs, memberships, Entry, Element, isNotAbove, notAbove, greatestFigure, isOf, figureSpeeds, cantSpeeds, namedSpeeds, lowest, instead, elementSpeed, endBefore, holds, heldSpeeds, permitted, inFives, entryInFives, elementInFives}
 

@@ -16,7 +16,7 @@ use Rattle.fields.proofs.Lawful.{speed-lowered}
 use Rattle.fields.proofs.Lookup.{place-stands}
 use Rattle.format.specs.Format.{Format, field, then, sheetNumbers}
 use Rattle.format.specs.Conforming.{Conforming, also, InSheet, givenBack}
-use Rattle.segment.specs.Segment.{entries, profile, changes, part, lists, body, fields, sheetFields, wireChanges}
+use Rattle.grammar.specs.segment.Segment.{entries, profile, changes, part, lists, body, fields, sheetFields, wireChanges}
 use Rattle.speed.specs.declared.Train.{Train}
 use Rattle.speed.specs.Speed.{entriesOf, afterEntries, elementOf, afterElement, changesFrom, elementsFrom, segmentLength, profileOf, permitted, speedIn, inFives, entryInFives, elementInFives, Element}
 use Rattle.speed.proofs.Laws.{lowered-permitted}

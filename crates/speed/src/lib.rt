@@ -26,7 +26,7 @@ fn is_figure(cant: u32) -> bool
     ensures { λ r. ⌜ r ≡ figure cant ⌝ }
 {
     let figures = tables::cant_figures();
-    lowering::class_place(&figures, OF_CANT, cant) < lowering::NO_CLASS
+    fields::lower::class_place(&figures, OF_CANT, cant) < fields::lower::NO_CLASS
 }
 
 // Whether a train's length and cant deficiency are allowed.

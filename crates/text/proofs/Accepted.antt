@@ -16,20 +16,20 @@ use Rattle.kinds.specs.Kinds.{nIter}
 use Rattle.format.specs.Format.{Format, field, Read, accepted, valuesOf, sheetNumbers}
 use Rattle.format.specs.Conforming.{Conforming, also, InPacket}
 use Rattle.format.proofs.Lawful.{to-sheet}
-use Rattle.segment.specs.Segment.{entries, profile, lists, body, fields, sheetFields, wireChanges}
-use Rattle.segment.specs.Frame.{numberItem}
-use Rattle.segment.specs.Judgement.{segmentNumber, fromPacket, toSheet}
-use Rattle.segment.proofs.Framing.{framed-only}
-use Rattle.segment.proofs.Ends.{sheetFields-lawful, sheet-most}
+use Rattle.grammar.specs.segment.Segment.{entries, profile, lists, body, fields, sheetFields, wireChanges}
+use Rattle.grammar.specs.segment.Frame.{numberItem}
+use Rattle.grammar.specs.segment.Judgement.{segmentNumber, fromPacket, toSheet}
+use Rattle.grammar.proofs.segment.Framing.{framed-only}
+use Rattle.grammar.proofs.segment.Ends.{sheetFields-lawful, sheet-most}
 use Rattle.convert.specs.declared.Converted.{Converted}
-use Rattle.link.specs.Link.{toEitherSheet}
-use Rattle.link.proofs.Segments.{segment-accepted, segment-sheet-of}
+use Rattle.grammar.specs.link.Link.{toEitherSheet}
+use Rattle.grammar.proofs.link.Segments.{segment-accepted, segment-sheet-of}
 use Rattle.convert.specs.Convert.{Outcome, successWith, fitted, converted, packetToSheet}
 use Rattle.speed.specs.Speed.{afterEntries, afterElement}
-use Rattle.sheets.specs.Numbers.{numbersIn}
-use Rattle.lines.specs.Changes.{changesOf}
+use Rattle.text.specs.sheet.Numbers.{numbersIn}
+use Rattle.text.specs.lines.Changes.{changesOf}
 use Rattle.text.specs.Writers.{PacketAccepted}
-use Rattle.sheets.proofs.Reading.{numbers-written}
+use Rattle.text.proofs.sheet.Reading.{numbers-written}
 
 -- ---- "N_ITER 5 (0 to 31), then that many changes"
 

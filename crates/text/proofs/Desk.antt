@@ -5,10 +5,10 @@ use mathlib.Core.List.{[]}
 use lib.ListN.{take}
 use Rattle.bits.specs.Bits.{fieldAt}
 use Rattle.kinds.specs.Kinds.{digits}
-use Rattle.segment.specs.Segment.{entries, changes, lists, body, fields, sheetFields}
-use Rattle.segment.specs.Judgement.{fromPacket}
-use Rattle.segment.specs.Desk.{firstPacket, counting}
-use Rattle.words.specs.Words.{ascii, decimal}
+use Rattle.grammar.specs.segment.Segment.{entries, changes, lists, body, fields, sheetFields}
+use Rattle.grammar.specs.segment.Judgement.{fromPacket}
+use Rattle.grammar.specs.segment.Desk.{firstPacket, counting}
+use Rattle.text.specs.words.Words.{ascii, decimal}
 use Rattle.text.specs.Listing.{listingOf}
 use Rattle.text.specs.Desk.{firstListing, namedPacket, namedListing}
 

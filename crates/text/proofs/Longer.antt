@@ -13,9 +13,9 @@ use Rattle.bits.specs.Bits.{bitsOf, number, fieldAt}
 use Rattle.bits.proofs.Fields.{field-small}
 use Rattle.bits.proofs.Tests.{by-cases}
 use Rattle.format.specs.Format.{refused}
-use Rattle.segment.specs.Segment.{wireChanges}
-use Rattle.segment.specs.Frame.{packetNumber, bodyBits}
-use Rattle.segment.specs.Judgement.{fromPacket}
+use Rattle.grammar.specs.segment.Segment.{wireChanges}
+use Rattle.grammar.specs.segment.Frame.{packetNumber, bodyBits}
+use Rattle.grammar.specs.segment.Judgement.{fromPacket}
 use Rattle.text.specs.Listing.{listed, listingOf}
 
 -- "bytes are not 15 + L_PACKET_ATO / 8, rounded up", whatever L_PACKET_ATO is

@@ -11,10 +11,10 @@ use Rattle.kinds.specs.Kinds.{nIter}
 use Rattle.format.specs.Format.{Format, end, field, accepted, sheetNumbers}
 use Rattle.format.specs.Conforming.{Conforming, also, InPacket}
 use Rattle.format.specs.Grounds.{Front, here, past}
-use Rattle.segment.specs.Segment.{entries, profile, voltage, current, changes, part, lists, body, fields, sheetFields, wireChanges}
-use Rattle.segment.specs.Judgement.{fromPacket}
+use Rattle.grammar.specs.segment.Segment.{entries, profile, voltage, current, changes, part, lists, body, fields, sheetFields, wireChanges}
+use Rattle.grammar.specs.segment.Judgement.{fromPacket}
 use Rattle.speed.specs.Speed.{afterEntries, afterElement, elementOf, changesFrom, elementsFrom}
-use Rattle.lines.specs.Lines.{elementLine, elementLines}
+use Rattle.text.specs.lines.Lines.{elementLine, elementLines}
 use Rattle.text.specs.Listing.{listed, listingOf}
 use Rattle.text.specs.Names.{ElementNamed, ChangesNamed, over, change, ProfileNamed, Named}
 use Rattle.text.proofs.Accepted.{opened, good}

@@ -9,19 +9,19 @@ use lib.IntN.{ℤ}
 use lib.Seq.{sets, sets-eq, take-append-seam}
 use Rattle.bits.specs.Bits.{Bytes}
 use Rattle.format.specs.Format.{Read, accepted, refused, valuesOf, sheetNumbers}
-use Rattle.segment.specs.Segment.{wireChanges}
-use Rattle.segment.specs.Judgement.{fromPacket}
-use Rattle.segment.proofs.Refusals.{packet-refusal}
+use Rattle.grammar.specs.segment.Segment.{wireChanges}
+use Rattle.grammar.specs.segment.Judgement.{fromPacket}
+use Rattle.grammar.proofs.segment.Refusals.{packet-refusal}
 use Rattle.speed.specs.Speed.{afterElement, elementOf, changesFrom, profileOf}
 use Rattle.altitude.specs.declared.Altitude.{Altitude}
 use Rattle.altitude.specs.Altitude.{centimetres, altitudeField, altitudeOfRead, altitudeOf}
-use Rattle.words.specs.Words.{Laid}
-use Rattle.lines.specs.Lines.{segmentLine, elementLine, elementLines, lines}
-use Rattle.lines.specs.Changes.{changesOf}
+use Rattle.text.specs.words.Words.{Laid}
+use Rattle.text.specs.lines.Lines.{segmentLine, elementLine, elementLines, lines}
+use Rattle.text.specs.lines.Changes.{changesOf}
 use Rattle.text.specs.Listing.{refusedLine, listed, listingOf, Listed, listingIn}
 use Rattle.text.specs.Writers.{PacketAccepted}
-use Rattle.words.proofs.Putting.{decimal-short}
-use Rattle.lines.proofs.Laying.{element-short, segment-short}
+use Rattle.text.proofs.words.Putting.{decimal-short}
+use Rattle.text.proofs.lines.Laying.{element-short, segment-short}
 use Rattle.text.proofs.Accepted.{few-changes}
 
 -- ---- by the altitude's answer

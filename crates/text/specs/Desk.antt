@@ -2,7 +2,7 @@
 -- Assumes nothing.
 use mathlib.Core.List.{List, [], _∷_, _++_}
 use Prim.Native.Nat.{ℕ}
-use Rattle.words.specs.Words.{ascii}
+use Rattle.text.specs.words.Words.{ascii}
 
 -- "For the first case the whole output is two lines, each ended by a newline"
 abbrev pub firstListing : List ℕ

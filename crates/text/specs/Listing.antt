@@ -4,11 +4,11 @@ use mathlib.Core.List.{List, _++_}
 use Prim.Native.Nat.{ℕ}
 use lib.ListN.{length, drop}
 use Rattle.format.specs.Format.{Read, accepted, refused, sheetNumbers}
-use Rattle.segment.specs.Segment.{wireChanges}
-use Rattle.segment.specs.Judgement.{fromPacket}
+use Rattle.grammar.specs.segment.Segment.{wireChanges}
+use Rattle.grammar.specs.segment.Judgement.{fromPacket}
 use Rattle.altitude.specs.Altitude.{centimetres, altitudeField}
-use Rattle.words.specs.Words.{ascii, labelled}
-use Rattle.lines.specs.Lines.{lines}
+use Rattle.text.specs.words.Words.{ascii, labelled}
+use Rattle.text.specs.lines.Lines.{lines}
 
 -- "The listing prints "REFUSED 13 AT 305""
 abbrev pub refusedLine : ℕ → ℕ → List ℕ

@@ -9,8 +9,8 @@ use Rattle.kinds.specs.Kinds.{nidC, nidSp, lSp, mSpAltitude, nIter, dLocation}
 use Rattle.format.specs.Format.{Format, end, field, then}
 use Rattle.format.specs.Conforming.{Conforming, InPacket}
 use Rattle.format.specs.Grounds.{Front}
-use Rattle.segment.specs.Segment.{profile, voltage, current, changes, part, lists, sheetFields, wireChanges}
-use Rattle.words.specs.Words.{ascii, signedDecimal, labelled}
+use Rattle.grammar.specs.segment.Segment.{profile, voltage, current, changes, part, lists, sheetFields, wireChanges}
+use Rattle.text.specs.words.Words.{ascii, signedDecimal, labelled}
 
 -- "its start in cm, V_STATIC in km/h and Q_FRONT": of an element's values, with its entries before the values that follow
 pub record ElementNamed (f : Format) (l rest : List Item) (start : ℕ) (line : List ℕ) : Type 0 where

@@ -1,12 +1,16 @@
 // The listing of a packet as text, in a room of the caller's.
+pub mod lines;
+pub mod sheet;
+pub mod words;
+
 ghost use mathlib.Core.Path.{_≡_};
 ghost use Prim.Native.Nat.{_≤_};
 ghost use lib.ListN.{length};
 ghost use Rattle.format.specs.Format.{sheetNumbers, valuesOf};
-ghost use Rattle.segment.specs.Segment.{wireChanges};
-ghost use Rattle.segment.specs.Judgement.{fromPacket};
-ghost use Rattle.words.specs.Words.{Laid};
-ghost use Rattle.lines.specs.Lines.{lines};
+ghost use Rattle.grammar.specs.segment.Segment.{wireChanges};
+ghost use Rattle.grammar.specs.segment.Judgement.{fromPacket};
+ghost use Rattle.text.specs.words.Words.{Laid};
+ghost use Rattle.text.specs.lines.Lines.{lines};
 ghost use Rattle.text.specs.Listing.{refusedLine, listingIn};
 ghost use Rattle.text.specs.Writers.{PacketAccepted};
 
@@ -21,9 +25,9 @@ fn put_refusal(refusal: u32, place: u32, room: &mut [u8]) -> usize
     requires { ⌜ 33 ≤ length (now room) ⌝ }
     ensures { λ r. ⌜ Laid (now (room .entry)) 0 (refusedLine refusal place) r (now (room .exit)) ⌝ }
 {
-    let number = words::put_labelled(room, 0, b"REFUSED ", refusal);
-    let at = words::put_labelled(room, number, b" AT ", place);
-    words::put_word(room, at, b"\n")
+    let number = crate::words::put_labelled(room, 0, b"REFUSED ", refusal);
+    let at = crate::words::put_labelled(room, number, b" AT ", place);
+    crate::words::put_word(room, at, b"\n")
 }
 
 // Writes the lines of an accepted packet at the front of the room, by way of its sheet.
@@ -32,9 +36,9 @@ fn put_accepted(packet: &[u8], altitude: i32, room: &mut [u8]) -> usize
     ensures { λ r. ⌜ Laid (now (room .entry)) 0 (lines altitude (sheetNumbers (valuesOf (fromPacket wireChanges (now (packet .entry)))))) r (now (room .exit)) ⌝ }
 {
     let mut sheet = [0u8; SHEET];
-    let converted = to_sheet::packet_to_sheet(packet, &mut sheet);
+    let converted = convert_packet::packet_to_sheet(packet, &mut sheet);
     let length = converted.length as usize;
-    lines::put_lines(&sheet[..length], altitude, room)
+    crate::lines::put_lines(&sheet[..length], altitude, room)
 }
 
 // The listing of a packet, at the front of a room that holds any listing; the length is returned.

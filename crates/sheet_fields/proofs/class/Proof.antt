@@ -2,7 +2,7 @@
 use denote.Ref.{now}
 use Rattle.kinds.specs.Kinds.{class}
 use Rattle.fields.proofs.Lawful.{class-lawful}
-use Rattle.segment.proofs.Parts.{class-width}
+use Rattle.grammar.proofs.segment.Parts.{class-width}
 use Rattle.sheet_fields.proofs.Steps.{class-refusal, low-over}
 use borrow.Author.Needs.{needs}
 use Rattle.sheet_fields.proofs.class.Statement.{statement}

@@ -1,11 +1,11 @@
 -- `text::listing` meets its contract.
 use Rattle.format.specs.Format.{valuesOf, sheetNumbers}
-use Rattle.segment.specs.Segment.{wireChanges}
-use Rattle.segment.specs.Judgement.{fromPacket}
-use Rattle.lines.specs.Lines.{lines}
+use Rattle.grammar.specs.segment.Segment.{wireChanges}
+use Rattle.grammar.specs.segment.Judgement.{fromPacket}
+use Rattle.text.specs.lines.Lines.{lines}
 use Rattle.text.specs.Listing.{refusedLine}
 use Rattle.text.proofs.Whole.{refused-text, accepted-packet, accepted-text, listing-laid}
-use Rattle.words.proofs.Signs.{same}
+use Rattle.text.proofs.words.Signs.{same}
 use Rattle.bits.proofs.Padding.{bytes-of}
 use mir.Syntax.{w32}
 use mir.Val.{SFits}

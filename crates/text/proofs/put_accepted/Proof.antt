@@ -1,6 +1,6 @@
 -- `text::put_accepted` meets its contract.
 use Rattle.text.proofs.Accepted.{Made, made}
-use Rattle.words.proofs.Signs.{same}
+use Rattle.text.proofs.words.Signs.{same}
 use Rattle.bits.proofs.Padding.{bytes-of}
 use lib.ListN.{length-replicate}
 use lib.Seq.{length-take-le}

@@ -1,5 +1,5 @@
 -- `text::put_refusal` meets its contract.
-use Rattle.words.proofs.Putting.{laid-on, laid-long, decimal-short}
+use Rattle.text.proofs.words.Putting.{laid-on, laid-long, decimal-short}
 use native.Mathlib.Omega.{arith}
 use borrow.Author.Needs.{needs}
 use Rattle.text.proofs.put_refusal.Statement.{statement}

@@ -1,0 +1,25 @@
+-- `to_packet::sheet_to_packet` meets its contract.
+use mathlib.Core.Path.{_∙_}
+use denote.Ref.{now}
+use Rattle.convert_sheet.proofs.ToPacket.{packet-by-tree}
+use borrow.Author.Needs.{needs}
+use Rattle.convert_sheet.proofs.sheet_to_packet.Statement.{statement}
+use Rattle.convert_sheet.proofs.sheet_to_packet.Tie as tie
+
+tree-of-requires : tie.Need-tree-of-requires
+tree-of-requires c κs = search needs
+
+tree-to-packet-requires : tie.Need-tree-to-packet-requires
+tree-to-packet-requires c κs = search needs
+
+same-length : tie.Need-same-length
+same-length c = search needs
+
+returns : tie.Need-returns
+returns c =
+    let a = c .before .before .before .before .before .before .before .args in
+    rw (c .before .before .before .before .tree-of .ensures) at (c .before .before .tree-to-packet .ensures)
+    ∙ packet-by-tree (now (a .sheet)) (now (a .room))
+
+pub sheet-to-packet-spec : {M : Type 1} → statement M
+sheet-to-packet-spec = tie.close (tie.spec tree-of-requires tree-to-packet-requires same-length returns)

@@ -1,0 +1,22 @@
+-- The verdict on a sheet of a tree with 12 among the refusals, and the body of a tree as one part. What the code below a promise is held to; no promise names it.
+-- Assumes nothing.
+use mathlib.Core.List.{List}
+use Prim.Native.Nat.{ℕ}
+use Rattle.format.specs.Format.{Format}
+use Rattle.format.specs.Media.{packet}
+use Rattle.grammar.specs.segment.Parts.{bodyPart}
+use Rattle.grammar.specs.journey.Parts.{journeyBodyPart}
+use Rattle.grammar.specs.declared.link.Tree.{Tree}
+use Rattle.grammar.specs.declared.link.Tree.the-variants.{Segment, Journey}
+use Rattle.grammar.specs.link.Trees.{treeSheetFields}
+use Rattle.verdict.specs.declared.SheetVerdict.{SheetVerdict}
+use Rattle.verdict.specs.declared.SheetVerdict.the-variants as SheetVerdict
+use Rattle.verdict.specs.Verdict.{verdictOf, sizeFrom}
+use Rattle.convert.specs.Writers.{sheetJudged}
+
+unfoldable pub countedVerdict : Tree → List ℕ → SheetVerdict
+countedVerdict t s = verdictOf SheetVerdict.PacketBits SheetVerdict.Refused (sizeFrom packet (treeSheetFields t) 0) (sheetJudged t s)
+
+abbrev pub treeBodyPart : Tree → Format → Format
+treeBodyPart Segment f = bodyPart f
+treeBodyPart Journey f = journeyBodyPart f

@@ -1,0 +1,3 @@
+-- The laws of the module size.
+pub mod Bytes
+pub mod Nibbles

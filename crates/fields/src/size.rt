@@ -1,0 +1,246 @@
+// How many bytes a packet's value has in the sheet, by the kind of its field: 0 where the value is refused.
+ghost use mathlib.Core.Path.{_≡_};
+ghost use Prim.Native.Nat.{_<_};
+ghost use lib.ListN.{length};
+ghost use Rattle.numbers.specs.Numbers.{groupsIn};
+ghost use Rattle.kinds.specs.Kinds.{digits, nidOperational, speed, ncCdDiff, class, dLocation, mVoltage, mostTraction, nidCTraction, mCurrent, dEndAfter, noCurrent};
+ghost use Rattle.kinds.specs.Judged.{valueInPacket};
+ghost use Rattle.kinds.specs.Rules.{meaning};
+ghost use Rattle.fields.specs.size.Counts.{bytesOf, BytesIn, mostClass};
+use kinds::LOCATION;
+use kinds::OUT_OF_RANGE;
+use kinds::Rule;
+use kinds::body;
+
+// Of a number below 16,384.
+pub fn short(v: u32) -> u32
+    requires { ⌜ v < 16384 ⌝ }
+    ensures { λ r. ⌜ r ≡ length (groupsIn v) ⌝ }
+{
+    if v < 128 {
+        return 1;
+    }
+    2
+}
+
+// Of a field whose largest value is below 128.
+pub fn one(largest: u32, v: u32) -> u32
+    requires { ⌜ largest < 128 ⌝ }
+    ensures { λ r. ⌜ BytesIn 0 largest v r ⌝ }
+{
+    if largest < v {
+        return 0;
+    }
+    1
+}
+
+pub fn within(least: u32, largest: u32, v: u32) -> u32
+    ensures { λ r. ⌜ BytesIn least largest v r ⌝ }
+{
+    if v < least {
+        return 0;
+    }
+    if largest < v {
+        return 0;
+    }
+    numbers::write::groups(v)
+}
+
+pub fn location(last: u32, lsp: u32, v: u32) -> u32
+    ensures { λ r. ⌜ r ≡ bytesOf (valueInPacket (dLocation last lsp) v) ⌝ }
+{
+    if v <= last {
+        return 0;
+    }
+    if lsp <= v {
+        return 0;
+    }
+    numbers::write::groups(v)
+}
+
+// From 26 steps on a speed is 128 or more.
+pub fn speed(v: u32) -> u32
+    ensures { λ r. ⌜ r ≡ bytesOf (valueInPacket speed v) ⌝ }
+{
+    if body::VStatic::LARGEST < v {
+        return 0;
+    }
+    if v < 26 {
+        return 1;
+    }
+    2
+}
+
+// The first two figures are below 128.
+fn cant(v: u32) -> u32
+    ensures { λ r. ⌜ r ≡ bytesOf (valueInPacket ncCdDiff v) ⌝ }
+{
+    if body::NcCdDiff::LARGEST < v {
+        return 0;
+    }
+    if v < 2 {
+        return 1;
+    }
+    2
+}
+
+// The largest class, by its Q_DIFF.
+fn most_class(q: u32) -> u32
+    ensures { λ r. ⌜ r ≡ mostClass q ⌝ }
+{
+    if q == 0 {
+        return body::NcCdDiff::LARGEST;
+    }
+    body::NcDiff::LARGEST
+}
+
+// By its Q_DIFF, with no branch on it, which goes up and down from entry to entry.
+pub fn class(q: u32, v: u32) -> u32
+    ensures { λ r. ⌜ r ≡ bytesOf (valueInPacket (class q) v) ⌝ }
+{
+    if most_class(q) < v {
+        return 0;
+    }
+    1 + (q == 0) as u32 * (2 <= v) as u32
+}
+
+// 25,000 alone is 16,384 or more, and 0 below 128.
+pub fn volts(v: u32) -> u32
+    ensures { λ r. ⌜ r ≡ bytesOf (valueInPacket mVoltage v) ⌝ }
+{
+    if body::MVoltage::LARGEST < v {
+        return 0;
+    }
+    if v == 0 {
+        return 1;
+    }
+    if v == 1 {
+        return 3;
+    }
+    2
+}
+
+// The largest NID_CTRACTION, by its voltage.
+fn most_traction(voltage: u32) -> u32
+    ensures { λ r. ⌜ r ≡ mostTraction voltage ⌝ }
+{
+    if voltage == 0 {
+        return 0;
+    }
+    body::NidCTraction::LARGEST
+}
+
+pub fn traction(voltage: u32, v: u32) -> u32
+    ensures { λ r. ⌜ r ≡ bytesOf (valueInPacket (nidCTraction voltage) v) ⌝ }
+{
+    if most_traction(voltage) < v {
+        return 0;
+    }
+    short(v)
+}
+
+pub fn current(v: u32) -> u32
+    ensures { λ r. ⌜ r ≡ bytesOf (valueInPacket mCurrent v) ⌝ }
+{
+    if v == body::MCurrent::NO_LIMIT {
+        return 1;
+    }
+    if body::MCurrent::HIGHEST < v {
+        return 0;
+    }
+    numbers::write::groups(v * body::MCurrent::STEP + 1)
+}
+
+// The end of a temporary constraint, after its start.
+pub fn after(start: u32, v: u32) -> u32
+    ensures { λ r. ⌜ r ≡ bytesOf (valueInPacket (dEndAfter start) v) ⌝ }
+{
+    if v <= start {
+        return 0;
+    }
+    if body::DLocation::LARGEST < v {
+        return 0;
+    }
+    numbers::write::groups(v)
+}
+
+// No current, which the sheet has as 0.
+pub fn no_current(v: u32) -> u32
+    ensures { λ r. ⌜ r ≡ bytesOf (valueInPacket noCurrent v) ⌝ }
+{
+    if v == body::MCurrent::NO_LIMIT {
+        return 1;
+    }
+    0
+}
+
+// Whether each of the eight digits is 0 to 9 or F: where the top bit of one is set, its other bits are 0, 1 or 7.
+pub fn digits_good(v: u32) -> bool
+    ensures { λ r. ⌜ r ≡ digits 8 v ⌝ }
+{
+    let low = v & 0x77777777;
+    v & (low + 0x66666666) & 0x88888888 == v & (low + 0x11111111) & 0x88888888
+}
+
+pub fn operational(v: u32) -> u32
+    ensures { λ r. ⌜ r ≡ bytesOf (valueInPacket nidOperational v) ⌝ }
+{
+    let good = digits_good(v);
+    if good {
+        return numbers::write::groups(v);
+    }
+    0
+}
+
+pub fn by(rule: Rule, v: u32) -> u32
+    ensures { λ r. ⌜ r ≡ bytesOf (valueInPacket (meaning rule) v) ⌝ }
+{
+    match rule {
+        Rule::Range {
+            width: _,
+            least,
+            largest,
+            refusal: _,
+        } => within(least, largest, v),
+        Rule::Location { last, lsp } => location(last, lsp, v),
+        Rule::Operational => operational(v),
+        Rule::Speed => speed(v),
+        Rule::Current => current(v),
+        Rule::Cant => cant(v),
+        Rule::Volts => volts(v),
+        Rule::After { start } => after(start, v),
+        Rule::NoCurrent => no_current(v),
+    }
+}
+
+// 5 for an end that is not after its start, and 4 for one of more than 24 bits.
+fn after_refusal(v: u32) -> u32
+    ensures { λ r. ⌜ r ≡ dEndAfter 0 .refusal v ⌝ }
+{
+    if body::DLocation::LARGEST < v {
+        return OUT_OF_RANGE;
+    }
+    LOCATION
+}
+
+// The refusal of a value that is not allowed.
+pub fn refusal(rule: Rule, v: u32) -> u32
+    ensures { λ r. ⌜ r ≡ meaning rule .refusal v ⌝ }
+{
+    match rule {
+        Rule::Range {
+            width: _,
+            least: _,
+            largest: _,
+            refusal,
+        } => refusal,
+        Rule::Location { last: _, lsp: _ } => LOCATION,
+        Rule::Operational => OUT_OF_RANGE,
+        Rule::Speed => OUT_OF_RANGE,
+        Rule::Current => OUT_OF_RANGE,
+        Rule::Cant => OUT_OF_RANGE,
+        Rule::Volts => OUT_OF_RANGE,
+        Rule::After { start: _ } => after_refusal(v),
+        Rule::NoCurrent => OUT_OF_RANGE,
+    }
+}

@@ -1,4 +1,0 @@
-pub mod Alone
-pub mod Rows
-pub mod Pieces
-pub mod Three

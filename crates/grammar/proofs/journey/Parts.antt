@@ -1,0 +1,38 @@
+-- The parts of a journey's tree are rows of fields, and each row's largest values fit its widths.
+-- Assumes nothing.
+use mathlib.Core.Path.{_≡_, refl}
+use mathlib.Core.Bool.{true}
+use Prim.Native.Nat.{ℕ}
+use lib.Dec.{eqb}
+use Rattle.bits.proofs.Tests.{by-cases}
+use Rattle.kinds.specs.Kinds.{nidOperational, nIter}
+use Rattle.format.specs.Format.{Format, field, then}
+use Rattle.grammar.specs.segment.Segment.{header}
+use Rattle.grammar.specs.rows.Rows.{row, fits}
+use Rattle.kinds.specs.journey.Kinds.{qStopSkipPasses}
+use Rattle.grammar.specs.journey.Journey.{timingPoint, journeySegment}
+use Rattle.grammar.specs.journey.Parts.{headerWidths, headerMost, segmentWidths, segmentMost, arrivalWidths, arrivalMost, stoppingWidths, stoppingMost, segmentRest}
+
+pub header-rows : (f : Format) → header f ≡ then nidOperational (row headerWidths headerMost f)
+unfolding row
+header-rows f = refl
+
+pub segment-rows : (limit : ℕ) (f : Format) → journeySegment limit f ≡ row segmentWidths segmentMost (field (nIter 31) λ n. segmentRest limit n f)
+unfolding row
+segment-rows limit f = refl
+
+pub point-rows : (f : Format) → timingPoint f ≡ row arrivalWidths arrivalMost (field qStopSkipPasses λ stop. row stoppingWidths (stoppingMost stop) f)
+unfolding row
+point-rows f = refl
+
+pub header-fits : fits headerWidths headerMost ≡ true
+header-fits = refl
+
+pub segment-fits : fits segmentWidths segmentMost ≡ true
+segment-fits = refl
+
+pub arrival-fits : fits arrivalWidths arrivalMost ≡ true
+arrival-fits = refl
+
+pub stopping-fits : (stop : ℕ) → fits stoppingWidths (stoppingMost stop) ≡ true
+stopping-fits stop = by-cases (eqb stop 2) (λ e. rw e) (λ e. rw e)

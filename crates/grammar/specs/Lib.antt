@@ -1,0 +1,4 @@
+pub mod journey
+pub mod link
+pub mod rows
+pub mod segment

@@ -1,0 +1,3 @@
+-- The definitions of the module journey.
+pub mod Journey
+pub mod Parts

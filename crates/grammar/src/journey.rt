@@ -1,0 +1,153 @@
+// The tree of a journey is definitions; the code has the tables of its rows of fields, and the most temporary constraints.
+ghost use mathlib.Core.Path.{_≡_};
+ghost use Rattle.grammar.specs.journey.Parts.{headerWidths, headerMost, segmentWidths, segmentMost, arrivalWidths, arrivalMost, stoppingWidths, stoppingMost};
+use kinds::body::MSpVersion;
+use kinds::body::NidC;
+use kinds::body::NidSp;
+use kinds::header::NPacketCounter;
+use kinds::header::NidEngine;
+use kinds::header::TTimestampDate;
+use kinds::header::TTimestampSeconds;
+use kinds::journey::NidTp;
+use kinds::journey::QAutomaticClosing;
+use kinds::journey::QCentralisedOpening;
+use kinds::journey::QDayLightSaving;
+use kinds::journey::QOpeningDoorSide;
+use kinds::journey::QRelaxedCoupler;
+use kinds::journey::QSpDir;
+use kinds::journey::QStopSkipPasses;
+use kinds::journey::QTpAlignment;
+use kinds::journey::QTpInformation;
+use kinds::journey::QTrainHold;
+use kinds::journey::TArrivalWindow;
+use kinds::journey::TDepartureDate;
+use kinds::journey::TDepartureSeconds;
+use kinds::journey::TLatestArrivalDate;
+use kinds::journey::TLatestArrivalSeconds;
+use kinds::journey::TMinimumDwellTime;
+
+// "up to 31 constraints per segment".
+pub const CONSTRAINTS: u32 = 31;
+
+// NID_ENGINE to N_PACKET_COUNTER: their widths, and their largest values.
+pub fn header_widths() -> [u32; 4]
+    ensures { λ r. ⌜ r ≡ headerWidths ⌝ }
+{
+    [
+        NidEngine::WIDTH,
+        TTimestampDate::WIDTH,
+        TTimestampSeconds::WIDTH,
+        NPacketCounter::WIDTH,
+    ]
+}
+
+pub fn header_most() -> [u32; 4]
+    ensures { λ r. ⌜ r ≡ headerMost ⌝ }
+{
+    [
+        NidEngine::LARGEST,
+        TTimestampDate::LARGEST,
+        TTimestampSeconds::LARGEST,
+        NPacketCounter::LARGEST,
+    ]
+}
+
+// NID_C to Q_SP_DIR.
+pub fn segment_widths() -> [u32; 5]
+    ensures { λ r. ⌜ r ≡ segmentWidths ⌝ }
+{
+    [
+        NidC::WIDTH,
+        NidSp::WIDTH,
+        MSpVersion::WIDTH,
+        MSpVersion::WIDTH,
+        QSpDir::WIDTH,
+    ]
+}
+
+pub fn segment_most() -> [u32; 5]
+    ensures { λ r. ⌜ r ≡ segmentMost ⌝ }
+{
+    [
+        NidC::LARGEST,
+        NidSp::LARGEST,
+        MSpVersion::LARGEST,
+        MSpVersion::LARGEST,
+        QSpDir::LARGEST,
+    ]
+}
+
+// NID_TP to Q_TP_Alignment.
+pub fn arrival_widths() -> [u32; 5]
+    ensures { λ r. ⌜ r ≡ arrivalWidths ⌝ }
+{
+    [
+        NidTp::WIDTH,
+        TLatestArrivalDate::WIDTH,
+        TLatestArrivalSeconds::WIDTH,
+        TArrivalWindow::WIDTH,
+        QTpAlignment::WIDTH,
+    ]
+}
+
+pub fn arrival_most() -> [u32; 5]
+    ensures { λ r. ⌜ r ≡ arrivalMost ⌝ }
+{
+    [
+        NidTp::LARGEST,
+        TLatestArrivalDate::LARGEST,
+        TLatestArrivalSeconds::LARGEST,
+        TArrivalWindow::LARGEST,
+        QTpAlignment::LARGEST,
+    ]
+}
+
+// Q_TP_Information to Q_Automatic_Closing.
+pub fn stopping_widths() -> [u32; 10]
+    ensures { λ r. ⌜ r ≡ stoppingWidths ⌝ }
+{
+    [
+        QTpInformation::WIDTH,
+        QDayLightSaving::WIDTH,
+        QOpeningDoorSide::WIDTH,
+        QCentralisedOpening::WIDTH,
+        QRelaxedCoupler::WIDTH,
+        QTrainHold::WIDTH,
+        TDepartureDate::WIDTH,
+        TDepartureSeconds::WIDTH,
+        TMinimumDwellTime::WIDTH,
+        QAutomaticClosing::WIDTH,
+    ]
+}
+
+// At a passing point the last eight are 0.
+pub fn stopping_most(stop: u32) -> [u32; 10]
+    ensures { λ r. ⌜ r ≡ stoppingMost stop ⌝ }
+{
+    if stop == QStopSkipPasses::PASSING {
+        return [
+            QTpInformation::LARGEST,
+            QDayLightSaving::LARGEST,
+            0,
+            0,
+            0,
+            0,
+            0,
+            0,
+            0,
+            0,
+        ];
+    }
+    [
+        QTpInformation::LARGEST,
+        QDayLightSaving::LARGEST,
+        QOpeningDoorSide::LARGEST,
+        QCentralisedOpening::LARGEST,
+        QRelaxedCoupler::LARGEST,
+        QTrainHold::LARGEST,
+        TDepartureDate::LARGEST,
+        TDepartureSeconds::LARGEST,
+        TMinimumDwellTime::LARGEST,
+        QAutomaticClosing::LARGEST,
+    ]
+}

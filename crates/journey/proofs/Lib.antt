@@ -1,4 +1,0 @@
-pub mod Parts
-pub mod Tree
-pub mod Weighed
-pub mod Ends

@@ -1,2 +1,0 @@
-pub mod Journey
-pub mod Parts

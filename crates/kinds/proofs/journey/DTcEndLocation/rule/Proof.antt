@@ -1,0 +1,22 @@
+-- `journey_kinds::DTcEndLocation::rule` meets its contract.
+use mathlib.Core.Path.{ap, _∙_}
+use Rattle.kinds.specs.Kind.{upTo}
+use borrow.Author.Tests.{ne-eqb}
+use borrow.Author.Needs.{needs}
+use Rattle.kinds.proofs.journey.DTcEndLocation.rule.Statement.{statement}
+use Rattle.kinds.proofs.journey.DTcEndLocation.rule.Tie as tie
+
+returns : tie.Need-returns
+returns c = rw (c .if1 .taken)
+
+most-requires : tie.Need-most-requires
+most-requires c κs = search needs
+
+up-to-requires : tie.Need-up-to-requires
+up-to-requires c κs = search needs
+
+returns-2 : tie.Need-returns-2
+returns-2 c = rw (ne-eqb (c .before .before .before .args .range) 2 (c .before .before .if1 .left)) (c .up-to .ensures ∙ ap (upTo 24) (c .before .most .ensures))
+
+pub rule-spec : {M : Type 1} → statement M
+rule-spec = tie.close (tie.spec returns most-requires up-to-requires returns-2)

@@ -1,3 +1,0 @@
-pub mod Link
-pub mod Trees
-pub mod Grounds

@@ -1,0 +1,2 @@
+-- The laws of the module accepted.
+pub mod Groups

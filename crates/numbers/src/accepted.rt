@@ -1,0 +1,64 @@
+// A number of an accepted sheet, read. Its form and its size are not judged again.
+ghost use mathlib.Core.Path.{_≡_};
+ghost use Rattle.numbers.specs.accepted.Accepted.{There, Single, Reads};
+
+// A number, and the place after it.
+pub struct Taken {
+    pub value: u32,
+    pub next: usize,
+}
+
+fn wide(x: u8) -> u32
+    ensures { λ r. ⌜ r ≡ x ⌝ }
+{
+    x as u32
+}
+
+// The number at the byte from, of one group: the place after it waits for no byte.
+pub fn single(s: &[u8], from: usize) -> Taken
+    requires { ⌜ Single (now s) from ⌝ }
+    ensures { λ r. ⌜ Reads (now (s .entry)) from r ⌝ }
+{
+    Taken {
+        value: wide(s[from]),
+        next: from + 1,
+    }
+}
+
+// The number at the byte from, group by group.
+fn longer(s: &[u8], from: usize) -> Taken
+    requires { ⌜ There (now s) from ⌝ }
+    ensures { λ r. ⌜ Reads (now (s .entry)) from r ⌝ }
+{
+    let mut at = from;
+    let mut value: u32 = 0;
+    let mut scale: u32 = 1;
+    let mut b = wide(s[at]);
+    while 128 <= b {
+        value += (b - 128) * scale;
+        scale *= 128;
+        at += 1;
+        b = wide(s[at]);
+    }
+    Taken {
+        value: value + b * scale,
+        next: at + 1,
+    }
+}
+
+// The number at the byte from: mostly of one group or two, which no branch tells apart.
+pub fn number(s: &[u8], from: usize) -> Taken
+    requires { ⌜ There (now s) from ⌝ }
+    ensures { λ r. ⌜ Reads (now (s .entry)) from r ⌝ }
+{
+    let b = wide(s[from]);
+    let more = b / 128;
+    let last = wide(s[from + more as usize]);
+    if last < 128 {
+        return Taken {
+            value: b % 128 + last * (more * 128),
+            next: from + 1 + more as usize,
+        };
+    }
+    longer(s, from)
+}

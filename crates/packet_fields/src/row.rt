@@ -1,0 +1,30 @@
+// Fields in a row judged at a place of a packet, with the bytes of their sheet counted. Nothing is written.
+ghost use mathlib.Core.Path.{_≡_};
+ghost use mathlib.Core.Bool.{true};
+ghost use Rattle.grammar.specs.rows.Rows as rows;
+ghost use Rattle.grammar.specs.rows.Rows.{fits};
+ghost use Rattle.packet_fields.specs.Judging.{Standing, Over};
+use crate::Step;
+
+// The fields field by field, each from 0 to its largest value.
+pub fn row(s: &[u8], stop: usize, at: usize, n: usize, widths: &[u32], most: &[u32]) -> Step
+    requires { ⌜ Standing (now s) stop at n × (fits (now widths) (now most) ≡ true) ⌝ }
+    ensures { λ r. ⌜ Over (rows.row (now (widths .entry)) (now (most .entry))) (now (s .entry)) stop at n r ⌝ }
+{
+    let mut to = at;
+    let mut m = n;
+    let mut i = 0;
+    while i < widths.len() {
+        match crate::plain(s, stop, to, m, kinds::up_to(widths[i], most[i])) {
+            Step::Refused(r, place) => {
+                return Step::Refused(r, place);
+            }
+            Step::On(a, b) => {
+                to = a;
+                m = b;
+                i += 1;
+            }
+        }
+    }
+    Step::On(to, m)
+}

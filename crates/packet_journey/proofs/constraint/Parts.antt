@@ -1,0 +1,18 @@
+-- What follows a temporary constraint's start, and its kinds that depend on the range or the type: they have a width that a field can have.
+-- Assumes nothing.
+use Prim.Native.Nat.{ℕ}
+use lib.Dec.{lit≤}
+use Rattle.format.specs.Format.{Format, then}
+use Rattle.kinds.specs.journey.Kinds.{dTcEndLocation, vSpeedLevel}
+use Rattle.grammar.proofs.journey.Tree.{by-range, by-type}
+use Rattle.packet_fields.specs.Judging.{Wide}
+
+-- what follows the start
+abbrev pub afterStart : ℕ → ℕ → Format → Format
+afterStart range start f = then (dTcEndLocation range start) f
+
+pub end-wide : (range start : ℕ) → Wide (dTcEndLocation range start)
+end-wide range start = by-range Wide range start (record { some = lit≤ tt; most = lit≤ tt }) (record { some = lit≤ tt; most = lit≤ tt })
+
+pub level-wide : (type : ℕ) → Wide (vSpeedLevel type)
+level-wide type = by-type Wide type (record { some = lit≤ tt; most = lit≤ tt }) (record { some = lit≤ tt; most = lit≤ tt })

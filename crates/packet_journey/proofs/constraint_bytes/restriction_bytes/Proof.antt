@@ -1,0 +1,27 @@
+-- `constraint_bytes::restriction_bytes` meets its contract.
+use Rattle.packet_journey.proofs.constraint_bytes.Values.{current-none, other-none, other-some}
+use borrow.Author.Needs.{needs}
+use Rattle.packet_journey.proofs.constraint_bytes.restriction_bytes.Statement.{statement}
+use Rattle.packet_journey.proofs.constraint_bytes.restriction_bytes.Tie as tie
+
+returns : tie.Need-returns
+returns c = let a = c .before .args in current-none (a .t) (a .of) (c .if1 .taken)
+
+speed-bytes-requires : tie.Need-speed-bytes-requires
+speed-bytes-requires c κs = search needs
+
+returns-2 : tie.Need-returns-2
+returns-2 c = rw (c .before .if2 .taken) (c .speed-bytes .ensures)
+
+most-requires : tie.Need-most-requires
+most-requires c κs = search needs
+
+returns-3 : tie.Need-returns-3
+returns-3 c = let b = c .before .before .before .before in other-none (b .args .t) (b .args .of) (c .before .before .if2 .left) (b .pre) (rw (c .before .most .ensures) at (c .if3 .taken))
+
+returns-4 : tie.Need-returns-4
+returns-4 c = let a = c .before .before .before .before .args in other-some (a .t) (a .of) (c .before .before .if2 .left) (c .before .before .before .if1 .left) (rw (c .before .most .ensures) at (c .if3 .left))
+
+pub restriction-bytes-spec : {M : Type 1} → statement M
+restriction-bytes-spec =
+    tie.close (tie.spec returns speed-bytes-requires returns-2 most-requires returns-3 returns-4)

@@ -1,0 +1,30 @@
+-- `judge_journey::constraint_list` meets its contract.
+use Rattle.format.specs.Format.{times}
+use Rattle.format.proofs.Ways.{value-on, value-off}
+use Rattle.grammar.specs.journey.Journey.{temporaryConstraint}
+use borrow.Author.Needs.{needs}
+use Rattle.packet_journey.proofs.constraint_list.Statement.{statement}
+use Rattle.packet_journey.proofs.constraint_list.Tie as tie
+
+count-requires : tie.Need-count-requires
+count-requires c κs = search needs
+
+enum-known-r : tie.Need-enum-known-r
+enum-known-r c = search needs
+
+enum-known-count : tie.Need-enum-known-count
+enum-known-count c = search needs
+
+constraints-requires : tie.Need-constraints-requires
+constraints-requires c κs = (rw (c .before .count2 .given .1) at (c .before .before .before .count .ensures)) .stands
+
+returns : tie.Need-returns
+returns c = value-off (times temporaryConstraint) (rw (c .before .r .given .1) at (c .before .before .before .count .ensures))
+
+returns-2 : tie.Need-returns-2
+returns-2 c = value-on (times temporaryConstraint) (rw (c .before .before .count2 .given .1) at (c .before .before .before .before .count .ensures)) (c .constraints .ensures)
+
+pub constraint-list-spec : {M : Type 1} → statement M
+constraint-list-spec =
+    tie.close
+    (tie.spec count-requires enum-known-r enum-known-count constraints-requires returns returns-2)

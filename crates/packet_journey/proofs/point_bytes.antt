@@ -1,0 +1,3 @@
+-- The laws of the module point_bytes.
+pub mod Held
+pub mod Values

@@ -1,0 +1,3 @@
+pub mod Head
+pub mod constraint_bytes
+pub mod point_bytes

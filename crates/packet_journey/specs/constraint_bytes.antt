@@ -1,0 +1,2 @@
+-- The definitions of the module constraint_bytes.
+pub mod Bytes

@@ -1,0 +1,2 @@
+-- The definitions of the module point_bytes.
+pub mod Windows

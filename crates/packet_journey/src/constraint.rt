@@ -1,0 +1,125 @@
+// A journey's temporary constraints judged, with the bytes of their sheet counted. Nothing is written.
+ghost use Prim.Native.Nat.{_-_, _≤_};
+ghost use Rattle.format.specs.Format.{times};
+ghost use Rattle.grammar.specs.journey.Journey as journey;
+ghost use Rattle.grammar.specs.journey.Journey.{temporaryConstraint};
+ghost use Rattle.packet_fields.specs.Judging.{Standing, Over};
+use kinds::Rule;
+use kinds::journey::DTcEndLocation;
+use kinds::journey::DTcStartLocation;
+use kinds::journey::QLowAdhesionRate;
+use kinds::journey::QTcFront;
+use kinds::journey::QTcRange;
+use kinds::journey::QTcType;
+use kinds::journey::VSpeedLevel;
+use packet_fields::Next;
+use packet_fields::Step;
+
+// The start and the end, by the range.
+fn stretch(s: &[u8], stop: usize, at: usize, n: usize, range: u32) -> Step
+    requires { ⌜ Standing (now s) stop at n ⌝ }
+    ensures { λ r. ⌜ Over (journey.stretch range) (now (s .entry)) stop at n r ⌝ }
+{
+    match packet_fields::field(s, stop, at, n, DTcStartLocation::rule(range)) {
+        Next::Refused(r, place) => Step::Refused(r, place),
+        Next::Is(start, at2, n2) => {
+            packet_fields::plain(s, stop, at2, n2, DTcEndLocation::rule(range, start))
+        }
+    }
+}
+
+// Q_FRONT to the current, by the type.
+fn restriction(s: &[u8], stop: usize, at: usize, n: usize, of: u32) -> Step
+    requires { ⌜ Standing (now s) stop at n ⌝ }
+    ensures { λ r. ⌜ Over (journey.restriction of) (now (s .entry)) stop at n r ⌝ }
+{
+    match packet_fields::plain(s, stop, at, n, QTcFront::rule(of)) {
+        Step::Refused(r, place) => Step::Refused(r, place),
+        Step::On(at2, n2) => match packet_fields::plain(s, stop, at2, n2, VSpeedLevel::rule(of)) {
+            Step::Refused(r, place) => Step::Refused(r, place),
+            Step::On(at3, n3) => {
+                match packet_fields::plain(s, stop, at3, n3, QLowAdhesionRate::rule(of)) {
+                    Step::Refused(r, place) => Step::Refused(r, place),
+                    Step::On(at4, n4) => packet_fields::plain(s, stop, at4, n4, Rule::NoCurrent),
+                }
+            }
+        },
+    }
+}
+
+// A constraint field by field.
+fn cut_constraint(s: &[u8], stop: usize, at: usize, n: usize) -> Step
+    requires { ⌜ Standing (now s) stop at n ⌝ }
+    ensures { λ r. ⌜ Over temporaryConstraint (now (s .entry)) stop at n r ⌝ }
+{
+    match packet_fields::field(s, stop, at, n, QTcType::rule()) {
+        Next::Refused(r, place) => Step::Refused(r, place),
+        Next::Is(of, at2, n2) => match packet_fields::field(s, stop, at2, n2, QTcRange::rule()) {
+            Next::Refused(r, place) => Step::Refused(r, place),
+            Next::Is(range, at3, n3) => match stretch(s, stop, at3, n3, range) {
+                Step::Refused(r, place) => Step::Refused(r, place),
+                Step::On(at4, n4) => restriction(s, stop, at4, n4, of),
+            },
+        },
+    }
+}
+
+// Where the end and Q_FRONT start in a constraint, and its bits.
+const END: usize = 28;
+
+const FRONT: usize = 52;
+
+const CONSTRAINT: usize = 73;
+
+// The same where its bits are all there: they are read at once, and a refusal is told field by field.
+fn whole_constraint(s: &[u8], stop: usize, at: usize, n: usize) -> Step
+    requires { ⌜ Standing (now s) stop at n × (73 ≤ stop - at) ⌝ }
+    ensures { λ r. ⌜ Over temporaryConstraint (now (s .entry)) stop at n r ⌝ }
+{
+    let t = bits::read_window(s, at, 28);
+    let end = bits::read_window(s, at + END, DTcEndLocation::WIDTH);
+    let stretch = crate::constraint_bytes::stretch_bytes(t / 16777216 % 4, t % 16777216, end);
+    if stretch == 0 {
+        return cut_constraint(s, stop, at, n);
+    }
+    let uses = bits::read_window(s, at + FRONT, 21);
+    let restriction = crate::constraint_bytes::restriction_bytes(t / 67108864, uses);
+    if restriction == 0 {
+        return cut_constraint(s, stop, at, n);
+    }
+    Step::On(at + CONSTRAINT, n + (stretch + restriction + 2) as usize)
+}
+
+// A temporary constraint.
+fn constraint(s: &[u8], stop: usize, at: usize, n: usize) -> Step
+    requires { ⌜ Standing (now s) stop at n ⌝ }
+    ensures { λ r. ⌜ Over temporaryConstraint (now (s .entry)) stop at n r ⌝ }
+{
+    if stop - at < CONSTRAINT {
+        return cut_constraint(s, stop, at, n);
+    }
+    whole_constraint(s, stop, at, n)
+}
+
+// The temporary constraints of a segment.
+pub fn constraints(s: &[u8], stop: usize, at: usize, n: usize, count: u32) -> Step
+    requires { ⌜ Standing (now s) stop at n ⌝ }
+    ensures { λ r. ⌜ Over (times temporaryConstraint count) (now (s .entry)) stop at n r ⌝ }
+{
+    let mut to = at;
+    let mut m = n;
+    let mut left = count;
+    while 0 < left {
+        match constraint(s, stop, to, m) {
+            Step::Refused(r, place) => {
+                return Step::Refused(r, place);
+            }
+            Step::On(a, b) => {
+                to = a;
+                m = b;
+                left -= 1;
+            }
+        }
+    }
+    Step::On(to, m)
+}

@@ -1,0 +1,136 @@
+// A journey's fields judged, with the bytes of their sheet counted. Nothing is written.
+pub mod constraint;
+pub mod constraint_bytes;
+pub mod point;
+pub mod point_bytes;
+
+ghost use Prim.Native.Nat.{_-_, _≤_};
+ghost use Rattle.format.specs.Format.{times};
+ghost use Rattle.grammar.specs.journey.Journey.{journeySegment, constraints};
+ghost use Rattle.grammar.specs.journey.Parts.{constraintList, journeyBodyPart, journeyPart};
+ghost use Rattle.packet_fields.specs.Judging.{Standing, Over, Gave};
+ghost use Rattle.packet_journey.specs.Head.{segmentHead};
+use grammar::journey::CONSTRAINTS;
+use kinds::body;
+use kinds::journey::NIterSp;
+use kinds::journey::QJpStatus;
+use packet_fields::Next;
+use packet_fields::Step;
+
+// NID_C to Q_SP_DIR field by field, and the count of the timing points.
+fn cut_head(s: &[u8], stop: usize, at: usize, n: usize) -> Next
+    requires { ⌜ Standing (now s) stop at n ⌝ }
+    ensures { λ r. ⌜ Gave segmentHead (now (s .entry)) stop at n r ⌝ }
+{
+    let widths = grammar::journey::segment_widths();
+    let most = grammar::journey::segment_most();
+    match packet_fields::row::row(s, stop, at, n, &widths, &most) {
+        Step::Refused(r, place) => Next::Refused(r, place),
+        Step::On(at2, n2) => packet_fields::count(s, stop, at2, n2, body::NIter::LARGEST),
+    }
+}
+
+// Where NID_SP and the two versions start in a segment, and the bits up to its timing points.
+const IDENTITY: usize = 10;
+
+const VERSIONS: usize = 42;
+
+const HEAD: usize = 64;
+
+// The same where their bits are all there: none can be refused.
+fn whole_head(s: &[u8], stop: usize, at: usize, n: usize) -> Next
+    requires { ⌜ Standing (now s) stop at n × (64 ≤ stop - at) ⌝ }
+    ensures { λ r. ⌜ Gave segmentHead (now (s .entry)) stop at n r ⌝ }
+{
+    let country = fields::size::short(bits::read_window(s, at, body::NidC::WIDTH));
+    let identity = numbers::write::groups(bits::read_window(s, at + IDENTITY, body::NidSp::WIDTH));
+    let t = bits::read_window(s, at + VERSIONS, 22);
+    let major = fields::size::short(t / 16384);
+    let minor = fields::size::short(t / 64 % 256);
+    let bytes = country + identity + major + minor + 2;
+    Next::Is(t % 32, at + HEAD, n + bytes as usize)
+}
+
+// NID_C to Q_SP_DIR, and the count of the timing points.
+fn segment_head(s: &[u8], stop: usize, at: usize, n: usize) -> Next
+    requires { ⌜ Standing (now s) stop at n ⌝ }
+    ensures { λ r. ⌜ Gave segmentHead (now (s .entry)) stop at n r ⌝ }
+{
+    if stop - at < HEAD {
+        return cut_head(s, stop, at, n);
+    }
+    whole_head(s, stop, at, n)
+}
+
+// The count of the temporary constraints, and the constraints.
+fn constraint_list(s: &[u8], stop: usize, at: usize, n: usize) -> Step
+    requires { ⌜ Standing (now s) stop at n ⌝ }
+    ensures { λ r. ⌜ Over (constraintList constraints) (now (s .entry)) stop at n r ⌝ }
+{
+    match packet_fields::count(s, stop, at, n, CONSTRAINTS) {
+        Next::Refused(r, place) => Step::Refused(r, place),
+        Next::Is(count, at2, n2) => crate::constraint::constraints(s, stop, at2, n2, count),
+    }
+}
+
+// A segment: its head, its timing points, and its temporary constraints.
+fn segment(s: &[u8], stop: usize, at: usize, n: usize) -> Step
+    requires { ⌜ Standing (now s) stop at n ⌝ }
+    ensures { λ r. ⌜ Over (journeySegment constraints) (now (s .entry)) stop at n r ⌝ }
+{
+    match segment_head(s, stop, at, n) {
+        Next::Refused(r, place) => Step::Refused(r, place),
+        Next::Is(count, at2, n2) => match crate::point::points(s, stop, at2, n2, count) {
+            Step::Refused(r, place) => Step::Refused(r, place),
+            Step::On(at3, n3) => constraint_list(s, stop, at3, n3),
+        },
+    }
+}
+
+// The segments of a journey.
+fn segments(s: &[u8], stop: usize, at: usize, n: usize, count: u32) -> Step
+    requires { ⌜ Standing (now s) stop at n ⌝ }
+    ensures { λ r. ⌜ Over (times (journeySegment constraints) count) (now (s .entry)) stop at n r ⌝ }
+{
+    let mut to = at;
+    let mut m = n;
+    let mut left = count;
+    while 0 < left {
+        match segment(s, stop, to, m) {
+            Step::Refused(r, place) => {
+                return Step::Refused(r, place);
+            }
+            Step::On(a, b) => {
+                to = a;
+                m = b;
+                left -= 1;
+            }
+        }
+    }
+    Step::On(to, m)
+}
+
+// Q_JP_Status, and the count of the segments with the segments.
+fn body(s: &[u8], stop: usize, at: usize, n: usize) -> Step
+    requires { ⌜ Standing (now s) stop at n ⌝ }
+    ensures { λ r. ⌜ Over journeyBodyPart (now (s .entry)) stop at n r ⌝ }
+{
+    match packet_fields::plain(s, stop, at, n, QJpStatus::rule()) {
+        Step::Refused(r, place) => Step::Refused(r, place),
+        Step::On(at2, n2) => match packet_fields::field(s, stop, at2, n2, NIterSp::rule()) {
+            Next::Refused(r, place) => Step::Refused(r, place),
+            Next::Is(count, at3, n3) => segments(s, stop, at3, n3, count),
+        },
+    }
+}
+
+// Every field of a journey after L_PACKET_ATO.
+pub fn fields(s: &[u8], stop: usize) -> Step
+    requires { ⌜ Standing (now s) stop 24 1 ⌝ }
+    ensures { λ r. ⌜ Over journeyPart (now (s .entry)) stop 24 1 r ⌝ }
+{
+    match packet_segment::head::header_fields(s, stop) {
+        Step::Refused(r, place) => Step::Refused(r, place),
+        Step::On(at, n) => body(s, stop, at, n),
+    }
+}

@@ -1,0 +1,116 @@
+// A journey's timing points judged, with the bytes of their sheet counted. Nothing is written.
+ghost use Prim.Native.Nat.{_-_, _≤_};
+ghost use Rattle.format.specs.Format.{times};
+ghost use Rattle.grammar.specs.rows.Rows.{row};
+ghost use Rattle.grammar.specs.journey.Journey.{timingPoint};
+ghost use Rattle.grammar.specs.journey.Parts.{arrivalWidths, arrivalMost, stoppingWidths, stoppingMost};
+ghost use Rattle.packet_fields.specs.Judging.{Standing, Over};
+use kinds::journey::NidTp;
+use kinds::journey::QStopSkipPasses;
+use packet_fields::Next;
+use packet_fields::Step;
+
+// NID_TP to Q_TP_Alignment.
+fn arrival(s: &[u8], stop: usize, at: usize, n: usize) -> Step
+    requires { ⌜ Standing (now s) stop at n ⌝ }
+    ensures { λ r. ⌜ Over (row arrivalWidths arrivalMost) (now (s .entry)) stop at n r ⌝ }
+{
+    let widths = grammar::journey::arrival_widths();
+    let most = grammar::journey::arrival_most();
+    packet_fields::row::row(s, stop, at, n, &widths, &most)
+}
+
+// Q_TP_Information to Q_Automatic_Closing, by the kind of the stop.
+fn stopping(s: &[u8], stop: usize, at: usize, n: usize, kind: u32) -> Step
+    requires { ⌜ Standing (now s) stop at n ⌝ }
+    ensures { λ r. ⌜ Over (row stoppingWidths (stoppingMost kind)) (now (s .entry)) stop at n r ⌝ }
+{
+    let widths = grammar::journey::stopping_widths();
+    let most = grammar::journey::stopping_most(kind);
+    packet_fields::row::row(s, stop, at, n, &widths, &most)
+}
+
+// A timing point field by field.
+fn cut_point(s: &[u8], stop: usize, at: usize, n: usize) -> Step
+    requires { ⌜ Standing (now s) stop at n ⌝ }
+    ensures { λ r. ⌜ Over timingPoint (now (s .entry)) stop at n r ⌝ }
+{
+    match arrival(s, stop, at, n) {
+        Step::Refused(r, place) => Step::Refused(r, place),
+        Step::On(at2, n2) => {
+            match packet_fields::field(s, stop, at2, n2, QStopSkipPasses::rule()) {
+                Next::Refused(r, place) => Step::Refused(r, place),
+                Next::Is(kind, at3, n3) => stopping(s, stop, at3, n3, kind),
+            }
+        }
+    }
+}
+
+// Where the latest arrival, T_Arrival_Window, the door side and the departure's seconds start in a point, and its bits.
+const LATEST: usize = 32;
+
+const MARKS: usize = 64;
+
+const DOORS: usize = 81;
+
+const LEAVING: usize = 101;
+
+const POINT: usize = 129;
+
+// The same where its bits are all there: they are read at once, and a refusal is told field by field.
+fn whole_point(s: &[u8], stop: usize, at: usize, n: usize) -> Step
+    requires { ⌜ Standing (now s) stop at n × (129 ≤ stop - at) ⌝ }
+    ensures { λ r. ⌜ Over timingPoint (now (s .entry)) stop at n r ⌝ }
+{
+    let latest = crate::point_bytes::latest_bytes(bits::read_window(s, at + LATEST, 32));
+    if latest == 0 {
+        return cut_point(s, stop, at, n);
+    }
+    let t = bits::read_window(s, at + MARKS, 17);
+    let marks = crate::point_bytes::marks_bytes(t);
+    if marks == 0 {
+        return cut_point(s, stop, at, n);
+    }
+    let doors = bits::read_window(s, at + DOORS, 20);
+    let leaving = bits::read_window(s, at + LEAVING, 28);
+    let eight = crate::point_bytes::eight_bytes(t / 8 % 4, doors, leaving);
+    if eight == 0 {
+        return cut_point(s, stop, at, n);
+    }
+    let name = numbers::write::groups(bits::read_window(s, at, NidTp::WIDTH));
+    Step::On(at + POINT, n + (name + latest + marks + eight) as usize)
+}
+
+// A timing point.
+fn point(s: &[u8], stop: usize, at: usize, n: usize) -> Step
+    requires { ⌜ Standing (now s) stop at n ⌝ }
+    ensures { λ r. ⌜ Over timingPoint (now (s .entry)) stop at n r ⌝ }
+{
+    if stop - at < POINT {
+        return cut_point(s, stop, at, n);
+    }
+    whole_point(s, stop, at, n)
+}
+
+// The timing points of a segment.
+pub fn points(s: &[u8], stop: usize, at: usize, n: usize, count: u32) -> Step
+    requires { ⌜ Standing (now s) stop at n ⌝ }
+    ensures { λ r. ⌜ Over (times timingPoint count) (now (s .entry)) stop at n r ⌝ }
+{
+    let mut to = at;
+    let mut m = n;
+    let mut left = count;
+    while 0 < left {
+        match point(s, stop, to, m) {
+            Step::Refused(r, place) => {
+                return Step::Refused(r, place);
+            }
+            Step::On(a, b) => {
+                to = a;
+                m = b;
+                left -= 1;
+            }
+        }
+    }
+    Step::On(to, m)
+}

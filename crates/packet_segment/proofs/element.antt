@@ -1,0 +1,3 @@
+-- The laws of the module element.
+pub mod Names
+pub mod Windows

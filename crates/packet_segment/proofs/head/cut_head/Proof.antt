@@ -1,0 +1,74 @@
+-- `judge_head::cut_head` meets its contract.
+use lib.Dec.{lit≤}
+use Rattle.grammar.specs.segment.Parts.{runs}
+use Rattle.format.proofs.Ways.{gave-on, gave-off, gave-took, gave-then, gave-stop, gave-none}
+use borrow.Author.Needs.{needs}
+use Rattle.packet_segment.proofs.head.cut_head.Statement.{statement}
+use Rattle.packet_segment.proofs.head.cut_head.Tie as tie
+
+run-requires : tie.Need-run-requires
+run-requires c κs = search needs
+
+enum-known-r : tie.Need-enum-known-r
+enum-known-r c = search needs
+
+enum-known-at2 : tie.Need-enum-known-at2
+enum-known-at2 c = search needs
+
+rule-requires : tie.Need-rule-requires
+rule-requires c κs = search needs
+
+field-requires : tie.Need-field-requires
+field-requires c κs = ((rw (c .before .before .at2 .given .1) at (c .before .before .before .before .run .ensures)) .stands, rw (c .rule .ensures .kind) (record { some = lit≤ tt; most = lit≤ tt }))
+
+enum-known-r-2 : tie.Need-enum-known-r-2
+enum-known-r-2 c = search needs
+
+enum-known-lsp : tie.Need-enum-known-lsp
+enum-known-lsp c = search needs
+
+run-requires-2 : tie.Need-run-requires-2
+run-requires-2 c κs = ((rw (c .before .lsp .given .1) at (c .before .before .before .field .ensures)) .stands, lit≤ tt, lit≤ tt)
+
+enum-known-r-3 : tie.Need-enum-known-r-3
+enum-known-r-3 c = search needs
+
+enum-known-at4 : tie.Need-enum-known-at4
+enum-known-at4 c = search needs
+
+returns : tie.Need-returns
+returns c = gave-off (rw (c .before .r .given .1) at (c .before .before .before .run .ensures))
+
+returns-2 : tie.Need-returns-2
+returns-2 c =
+    gave-on (rw (c .before .before .before .before .before .before .at2 .given .1) at (c .before .before .before .before .before .before .before .before .run .ensures))
+    (gave-none (runs 10 3) (gave-took (rw (c .before .r2 .given .1, c .before .before .before .before .rule .ensures .kind) at (c .before .before .before .field .ensures))))
+
+returns-3 : tie.Need-returns-3
+returns-3 c =
+    gave-on (rw (c .before .before .before .before .before .before .before .before .before .before .at2 .given .1) at (c .before .before .before .before .before .before .before .before .before .before .before .before .run .ensures))
+    (gave-stop (gave-took (rw (c .before .before .before .before .before .lsp .given .1, c .before .before .before .before .before .before .before .before .rule .ensures .kind) at (c .before .before .before .before .before .before .before .field .ensures))) (rw (c .before .r3 .given .1) at (c .before .before .before .run2 .ensures)))
+
+returns-4 : tie.Need-returns-4
+returns-4 c =
+    gave-on (rw (c .before .before .before .before .before .before .before .before .before .before .at2 .given .1) at (c .before .before .before .before .before .before .before .before .before .before .before .before .run .ensures))
+    (gave-then (gave-took (rw (c .before .before .before .before .before .lsp .given .1, c .before .before .before .before .before .before .before .before .rule .ensures .kind) at (c .before .before .before .before .before .before .before .field .ensures))) (rw (c .before .at4 .given .1) at (c .before .before .before .run2 .ensures)))
+
+pub cut-head-spec : {M : Type 1} → statement M
+cut-head-spec =
+    tie.close
+    (tie.spec
+    run-requires
+    enum-known-r
+    enum-known-at2
+    rule-requires
+    field-requires
+    enum-known-r-2
+    enum-known-lsp
+    run-requires-2
+    enum-known-r-3
+    enum-known-at4
+    returns
+    returns-2
+    returns-3
+    returns-4)

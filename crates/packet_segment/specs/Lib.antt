@@ -1,0 +1,2 @@
+pub mod element
+pub mod head

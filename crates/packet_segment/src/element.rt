@@ -1,0 +1,229 @@
+// The elements of a packet's lists judged, with the bytes of their sheet counted. Nothing is written.
+ghost use mathlib.Core.Path.{_≡_};
+ghost use Prim.Native.Nat.{_*_, _-_, _/_, _%_, _≤_, _<_};
+ghost use Rattle.grammar.specs.segment.Segment as segment;
+ghost use Rattle.grammar.specs.segment.Parts as parts;
+ghost use Rattle.grammar.specs.segment.Parts.{startOf};
+ghost use Rattle.packet_fields.specs.Judging.{Standing, Over, Gave};
+ghost use Rattle.packet_segment.specs.element.Profile.{profileHead, nameBytes, pastEntry};
+use grammar::segment::Part;
+use kinds::OUT_OF_RANGE;
+use kinds::body;
+use packet_fields::Next;
+use packet_fields::Step;
+
+// ---- the specific entries
+
+// An entry field by field.
+fn cut_entry(s: &[u8], stop: usize, at: usize, n: usize) -> Step
+    requires { ⌜ Standing (now s) stop at n ⌝ }
+    ensures { λ r. ⌜ Over parts.entry (now (s .entry)) stop at n r ⌝ }
+{
+    match packet_fields::field(s, stop, at, n, body::QDiff::rule()) {
+        Next::Refused(r, place) => Step::Refused(r, place),
+        Next::Is(q, at2, n2) => match packet_fields::plain(s, stop, at2, n2, body::class_at(q)) {
+            Step::Refused(r, place) => Step::Refused(r, place),
+            Step::On(at3, n3) => packet_fields::plain(s, stop, at3, n3, body::VStatic::rule()),
+        },
+    }
+}
+
+// The bits of an entry: Q_DIFF 2, class 4, V_DIFF 7.
+const ENTRY: usize = 13;
+
+// Where the class and V_DIFF stand in an entry, and a number above the bytes of one.
+const CLASS: usize = 2;
+
+const SPEED: usize = 6;
+
+const FAULT: usize = 16;
+
+// The names that an entry may have, Q_DIFF 2 and class 4, a bit for each; and those whose class has two bytes.
+const NAMES: u64 = 0x7000707FF;
+
+const LONG_NAMES: u64 = 0x7FC;
+
+// The bytes of an entry's Q_DIFF and class; 0 where one is refused. No branch depends on Q_DIFF.
+fn name_bytes(name: u32) -> u32
+    requires { ⌜ name < 64 ⌝ }
+    ensures { λ r. ⌜ r ≡ nameBytes (name / 16) (name % 16) ⌝ }
+{
+    if (NAMES >> name) % 2 == 0 {
+        return 0;
+    }
+    2 + ((LONG_NAMES >> name) % 2) as u32
+}
+
+// The bytes of an entry whose bits are all there, read at once; or FAULT and how far on the field stands that is refused.
+fn whole_entry(s: &[u8], stop: usize, at: usize, n: usize) -> usize
+    requires { ⌜ Standing (now s) stop at n × (13 ≤ stop - at) ⌝ }
+    ensures { λ r. ⌜ Over parts.entry (now (s .entry)) stop at n (pastEntry at n r) × (r < 29) ⌝ }
+{
+    let t = bits::read_window(s, at, ENTRY as u32);
+    let name = name_bytes(t / 128);
+    if name == 0 {
+        if t / 2048 <= body::QDiff::LARGEST {
+            return FAULT + CLASS;
+        }
+        return FAULT;
+    }
+    let speed = fields::size::speed(t % 128);
+    if speed == 0 {
+        return FAULT + SPEED;
+    }
+    name as usize + speed as usize
+}
+
+// Entries whose bits are all there.
+fn whole_entries(s: &[u8], stop: usize, at: usize, n: usize, count: u32) -> Step
+    requires { ⌜ Standing (now s) stop at n × (13 * count ≤ stop - at) ⌝ }
+    ensures { λ r. ⌜ Over (segment.entries count) (now (s .entry)) stop at n r ⌝ }
+{
+    let mut to = at;
+    let mut m = n;
+    let mut left = count;
+    while 0 < left {
+        let bytes = whole_entry(s, stop, to, m);
+        if FAULT <= bytes {
+            return Step::Refused(OUT_OF_RANGE, (to + (bytes - FAULT)) as u32);
+        }
+        to += ENTRY;
+        m += bytes;
+        left -= 1;
+    }
+    Step::On(to, m)
+}
+
+// Entries field by field.
+fn cut_entries(s: &[u8], stop: usize, at: usize, n: usize, count: u32) -> Step
+    requires { ⌜ Standing (now s) stop at n ⌝ }
+    ensures { λ r. ⌜ Over (segment.entries count) (now (s .entry)) stop at n r ⌝ }
+{
+    let mut to = at;
+    let mut m = n;
+    let mut left = count;
+    while 0 < left {
+        match cut_entry(s, stop, to, m) {
+            Step::Refused(r, place) => {
+                return Step::Refused(r, place);
+            }
+            Step::On(a, b) => {
+                to = a;
+                m = b;
+                left -= 1;
+            }
+        }
+    }
+    Step::On(to, m)
+}
+
+// The specific entries of an element: whether their bits are all there is asked once.
+fn entries(s: &[u8], stop: usize, at: usize, n: usize, count: u32) -> Step
+    requires { ⌜ Standing (now s) stop at n ⌝ }
+    ensures { λ r. ⌜ Over (segment.entries count) (now (s .entry)) stop at n r ⌝ }
+{
+    if stop - at < ENTRY * count as usize {
+        return cut_entries(s, stop, at, n, count);
+    }
+    whole_entries(s, stop, at, n, count)
+}
+
+// ---- the speed profile
+
+// V_STATIC, Q_FRONT and N_ITER field by field, with the last one's value.
+fn cut_profile(s: &[u8], stop: usize, at: usize, n: usize) -> Next
+    requires { ⌜ Standing (now s) stop at n ⌝ }
+    ensures { λ r. ⌜ Gave profileHead (now (s .entry)) stop at n r ⌝ }
+{
+    match packet_fields::plain(s, stop, at, n, body::VStatic::rule()) {
+        Step::Refused(r, place) => Next::Refused(r, place),
+        Step::On(at2, n2) => match packet_fields::plain(s, stop, at2, n2, body::QFront::rule()) {
+            Step::Refused(r, place) => Next::Refused(r, place),
+            Step::On(at3, n3) => packet_fields::count(s, stop, at3, n3, body::NIter::LARGEST),
+        },
+    }
+}
+
+// The bits of V_STATIC 7, Q_FRONT 1 and N_ITER 5.
+const HEAD: usize = 13;
+
+// The same: where their bits are all there, they are read at once. V_STATIC alone can be refused.
+fn profile_head(s: &[u8], stop: usize, at: usize, n: usize) -> Next
+    requires { ⌜ Standing (now s) stop at n ⌝ }
+    ensures { λ r. ⌜ Gave profileHead (now (s .entry)) stop at n r ⌝ }
+{
+    if stop - at < HEAD {
+        return cut_profile(s, stop, at, n);
+    }
+    let t = bits::read_window(s, at, HEAD as u32);
+    let speed = fields::size::speed(t / 64);
+    if speed == 0 {
+        return Next::Refused(OUT_OF_RANGE, at as u32);
+    }
+    Next::Is(t % 32, at + HEAD, n + speed as usize + 2)
+}
+
+// V_STATIC, Q_FRONT, and the count of the entries with the entries.
+fn profile(s: &[u8], stop: usize, at: usize, n: usize) -> Step
+    requires { ⌜ Standing (now s) stop at n ⌝ }
+    ensures { λ r. ⌜ Over segment.profile (now (s .entry)) stop at n r ⌝ }
+{
+    match profile_head(s, stop, at, n) {
+        Next::Refused(r, place) => Step::Refused(r, place),
+        Next::Is(count, at2, n2) => entries(s, stop, at2, n2, count),
+    }
+}
+
+// ---- the rated voltage
+
+// M_VOLTAGE and NID_CTRACTION field by field.
+fn cut_wire(s: &[u8], stop: usize, at: usize, n: usize) -> Step
+    requires { ⌜ Standing (now s) stop at n ⌝ }
+    ensures { λ r. ⌜ Over segment.voltage (now (s .entry)) stop at n r ⌝ }
+{
+    match packet_fields::field(s, stop, at, n, body::MVoltage::rule()) {
+        Next::Refused(r, place) => Step::Refused(r, place),
+        Next::Is(u, at2, n2) => {
+            packet_fields::plain(s, stop, at2, n2, body::NidCTraction::rule(u))
+        }
+    }
+}
+
+// The bits of M_VOLTAGE 4 and NID_CTRACTION 10.
+const WIRE: usize = 14;
+
+const VOLTAGE: usize = body::MVoltage::WIDTH as usize;
+
+// The same: where their bits are all there, they are read at once.
+fn wire(s: &[u8], stop: usize, at: usize, n: usize) -> Step
+    requires { ⌜ Standing (now s) stop at n ⌝ }
+    ensures { λ r. ⌜ Over segment.voltage (now (s .entry)) stop at n r ⌝ }
+{
+    if stop - at < WIRE {
+        return cut_wire(s, stop, at, n);
+    }
+    let t = bits::read_window(s, at, WIRE as u32);
+    let volts = fields::size::volts(t / 1024);
+    if volts == 0 {
+        return Step::Refused(OUT_OF_RANGE, at as u32);
+    }
+    let traction = fields::size::traction(t / 1024, t % 1024);
+    if traction == 0 {
+        return Step::Refused(OUT_OF_RANGE, (at + VOLTAGE) as u32);
+    }
+    Step::On(at + WIRE, n + volts as usize + traction as usize)
+}
+
+// ---- any of the three
+
+// What an element of a part begins with.
+pub fn element(part: Part, s: &[u8], stop: usize, at: usize, n: usize) -> Step
+    requires { ⌜ Standing (now s) stop at n ⌝ }
+    ensures { λ r. ⌜ Over (startOf part) (now (s .entry)) stop at n r ⌝ }
+{
+    match part {
+        Part::Speeds => profile(s, stop, at, n),
+        Part::Volts => wire(s, stop, at, n),
+        Part::Amperes => packet_fields::current(s, stop, at, n),
+    }
+}

@@ -1,0 +1,29 @@
+-- The rows of a timing point in the three pieces in which they are put.
+-- Assumes nothing.
+use mathlib.Core.Path.{refl}
+use Prim.Native.Nat.{ℕ}
+use lib.Dec.{lit≤, eqb}
+use Rattle.bits.proofs.Tests.{by-cases}
+use Rattle.grammar.specs.rows.Rows.{row}
+use Rattle.packet_write_journey.proofs.row.Three.{Three}
+use Rattle.grammar.specs.journey.Parts.{arrivalWidths, arrivalMost, stoppingWidths, stoppingMost}
+
+pub arrival-pieces : Three arrivalWidths arrivalMost 1 3 5 32 32 12
+unfolding row
+arrival-pieces =
+    record {
+      cuts = λ f. refl;
+      first = record { order = lit≤ tt; inside = lit≤ tt; fit = refl; sum = refl; some = lit≤ tt; most = lit≤ tt };
+      second = record { order = lit≤ tt; inside = lit≤ tt; fit = refl; sum = refl; some = lit≤ tt; most = lit≤ tt };
+      third = record { order = lit≤ tt; inside = lit≤ tt; fit = refl; sum = refl; some = lit≤ tt; most = lit≤ tt };
+    }
+
+pub stopping-pieces : (stop : ℕ) → Three stoppingWidths (stoppingMost stop) 6 8 10 8 32 11
+unfolding row
+stopping-pieces stop =
+    record {
+      cuts = λ f. refl;
+      first = record { order = lit≤ tt; inside = lit≤ tt; fit = by-cases (eqb stop 2) (λ e. rw e) (λ e. rw e); sum = refl; some = lit≤ tt; most = lit≤ tt };
+      second = record { order = lit≤ tt; inside = lit≤ tt; fit = by-cases (eqb stop 2) (λ e. rw e) (λ e. rw e); sum = refl; some = lit≤ tt; most = lit≤ tt };
+      third = record { order = lit≤ tt; inside = lit≤ tt; fit = by-cases (eqb stop 2) (λ e. rw e) (λ e. rw e); sum = refl; some = lit≤ tt; most = lit≤ tt };
+    }

@@ -1,0 +1,5 @@
+-- The laws of the module row.
+pub mod Alone
+pub mod Rows
+pub mod Pieces
+pub mod Three

@@ -1,0 +1,2 @@
+pub mod constraint
+pub mod row

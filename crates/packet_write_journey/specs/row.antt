@@ -1,0 +1,3 @@
+-- The definitions of the module row.
+pub mod Alone
+pub mod Pieces

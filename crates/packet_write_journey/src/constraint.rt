@@ -1,0 +1,61 @@
+// A temporary constraint of an accepted journey sheet, put into its packet. Nothing in the packet's layout depends on its type or its range.
+ghost use Rattle.grammar.specs.journey.Journey as tree;
+ghost use Rattle.packet_write_segment.specs.elements.Writing.{Ready, Wrote};
+ghost use Rattle.packet_write_journey.specs.constraint.Begun.{Begun};
+use crate::row::Given;
+use kinds::body::MCurrent;
+use kinds::journey::DTcEndLocation;
+use packet_write_segment::elements::Spot;
+
+// The type, the range and the start, put at once, and the end; the type is given.
+fn location(sheet: &[u8], room: &mut [u8], p: Spot) -> Given
+    requires { ⌜ Ready tree.temporaryConstraint (now sheet) (now room) p ⌝ }
+    ensures { λ r. ⌜ Begun tree.temporaryConstraint tree.restriction (now (sheet .entry)) (now (room .entry)) p (now (room .exit)) r ⌝ }
+{
+    let of = numbers::accepted::number(sheet, p.from);
+    let range = numbers::accepted::number(sheet, of.next);
+    let start = numbers::accepted::number(sheet, range.next);
+    let end = numbers::accepted::number(sheet, start.next);
+    let bits = of.value * 67108864 + range.value * 16777216 + start.value;
+    let wait = bits::write::put(room, p.at, p.wait, 28, bits);
+    let at = p.at + 28;
+    let last = bits::write::put(room, at, wait, DTcEndLocation::WIDTH, end.value);
+    Given {
+        value: of.value,
+        next: Spot {
+            from: end.next,
+            at: at + DTcEndLocation::WIDTH as usize,
+            wait: last,
+        },
+    }
+}
+
+// Q_FRONT, the speed, the adhesion and the current, put at once. An unused speed, 0, stays; the current has no limit. The type is for the contract alone.
+fn restriction(sheet: &[u8], room: &mut [u8], p: Spot, of: u32) -> Spot
+    requires { ⌜ Ready (tree.restriction of) (now sheet) (now room) p ⌝ }
+    ensures { λ r. ⌜ Wrote (tree.restriction of) (now (sheet .entry)) (now (room .entry)) p (now (room .exit)) r ⌝ }
+{
+    let front = numbers::accepted::number(sheet, p.from);
+    let level = numbers::accepted::number(sheet, front.next);
+    let adhesion = numbers::accepted::number(sheet, level.next);
+    let current = numbers::accepted::number(sheet, adhesion.next);
+    let speed = level.value;
+    let steps = fields::lower::speed_steps(speed);
+    let bits = front.value * 1048576 + steps * 8192 + adhesion.value * 1024 + MCurrent::NO_LIMIT;
+    let wait = bits::write::put(room, p.at, p.wait, 21, bits);
+    Spot {
+        from: current.next,
+        at: p.at + 21,
+        wait,
+    }
+}
+
+// A temporary constraint.
+pub fn constraint(sheet: &[u8], room: &mut [u8], p: Spot) -> Spot
+    requires { ⌜ Ready tree.temporaryConstraint (now sheet) (now room) p ⌝ }
+    ensures { λ r. ⌜ Wrote tree.temporaryConstraint (now (sheet .entry)) (now (room .entry)) p (now (room .exit)) r ⌝ }
+{
+    let first = location(sheet, room, p);
+    let next = first.next;
+    restriction(sheet, room, next, first.value)
+}

@@ -1,0 +1,106 @@
+// The body of an accepted journey sheet's packet, written part by part. What was accepted is not judged again.
+pub mod constraint;
+pub mod point;
+pub mod row;
+
+ghost use Rattle.format.specs.Format.{times};
+ghost use Rattle.packet_write_segment.specs.elements.Writing.{Ready, Wrote};
+ghost use Rattle.grammar.specs.journey.Journey as tree;
+ghost use Rattle.grammar.specs.journey.Parts.{segmentWidths, segmentMost, journeyBodyPart};
+ghost use Rattle.grammar.specs.rows.Rows.{row};
+use crate::constraint::constraint;
+use crate::point::point;
+use crate::row::number;
+use crate::row::piece;
+use grammar::journey::CONSTRAINTS;
+use kinds::body::MSpVersion;
+use kinds::body::NIter;
+use kinds::body::NidC;
+use kinds::body::NidSp;
+use kinds::journey::NIterSp;
+use kinds::journey::QJpStatus;
+use kinds::journey::QSpDir;
+use packet_write_segment::elements::Spot;
+
+// The bits of the versions and Q_SP_DIR, put at once.
+const VERSION: u32 = MSpVersion::WIDTH + MSpVersion::WIDTH + QSpDir::WIDTH;
+
+// The timing points of a segment.
+fn points(sheet: &[u8], room: &mut [u8], from: Spot, count: u32) -> Spot
+    requires { ⌜ Ready (times tree.timingPoint count) (now sheet) (now room) from ⌝ }
+    ensures { λ r. ⌜ Wrote (times tree.timingPoint count) (now (sheet .entry)) (now (room .entry)) from (now (room .exit)) r ⌝ }
+{
+    let mut p = from;
+    let mut left = count;
+    while 0 < left {
+        p = point(sheet, room, p);
+        left -= 1;
+    }
+    p
+}
+
+// The temporary constraints of a segment.
+fn constraints(sheet: &[u8], room: &mut [u8], from: Spot, count: u32) -> Spot
+    requires { ⌜ Ready (times tree.temporaryConstraint count) (now sheet) (now room) from ⌝ }
+    ensures { λ r. ⌜ Wrote (times tree.temporaryConstraint count) (now (sheet .entry)) (now (room .entry)) from (now (room .exit)) r ⌝ }
+{
+    let mut p = from;
+    let mut ahead = count;
+    while 0 < ahead {
+        p = constraint(sheet, room, p);
+        ahead -= 1;
+    }
+    p
+}
+
+// NID_C to Q_SP_DIR of a segment.
+fn names(sheet: &[u8], room: &mut [u8], p: Spot) -> Spot
+    requires { ⌜ Ready (row segmentWidths segmentMost) (now sheet) (now room) p ⌝ }
+    ensures { λ r. ⌜ Wrote (row segmentWidths segmentMost) (now (sheet .entry)) (now (room .entry)) p (now (room .exit)) r ⌝ }
+{
+    let widths = grammar::journey::segment_widths();
+    let most = grammar::journey::segment_most();
+    let country = piece(sheet, room, p, &widths, &most, 0, 1, NidC::WIDTH);
+    let name = piece(sheet, room, country, &widths, &most, 1, 2, NidSp::WIDTH);
+    piece(sheet, room, name, &widths, &most, 2, 5, VERSION)
+}
+
+// A segment: its names, its timing points, and its temporary constraints, each list after its count.
+fn segment(sheet: &[u8], room: &mut [u8], p: Spot) -> Spot
+    requires { ⌜ Ready (tree.journeySegment tree.constraints) (now sheet) (now room) p ⌝ }
+    ensures { λ r. ⌜ Wrote (tree.journeySegment tree.constraints) (now (sheet .entry)) (now (room .entry)) p (now (room .exit)) r ⌝ }
+{
+    let next = names(sheet, room, p);
+    let count = number(sheet, room, next, NIter::WIDTH, NIter::LARGEST);
+    let first = count.next;
+    let last = points(sheet, room, first, count.value);
+    let second = number(sheet, room, last, NIter::WIDTH, CONSTRAINTS);
+    let begin = second.next;
+    constraints(sheet, room, begin, second.value)
+}
+
+// The segments of the journey.
+fn segments(sheet: &[u8], room: &mut [u8], from: Spot, count: u32) -> Spot
+    requires { ⌜ Ready (times (tree.journeySegment tree.constraints) count) (now sheet) (now room) from ⌝ }
+    ensures { λ r. ⌜ Wrote (times (tree.journeySegment tree.constraints) count) (now (sheet .entry)) (now (room .entry)) from (now (room .exit)) r ⌝ }
+{
+    let mut p = from;
+    let mut rest = count;
+    while 0 < rest {
+        p = segment(sheet, room, p);
+        rest -= 1;
+    }
+    p
+}
+
+// The fields of the body.
+pub fn body(sheet: &[u8], room: &mut [u8], p: Spot) -> Spot
+    requires { ⌜ Ready journeyBodyPart (now sheet) (now room) p ⌝ }
+    ensures { λ r. ⌜ Wrote journeyBodyPart (now (sheet .entry)) (now (room .entry)) p (now (room .exit)) r ⌝ }
+{
+    let status = number(sheet, room, p, QJpStatus::WIDTH, QJpStatus::LARGEST);
+    let next = status.next;
+    let count = number(sheet, room, next, NIterSp::WIDTH, NIterSp::LARGEST);
+    let first = count.next;
+    segments(sheet, room, first, count.value)
+}

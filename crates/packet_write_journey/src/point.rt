@@ -1,0 +1,81 @@
+// A timing point of an accepted journey sheet, put into its packet: its rows of fields in pieces of at most 32 bits.
+ghost use Rattle.grammar.specs.rows.Rows.{row};
+ghost use Rattle.grammar.specs.journey.Journey.{timingPoint};
+ghost use Rattle.grammar.specs.journey.Parts.{arrivalWidths, arrivalMost, stoppingWidths, stoppingMost};
+ghost use Rattle.packet_write_segment.specs.elements.Writing.{Ready, Wrote};
+use crate::row::number;
+use crate::row::piece;
+use kinds::journey::NidTp;
+use kinds::journey::QAutomaticClosing;
+use kinds::journey::QCentralisedOpening;
+use kinds::journey::QDayLightSaving;
+use kinds::journey::QOpeningDoorSide;
+use kinds::journey::QRelaxedCoupler;
+use kinds::journey::QStopSkipPasses;
+use kinds::journey::QTpAlignment;
+use kinds::journey::QTpInformation;
+use kinds::journey::QTrainHold;
+use kinds::journey::TArrivalWindow;
+use kinds::journey::TDepartureDate;
+use kinds::journey::TDepartureSeconds;
+use kinds::journey::TLatestArrivalDate;
+use kinds::journey::TLatestArrivalSeconds;
+use kinds::journey::TMinimumDwellTime;
+use packet_write_segment::elements::Spot;
+
+// The bits of the pieces in which the rows are put, where a piece has more than one field.
+const LATEST: u32 = TLatestArrivalDate::WIDTH + TLatestArrivalSeconds::WIDTH;
+
+const WINDOW: u32 = TArrivalWindow::WIDTH + QTpAlignment::WIDTH;
+
+const DOORS: u32 = QTpInformation::WIDTH
+    + QDayLightSaving::WIDTH
+    + QOpeningDoorSide::WIDTH
+    + QCentralisedOpening::WIDTH
+    + QRelaxedCoupler::WIDTH
+    + QTrainHold::WIDTH;
+
+const DEPARTURE: u32 = TDepartureDate::WIDTH + TDepartureSeconds::WIDTH;
+
+const DWELL: u32 = TMinimumDwellTime::WIDTH + QAutomaticClosing::WIDTH;
+
+// NID_TP to Q_TP_Alignment of a timing point.
+fn arrival(sheet: &[u8], room: &mut [u8], p: Spot) -> Spot
+    requires { ⌜ Ready (row arrivalWidths arrivalMost) (now sheet) (now room) p ⌝ }
+    ensures { λ r. ⌜ Wrote (row arrivalWidths arrivalMost) (now (sheet .entry)) (now (room .entry)) p (now (room .exit)) r ⌝ }
+{
+    let widths = grammar::journey::arrival_widths();
+    let most = grammar::journey::arrival_most();
+    let name = piece(sheet, room, p, &widths, &most, 0, 1, NidTp::WIDTH);
+    let latest = piece(sheet, room, name, &widths, &most, 1, 3, LATEST);
+    piece(sheet, room, latest, &widths, &most, 3, 5, WINDOW)
+}
+
+// Q_TP_Information to Q_Automatic_Closing, by the kind of the stop.
+fn stopping(sheet: &[u8], room: &mut [u8], p: Spot, stop: u32) -> Spot
+    requires { ⌜ Ready (row stoppingWidths (stoppingMost stop)) (now sheet) (now room) p ⌝ }
+    ensures { λ r. ⌜ Wrote (row stoppingWidths (stoppingMost stop)) (now (sheet .entry)) (now (room .entry)) p (now (room .exit)) r ⌝ }
+{
+    let widths = grammar::journey::stopping_widths();
+    let most = grammar::journey::stopping_most(stop);
+    let doors = piece(sheet, room, p, &widths, &most, 0, 6, DOORS);
+    let departure = piece(sheet, room, doors, &widths, &most, 6, 8, DEPARTURE);
+    piece(sheet, room, departure, &widths, &most, 8, 10, DWELL)
+}
+
+// A timing point.
+pub fn point(sheet: &[u8], room: &mut [u8], p: Spot) -> Spot
+    requires { ⌜ Ready timingPoint (now sheet) (now room) p ⌝ }
+    ensures { λ r. ⌜ Wrote timingPoint (now (sheet .entry)) (now (room .entry)) p (now (room .exit)) r ⌝ }
+{
+    let first = arrival(sheet, room, p);
+    let stop = number(
+        sheet,
+        room,
+        first,
+        QStopSkipPasses::WIDTH,
+        QStopSkipPasses::LARGEST,
+    );
+    let next = stop.next;
+    stopping(sheet, room, next, stop.value)
+}

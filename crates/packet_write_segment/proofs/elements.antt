@@ -1,0 +1,3 @@
+-- The laws of the module elements.
+pub mod Writing
+pub mod Pieces

@@ -1,0 +1,2 @@
+-- The definitions of the module deliveries.
+pub mod Deliveries

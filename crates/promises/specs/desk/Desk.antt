@@ -1,0 +1,222 @@
+-- The desk cases of document 01 that are marked (P), in one table: what a public operation says, and what it must say.
+-- Assumes nothing.
+use mathlib.Core.List.{List, [], _∷_, _++_, map}
+use Prim.Native.Nat.{ℕ, zero, suc, _+_}
+use lib.IntN.{pos, negsuc}
+use lib.ListN.{length, replicate, take, drop}
+use Rattle.grammar.specs.segment.Desk.{Question, askSheetOf, askPacketOf, Reply, bytes, refusal, firstPacket, firstSheet, conversions}
+use Rattle.speed.specs.declared.Train.{Train}
+use Rattle.speed.specs.Desk.{plain, canted}
+use Rattle.convert.specs.Convert.{Outcome, packetToSheet, sheetToPacket}
+use Rattle.speed_question.specs.declared.Speed.{Speed}
+use Rattle.speed_question.specs.Question.{permittedSpeed}
+use Rattle.altitude.specs.declared.Altitude.{Altitude}
+use Rattle.altitude.specs.Altitude.{altitudeOf}
+
+-- "Five public operations": what one of them says
+pub data Said : Type 0 where
+  conversionSaid : Outcome → Said
+  speedSaid : Speed → Said
+  altitudeSaid : Altitude → Said
+
+-- "Marked (P): to be proved": what is said, and what is due
+pub record Case : Type 0 where
+  pub said : Said
+  pub due : Said
+
+-- a "lent room" of n bytes, none of them 0
+abbrev pub room : ℕ → List ℕ
+room n = replicate n 0xAA
+
+-- "Success returns the length", and fills a room of its size; a refusal's room "keeps every byte it had"
+abbrev pub convertsTo : (List ℕ → List ℕ → Outcome) → List ℕ → Reply → Case
+convertsTo operation s (bytes b) =
+    record { said = conversionSaid (operation s (room (length b))); due = conversionSaid (record { answer = record { refusal = 0; place = 0; length = length b }; room = b }) }
+convertsTo operation s (refusal r place) =
+    record { said = conversionSaid (operation s (room 3)); due = conversionSaid (record { answer = record { refusal = r; place = place; length = 0 }; room = room 3 }) }
+
+-- "packet to sheet, sheet to packet"
+abbrev pub converts : Question → Reply → Case
+converts (askSheetOf s) r = convertsTo packetToSheet s r
+converts (askPacketOf s) r = convertsTo sheetToPacket s r
+
+-- "Length 1,000 cm, 100 km/h with Q_FRONT 0, change at 500 to 140", over the Q_FRONT of each
+abbrev pub changeSheet : ℕ → ℕ → List ℕ
+changeSheet front next =
+    0x06 ∷ 0xC5 ∷ 0xC6 ∷ 0x04 ∷ 0x01 ∷ 0x00 ∷ 0x00 ∷ 0x07 ∷ replicate 4 0 ++ 0xE8 ∷ 0x07 ∷ replicate 3 0
+    ++ 0x64 ∷ front ∷ 0x00 ∷ 0x01 ∷ 0xF4 ∷ 0x03 ∷ 0x8C ∷ 0x01 ∷ next ∷ replicate 6 0
+
+-- "sheet to packet": its packet of 43 bytes
+abbrev pub changePacket : ℕ → ℕ → List ℕ
+changePacket front next = sheetToPacket (changeSheet front next) (room 43) .room
+
+-- "one question": its kind, segment, train and x, and the refusal and the speed that are due
+abbrev pub told : ℕ → List ℕ → Train → ℕ → ℕ → ℕ → Case
+told kind s t x r v = record { said = speedSaid (permittedSpeed kind s t x); due = speedSaid (record { refusal = r; place = 0; speed = v }) }
+
+-- ---- A4: "Cant deficiency falls to the next lower class"
+
+-- the same segment with one element: 100 km/h, and n entries
+abbrev pub entriesSheet : ℕ → List ℕ → List ℕ
+entriesSheet n entries =
+    0x06 ∷ 0xC5 ∷ 0xC6 ∷ 0x04 ∷ 0x01 ∷ 0x00 ∷ 0x00 ∷ 0x07 ∷ replicate 4 0 ++ 0xE8 ∷ 0x07 ∷ replicate 3 0
+    ++ 0x64 ∷ 0x00 ∷ n ∷ entries ++ replicate 6 0
+
+-- "entries for 100 and 165": 120 and 140 km/h
+abbrev pub twoSheet : List ℕ
+twoSheet = entriesSheet 2 (0x00 ∷ 0x64 ∷ 0x78 ∷ 0x00 ∷ 0xA5 ∷ 0x01 ∷ 0x8C ∷ 0x01 ∷ [])
+
+-- 90 km/h for 100 mm; 115, 112 and 125 for 130 mm; 140 for 165 mm
+abbrev pub severalSheet : List ℕ
+severalSheet =
+    entriesSheet 5
+    (0x00 ∷ 0x82 ∷ 0x01 ∷ 0x73 ∷ 0x00 ∷ 0xA5 ∷ 0x01 ∷ 0x8C ∷ 0x01 ∷ 0x00 ∷ 0x82 ∷ 0x01 ∷ 0x70 ∷ 0x00 ∷ 0x64 ∷ 0x5A ∷ 0x00 ∷ 0x82 ∷ 0x01 ∷ 0x7D ∷ [])
+
+-- from the sheet of two entries and its packet of 42 bytes, and from the sheet of five and its packet of 47
+abbrev pub cants : List Case
+cants =
+    -- "A 150 mm train with entries for 100 and 165 uses the 100 entry"
+    told 1 twoSheet (canted 150) 0 0 120 ∷ told 0 (sheetToPacket twoSheet (room 42) .room) (canted 150) 0 0 120
+    -- its own beside a lower one, and none at or below its own
+    ∷ told 1 twoSheet (canted 165) 0 0 140 ∷ told 0 (sheetToPacket twoSheet (room 42) .room) (canted 165) 0 0 140
+    ∷ told 1 twoSheet (canted 80) 0 0 100 ∷ told 0 (sheetToPacket twoSheet (room 42) .room) (canted 80) 0 0 100
+    -- "the lowest speed of them", in fives from the packet
+    ∷ told 1 severalSheet (canted 150) 0 0 112 ∷ told 0 (sheetToPacket severalSheet (room 47) .room) (canted 150) 0 0 110
+    ∷ told 1 severalSheet (canted 130) 0 0 112 ∷ told 0 (sheetToPacket severalSheet (room 47) .room) (canted 130) 0 0 110
+    ∷ []
+
+-- ---- A1: "the journey on the same link, as packet number 4"
+
+-- no segment: a body of 11 bits, and 8 numbers
+abbrev pub journeyPacket : List ℕ
+journeyPacket = 0x04 ∷ 0x00 ∷ 0x0B ∷ replicate 14 0
+
+abbrev pub journeySheetBytes : List ℕ
+journeySheetBytes = 0x04 ∷ replicate 7 0
+
+-- one segment with one timing point: its latest arrival's seconds in three groups, its kind of stop, and what follows the daylight saving
+abbrev pub pointSheet : List ℕ → ℕ → List ℕ → List ℕ
+pointSheet seconds stop rest = 0x04 ∷ replicate 6 0 ++ 0x01 ∷ replicate 5 0 ++ 0x01 ∷ 0x00 ∷ 0x00 ∷ seconds ++ 0x00 ∷ 0x00 ∷ stop ∷ 0x00 ∷ 0x00 ∷ rest
+
+-- the refusal of a sheet, and its place
+abbrev pub refusedSheet : List ℕ → ℕ → ℕ → Case
+refusedSheet s r place = converts (askPacketOf s) (refusal r place)
+
+-- what of a sheet is refused for want of room is accepted
+abbrev pub journeys : List Case
+journeys =
+    converts (askSheetOf journeyPacket) (bytes journeySheetBytes) ∷ converts (askPacketOf journeySheetBytes) (bytes journeyPacket)
+    -- "2 now means neither 4 nor 6, or 4 where a segment is needed (the conversions take both)"
+    ∷ refusedSheet (0x05 ∷ replicate 7 0) 2 0
+    ∷ told 0 journeyPacket plain 0 2 0 ∷ told 1 journeySheetBytes plain 0 2 0
+    ∷ record { said = altitudeSaid (altitudeOf journeyPacket); due = altitudeSaid (record { refusal = 2; place = 0; altitude = pos 0 }) }
+    -- "Latest arrival seconds reach 86,400"
+    ∷ refusedSheet (pointSheet (0x80 ∷ 0xA3 ∷ 0x05 ∷ []) 0 (replicate 9 0)) 8 0 ∷ refusedSheet (pointSheet (0x81 ∷ 0xA3 ∷ 0x05 ∷ []) 0 (replicate 9 0)) 4 16
+    -- "departure seconds 86,399"
+    ∷ refusedSheet (pointSheet (0x00 ∷ []) 0 (replicate 5 0 ++ 0xFF ∷ 0xA2 ∷ 0x05 ∷ replicate 3 0)) 8 0
+    ∷ refusedSheet (pointSheet (0x00 ∷ []) 0 (replicate 5 0 ++ 0x80 ∷ 0xA3 ∷ 0x05 ∷ replicate 3 0)) 4 27
+    -- "At a passing point the last eight fields .. are 0", and at a skipped stopping point they need not be
+    ∷ refusedSheet (pointSheet (0x00 ∷ []) 2 (replicate 9 0)) 8 0 ∷ refusedSheet (pointSheet (0x00 ∷ []) 2 (0x01 ∷ replicate 8 0)) 4 22
+    ∷ refusedSheet (pointSheet (0x00 ∷ []) 2 (replicate 7 0 ++ 0x01 ∷ 0x00 ∷ [])) 4 29 ∷ refusedSheet (pointSheet (0x00 ∷ []) 1 (replicate 7 0 ++ 0x01 ∷ 0x00 ∷ [])) 8 0
+    ∷ []
+
+-- ---- A5: "Yard speed restrictions"
+
+-- one segment with no timing point, so many constraints, and the numbers of the one that follows
+abbrev pub constraintSheet : ℕ → List ℕ → List ℕ
+constraintSheet count numbers = 0x04 ∷ replicate 6 0 ++ 0x01 ∷ replicate 6 0 ++ count ∷ numbers
+
+-- its packet: a body of 153 bits, of which these are the last 73
+abbrev pub constraintPacket : List ℕ → List ℕ
+constraintPacket bits = 0x04 ∷ 0x00 ∷ 0x99 ∷ replicate 13 0 ++ 0x20 ∷ replicate 7 0 ++ 0x01 ∷ bits
+
+-- the first byte of one of the numbers, of which those before it have a byte each
+abbrev pub refusedConstraint : List ℕ → ℕ → ℕ → Case
+refusedConstraint numbers r n = refusedSheet (constraintSheet 1 numbers) r (15 + n)
+
+-- what is refused for want of room is accepted
+abbrev pub acceptedConstraint : List ℕ → Case
+acceptedConstraint numbers = refusedSheet (constraintSheet 1 numbers) 8 0
+
+-- the numbers of a speed restriction from 100 to 200 cm, with its speed in km/h, and the packet of one to 80
+abbrev pub restricted : List ℕ → List ℕ
+restricted speed = 0x00 ∷ 0x02 ∷ 0x64 ∷ 0xC8 ∷ 0x01 ∷ 0x01 ∷ speed ++ 0x00 ∷ 0x00 ∷ []
+
+abbrev pub restrictedPacket : List ℕ
+restrictedPacket = constraintPacket (0x20 ∷ 0x00 ∷ 0x06 ∷ 0x40 ∷ 0x00 ∷ 0x0C ∷ 0x89 ∷ 0x01 ∷ 0xFF ∷ 0x80 ∷ [])
+
+abbrev pub constraintCases : List Case
+constraintCases =
+    -- "Lowering in demands 2 and 3 then covers these speeds": 83 km/h gives 80
+    converts (askPacketOf (constraintSheet 1 (restricted (0x53 ∷ [])))) (bytes restrictedPacket)
+    ∷ converts (askSheetOf restrictedPacket) (bytes (constraintSheet 1 (restricted (0x50 ∷ []))))
+    -- "Speed and current in the sheet follow the segment rules": 604 gives 120, and 605 is refused
+    ∷ acceptedConstraint (restricted (0xDC ∷ 0x04 ∷ [])) ∷ refusedSheet (constraintSheet 1 (restricted (0xDD ∷ 0x04 ∷ []))) 4 21
+    -- "up to 31 constraints per segment"
+    ∷ refusedSheet (constraintSheet 32 []) 4 14 ∷ refusedSheet (constraintSheet 31 []) 9 15
+    -- "Document 002's fifth type .. is refused", and a fifth range
+    ∷ refusedConstraint (4 ∷ []) 4 0 ∷ refusedConstraint (0 ∷ 4 ∷ []) 4 1
+    -- "A range of starts uses the start only, ends the end only"
+    ∷ acceptedConstraint (2 ∷ 0 ∷ 1 ∷ replicate 5 0) ∷ refusedConstraint (2 ∷ 0 ∷ 1 ∷ 1 ∷ replicate 4 0) 4 3
+    ∷ acceptedConstraint (2 ∷ 1 ∷ 0 ∷ 1 ∷ replicate 4 0) ∷ refusedConstraint (2 ∷ 1 ∷ 1 ∷ 1 ∷ replicate 4 0) 4 2
+    -- "whole segment neither"
+    ∷ acceptedConstraint (2 ∷ 3 ∷ replicate 6 0) ∷ refusedConstraint (2 ∷ 3 ∷ 1 ∷ replicate 5 0) 4 2 ∷ refusedConstraint (2 ∷ 3 ∷ 0 ∷ 1 ∷ replicate 4 0) 4 3
+    -- "5, at the end field, for start not below end", and 4 where the end is no number of 24 bits
+    ∷ acceptedConstraint (2 ∷ 2 ∷ 6 ∷ 7 ∷ replicate 4 0) ∷ refusedConstraint (2 ∷ 2 ∷ 7 ∷ 7 ∷ replicate 4 0) 5 3
+    ∷ refusedConstraint (2 ∷ 2 ∷ 7 ∷ 0x80 ∷ 0x80 ∷ 0x80 ∷ 0x08 ∷ replicate 4 0) 4 3
+    -- "Type 0 uses Q_FRONT and speed, 1 adhesion; 2 and 3 (driving modes) use none", and an unused speed is 0 itself
+    ∷ acceptedConstraint (1 ∷ 3 ∷ 0 ∷ 0 ∷ 0 ∷ 0 ∷ 5 ∷ 0 ∷ []) ∷ refusedConstraint (1 ∷ 3 ∷ 0 ∷ 0 ∷ 0 ∷ 0 ∷ 6 ∷ 0 ∷ []) 4 6
+    ∷ refusedConstraint (1 ∷ 3 ∷ 0 ∷ 0 ∷ 0 ∷ 3 ∷ 0 ∷ 0 ∷ []) 4 5 ∷ refusedConstraint (1 ∷ 3 ∷ 0 ∷ 0 ∷ 1 ∷ 0 ∷ 0 ∷ 0 ∷ []) 4 4
+    ∷ refusedConstraint (0 ∷ 3 ∷ 0 ∷ 0 ∷ 1 ∷ 3 ∷ 1 ∷ 0 ∷ []) 4 6 ∷ refusedConstraint (3 ∷ 3 ∷ 0 ∷ 0 ∷ 0 ∷ 0 ∷ 1 ∷ 0 ∷ []) 4 6
+    -- "current 1,023 and 0"
+    ∷ refusedConstraint (3 ∷ 3 ∷ 0 ∷ 0 ∷ 0 ∷ 0 ∷ 0 ∷ 1 ∷ []) 4 7
+    ∷ converts (askSheetOf (constraintPacket (0x40 ∷ 0x00 ∷ 0x00 ∷ 0x70 ∷ 0x00 ∷ 0x00 ∷ 0x00 ∷ 0x0A ∷ 0x00 ∷ 0x00 ∷ []))) (refusal 4 263)
+    ∷ converts (askSheetOf (constraintPacket (0x20 ∷ 0x00 ∷ 0x06 ∷ 0x40 ∷ 0x00 ∷ 0x06 ∷ 0x49 ∷ 0x01 ∷ 0xFF ∷ 0x80 ∷ []))) (refusal 5 228)
+    ∷ []
+
+-- ---- A8: "More wire changes"
+
+-- n changes from the location x on, one centimetre apart, each with these numbers
+abbrev pub wired : ℕ → ℕ → List ℕ → List ℕ
+wired x zero l = []
+wired x (suc n) l = x ∷ l ++ wired (suc x) n l
+
+-- 1,000 cm with so many voltage changes, whose count is at byte 23, and so many current changes
+abbrev pub wireSheet : ℕ → ℕ → List ℕ
+wireSheet volts amperes =
+    0x06 ∷ 0xC5 ∷ 0xC6 ∷ 0x04 ∷ 0x01 ∷ 0x00 ∷ 0x00 ∷ 0x07 ∷ replicate 4 0 ++ 0xE8 ∷ 0x07 ∷ replicate 3 0
+    ++ 0x64 ∷ replicate 5 0 ++ volts ∷ wired 1 volts (0x00 ∷ 0x00 ∷ []) ++ 0x00 ∷ amperes ∷ wired 1 amperes (0x00 ∷ [])
+
+-- what of a sheet is refused for want of room is accepted
+abbrev pub wireCases : List Case
+wireCases =
+    -- "31 voltage and 31 current changes where 23 were allowed", in both lists or in one
+    refusedSheet (wireSheet 23 23) 8 0 ∷ refusedSheet (wireSheet 24 24) 8 0 ∷ refusedSheet (wireSheet 31 31) 8 0
+    ∷ refusedSheet (wireSheet 31 0) 8 0 ∷ refusedSheet (wireSheet 0 31) 8 0
+    -- and 32 in neither
+    ∷ refusedSheet (wireSheet 32 0) 4 23 ∷ refusedSheet (wireSheet 0 32) 4 25
+    -- "4 no longer covers counts 24 to 31": the first location of 24 and of 31 voltage changes does not fit
+    ∷ converts (askSheetOf (take 35 firstPacket ++ 0x06 ∷ drop 36 firstPacket)) (refusal 6 290)
+    ∷ converts (askSheetOf (take 35 firstPacket ++ 0x07 ∷ 0xFF ∷ drop 37 firstPacket)) (refusal 6 290)
+    ∷ []
+
+-- "The (P) cases form a single table proved by a single statement"
+abbrev pub desk : List Case
+desk =
+    map (λ c. converts (c .ask) (c .answer)) conversions
+    -- "is accepted: 39 bytes, length 1 cm, altitude -100,000, 80 km/h, no current limit"
+    ++ record { said = altitudeSaid (altitudeOf firstPacket); due = altitudeSaid (record { refusal = 0; place = 0; altitude = negsuc 99999 }) }
+    ∷ told 0 firstPacket plain 0 0 80 ∷ told 0 firstPacket plain 1 11 0
+    -- A7: "15, first of all, for a kind that is neither", where 0 is answered, refused with 1, or with 11
+    ∷ told 2 firstPacket plain 0 15 0 ∷ told 4294967295 firstPacket plain 0 15 0 ∷ told 2 [] plain 0 15 0 ∷ told 4294967295 firstPacket plain 1 15 0
+    -- "whether it brings a packet or a sheet": a sheet, and the same bytes as a packet
+    ∷ told 1 firstSheet plain 0 0 80 ∷ told 0 firstSheet plain 0 3 0
+    -- "a 200 cm train gets 100 at 699 and 140 at 700. With Q_FRONT 1 it gets 140 at 500"
+    ∷ told 1 (changeSheet 0 0) plain 699 0 100 ∷ told 1 (changeSheet 0 0) plain 700 0 140 ∷ told 1 (changeSheet 1 1) plain 500 0 140
+    ∷ told 0 (changePacket 0 0) plain 699 0 100 ∷ told 0 (changePacket 0 0) plain 700 0 140 ∷ told 0 (changePacket 1 1) plain 500 0 140
+    -- wire 4: "Q_FRONT's delay tied to the element that follows instead of the one that ends"
+    ∷ told 1 (changeSheet 0 1) plain 699 0 100 ∷ told 1 (changeSheet 1 0) plain 500 0 140 ∷ told 0 (changePacket 0 1) plain 699 0 100 ∷ told 0 (changePacket 1 0) plain 500 0 140
+    ∷ cants
+    ++ journeys
+    ++ constraintCases
+    ++ wireCases

@@ -1,7 +1,0 @@
-pub mod Segment
-pub mod Frame
-pub mod Judgement
-pub mod Grounds
-pub mod Desk
-pub mod Parts
-pub mod Ends

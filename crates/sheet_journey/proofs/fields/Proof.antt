@@ -1,0 +1,54 @@
+-- `judge_journey_sheet::fields` meets its contract.
+use Rattle.format.proofs.Ways.{over-on, over-off}
+use Rattle.grammar.specs.rows.Rows.{row}
+use borrow.Author.Needs.{needs}
+use Rattle.sheet_journey.proofs.fields.Statement.{statement}
+use Rattle.sheet_journey.proofs.fields.Tie as tie
+
+operational-requires : tie.Need-operational-requires
+operational-requires c κs = search needs
+
+enum-known-r : tie.Need-enum-known-r
+enum-known-r c = search needs
+
+enum-known-at2 : tie.Need-enum-known-at2
+enum-known-at2 c = search needs
+
+header-row-requires : tie.Need-header-row-requires
+header-row-requires c κs = (rw (c .before .at2 .given .1) at (c .before .before .before .operational .ensures)) .stands
+
+enum-known-r-2 : tie.Need-enum-known-r-2
+enum-known-r-2 c = search needs
+
+enum-known-at3 : tie.Need-enum-known-at3
+enum-known-at3 c = search needs
+
+body-requires : tie.Need-body-requires
+body-requires c κs = (rw (c .before .at3 .given .1) at (c .before .before .before .header-row .ensures)) .stands
+
+returns : tie.Need-returns
+unfolding row
+returns c = over-off (rw (c .before .r .given .1) at (c .before .before .before .operational .ensures))
+
+returns-2 : tie.Need-returns-2
+unfolding row
+returns-2 c = over-on (rw (c .before .before .before .before .before .at2 .given .1) at (c .before .before .before .before .before .before .before .operational .ensures)) (over-off (rw (c .before .r2 .given .1) at (c .before .before .before .header-row .ensures)))
+
+returns-3 : tie.Need-returns-3
+unfolding row
+returns-3 c = over-on (rw (c .before .before .before .before .before .before .at2 .given .1) at (c .before .before .before .before .before .before .before .before .operational .ensures)) (over-on (rw (c .before .before .at3 .given .1) at (c .before .before .before .before .header-row .ensures)) (c .body .ensures))
+
+pub fields-spec : {M : Type 1} → statement M
+fields-spec =
+    tie.close
+    (tie.spec
+    operational-requires
+    enum-known-r
+    enum-known-at2
+    header-row-requires
+    enum-known-r-2
+    enum-known-at3
+    body-requires
+    returns
+    returns-2
+    returns-3)

@@ -1,0 +1,55 @@
+-- `sheet_points::point` meets its contract.
+use Rattle.format.proofs.Ways.{over-on, over-off, value-on, value-off}
+use Rattle.grammar.specs.rows.Rows.{row}
+use Rattle.grammar.specs.journey.Parts.{stoppingWidths, stoppingMost}
+use borrow.Author.Needs.{needs}
+use Rattle.sheet_journey.proofs.point.point.Statement.{statement}
+use Rattle.sheet_journey.proofs.point.point.Tie as tie
+
+arrival-row-requires : tie.Need-arrival-row-requires
+arrival-row-requires c κs = search needs
+
+enum-known-r : tie.Need-enum-known-r
+enum-known-r c = search needs
+
+enum-known-at2 : tie.Need-enum-known-at2
+enum-known-at2 c = search needs
+
+ranged-requires : tie.Need-ranged-requires
+ranged-requires c κs = (rw (c .before .at2 .given .1) at (c .before .before .before .arrival-row .ensures)) .stands
+
+enum-known-r-2 : tie.Need-enum-known-r-2
+enum-known-r-2 c = search needs
+
+enum-known-stop : tie.Need-enum-known-stop
+enum-known-stop c = search needs
+
+stopping-row-requires : tie.Need-stopping-row-requires
+stopping-row-requires c κs = (rw (c .before .stop .given .1) at (c .before .before .before .ranged .ensures)) .stands
+
+returns : tie.Need-returns
+unfolding row
+returns c = over-off (rw (c .before .r .given .1) at (c .before .before .before .arrival-row .ensures))
+
+returns-2 : tie.Need-returns-2
+unfolding row
+returns-2 c = over-on (rw (c .before .before .before .before .before .at2 .given .1) at (c .before .before .before .before .before .before .before .arrival-row .ensures)) (value-off (λ stop. row stoppingWidths (stoppingMost stop)) (rw (c .before .r2 .given .1) at (c .before .before .before .ranged .ensures)))
+
+returns-3 : tie.Need-returns-3
+unfolding row
+returns-3 c = over-on (rw (c .before .before .before .before .before .before .at2 .given .1) at (c .before .before .before .before .before .before .before .before .arrival-row .ensures)) (value-on (λ stop. row stoppingWidths (stoppingMost stop)) (rw (c .before .before .stop .given .1) at (c .before .before .before .before .ranged .ensures)) (c .stopping-row .ensures))
+
+pub point-spec : {M : Type 1} → statement M
+point-spec =
+    tie.close
+    (tie.spec
+    arrival-row-requires
+    enum-known-r
+    enum-known-at2
+    ranged-requires
+    enum-known-r-2
+    enum-known-stop
+    stopping-row-requires
+    returns
+    returns-2
+    returns-3)

@@ -1,0 +1,63 @@
+-- `judge_journey_sheet::segments` meets its contract.
+use Rattle.format.specs.Ways.{Left}
+use Rattle.format.specs.Format.{times}
+use Rattle.format.proofs.Ways.{left-all, times-on, times-off, times-end}
+use Rattle.sheet_fields.specs.Judging.{judge}
+use Rattle.grammar.specs.journey.Journey.{journeySegment, constraints}
+use native.Mathlib.Omega.{arith}
+use borrow.Author.Needs.{needs}
+use Rattle.sheet_journey.proofs.segments.Statement.{statement}
+use Rattle.sheet_journey.proofs.segments.Tie as tie
+
+abbrev Inv-loop : tie.InvT-loop
+Inv-loop s at n count to₀ m₀ left₀ to m left = Left (judge s) (times (journeySegment constraints) count) (times (journeySegment constraints) left) at n to m
+
+abbrev μ-loop : tie.MeasureT-loop
+μ-loop s at n count to₀ m₀ left₀ to m left = left
+
+loop-holds : tie.Need-loop-holds Inv-loop μ-loop
+loop-holds c = left-all (c .before .pre)
+
+segment-requires : tie.Need-segment-requires Inv-loop μ-loop
+segment-requires c κs = c .before .loop .inv .stands
+
+enum-known-r : tie.Need-enum-known-r Inv-loop μ-loop
+enum-known-r c = search needs
+
+returns : tie.Need-returns Inv-loop μ-loop
+returns c =
+    let l = c .before .before .before .before .before .loop in
+    times-off (journeySegment constraints) (l .inv) (omega arith) (rw (c .before .r .given .1) at (c .before .before .before .segment .ensures))
+
+enum-known-a : tie.Need-enum-known-a Inv-loop μ-loop
+enum-known-a c = search needs
+
+sub-left : tie.Need-sub-left Inv-loop μ-loop
+sub-left c = omega arith
+
+loop-less : tie.Need-loop-less Inv-loop μ-loop
+loop-less c = omega arith
+
+loop-again : tie.Need-loop-again Inv-loop μ-loop
+loop-again c =
+    let l = c .before .before .before .before .before .loop in
+    times-on (journeySegment constraints) (l .inv) (omega arith) (rw (c .before .a .given .1) at (c .before .before .before .segment .ensures))
+
+returns-2 : tie.Need-returns-2 Inv-loop μ-loop
+returns-2 c = let l = c .before .loop in times-end (journeySegment constraints) (l .inv) (omega arith)
+
+pub segments-spec : {M : Type 1} → statement M
+segments-spec =
+    tie.close
+    (tie.spec
+    Inv-loop
+    μ-loop
+    loop-holds
+    segment-requires
+    enum-known-r
+    returns
+    enum-known-a
+    sub-left
+    loop-less
+    loop-again
+    returns-2)

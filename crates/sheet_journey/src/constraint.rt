@@ -1,0 +1,143 @@
+// The temporary constraints of a journey's sheet judged, number by number.
+ghost use Rattle.kinds.specs.Kind.{upTo};
+ghost use Rattle.format.specs.Format.{then, times};
+ghost use Rattle.kinds.specs.journey.Kinds as kind;
+ghost use Rattle.grammar.specs.journey.Journey as journey;
+ghost use Rattle.sheet_fields.specs.Judging.{Standing, Over};
+use kinds::OUT_OF_RANGE;
+use kinds::journey::DTcEndLocation;
+use kinds::journey::DTcStartLocation;
+use kinds::journey::QLowAdhesionRate;
+use kinds::journey::QTcFront;
+use kinds::journey::QTcRange;
+use kinds::journey::QTcType;
+use kinds::journey::VSpeedLevel;
+use sheet_fields::Next;
+use sheet_fields::Step;
+use sheet_fields::after;
+use sheet_fields::no_current;
+use sheet_fields::ranged;
+use sheet_fields::speed;
+
+// A field up to most, on whose value nothing depends.
+fn up_to(s: &[u8], at: usize, n: u32, width: u32, most: u32) -> Step
+    requires { ⌜ Standing (now s) at ⌝ }
+    ensures { λ r. ⌜ Over (then (upTo width most)) (now (s .entry)) at n r ⌝ }
+{
+    match ranged(s, at, n, width, 0, most, OUT_OF_RANGE) {
+        Next::Refused(r, place) => Step::Refused(r, place),
+        Next::Is(_, to, m) => Step::On(to, m),
+    }
+}
+
+// The end, by the range and the start.
+fn end(s: &[u8], at: usize, n: u32, range: u32, start: u32) -> Step
+    requires { ⌜ Standing (now s) at ⌝ }
+    ensures { λ r. ⌜ Over (then (kind.dTcEndLocation range start)) (now (s .entry)) at n r ⌝ }
+{
+    if range == QTcRange::BOTH {
+        return after(s, at, n, start);
+    }
+    up_to(s, at, n, DTcEndLocation::WIDTH, DTcEndLocation::most(range))
+}
+
+// The start and the end, by the range.
+fn stretch(s: &[u8], at: usize, n: u32, range: u32) -> Step
+    requires { ⌜ Standing (now s) at ⌝ }
+    ensures { λ r. ⌜ Over (journey.stretch range) (now (s .entry)) at n r ⌝ }
+{
+    match ranged(
+        s,
+        at,
+        n,
+        DTcStartLocation::WIDTH,
+        0,
+        DTcStartLocation::most(range),
+        OUT_OF_RANGE,
+    ) {
+        Next::Refused(r, place) => Step::Refused(r, place),
+        Next::Is(start, at2, n2) => end(s, at2, n2, range, start),
+    }
+}
+
+// V_Speed_Level, by the type: one that is not used is the number 0 itself.
+fn level(s: &[u8], at: usize, n: u32, of: u32) -> Step
+    requires { ⌜ Standing (now s) at ⌝ }
+    ensures { λ r. ⌜ Over (then (kind.vSpeedLevel of)) (now (s .entry)) at n r ⌝ }
+{
+    if of == QTcType::SPEED {
+        return speed(s, at, n);
+    }
+    up_to(s, at, n, VSpeedLevel::WIDTH, 0)
+}
+
+// Q_FRONT, the speed, the adhesion and the current, by the type.
+fn restriction(s: &[u8], at: usize, n: u32, of: u32) -> Step
+    requires { ⌜ Standing (now s) at ⌝ }
+    ensures { λ r. ⌜ Over (journey.restriction of) (now (s .entry)) at n r ⌝ }
+{
+    match up_to(s, at, n, QTcFront::WIDTH, QTcFront::most(of)) {
+        Step::Refused(r, place) => Step::Refused(r, place),
+        Step::On(at2, n2) => match level(s, at2, n2, of) {
+            Step::Refused(r, place) => Step::Refused(r, place),
+            Step::On(at3, n3) => match up_to(
+                s,
+                at3,
+                n3,
+                QLowAdhesionRate::WIDTH,
+                QLowAdhesionRate::most(of),
+            ) {
+                Step::Refused(r, place) => Step::Refused(r, place),
+                Step::On(at4, n4) => no_current(s, at4, n4),
+            },
+        },
+    }
+}
+
+// A temporary constraint.
+fn constraint(s: &[u8], at: usize, n: u32) -> Step
+    requires { ⌜ Standing (now s) at ⌝ }
+    ensures { λ r. ⌜ Over journey.temporaryConstraint (now (s .entry)) at n r ⌝ }
+{
+    match ranged(s, at, n, QTcType::WIDTH, 0, QTcType::LARGEST, OUT_OF_RANGE) {
+        Next::Refused(r, place) => Step::Refused(r, place),
+        Next::Is(of, at2, n2) => match ranged(
+            s,
+            at2,
+            n2,
+            QTcRange::WIDTH,
+            0,
+            QTcRange::LARGEST,
+            OUT_OF_RANGE,
+        ) {
+            Next::Refused(r, place) => Step::Refused(r, place),
+            Next::Is(range, at3, n3) => match stretch(s, at3, n3, range) {
+                Step::Refused(r, place) => Step::Refused(r, place),
+                Step::On(at4, n4) => restriction(s, at4, n4, of),
+            },
+        },
+    }
+}
+
+// The temporary constraints of a segment.
+pub fn constraints(s: &[u8], at: usize, n: u32, count: u32) -> Step
+    requires { ⌜ Standing (now s) at ⌝ }
+    ensures { λ r. ⌜ Over (times journey.temporaryConstraint count) (now (s .entry)) at n r ⌝ }
+{
+    let mut to = at;
+    let mut m = n;
+    let mut left = count;
+    while 0 < left {
+        match constraint(s, to, m) {
+            Step::Refused(r, place) => {
+                return Step::Refused(r, place);
+            }
+            Step::On(a, b) => {
+                to = a;
+                m = b;
+                left -= 1;
+            }
+        }
+    }
+    Step::On(to, m)
+}

@@ -1,0 +1,143 @@
+// The sheet of a journey judged part by part, with the bits of its packet counted. Nothing is written.
+pub mod constraint;
+pub mod point;
+
+ghost use Rattle.format.specs.Format.{times};
+ghost use Rattle.grammar.specs.rows.Rows as rows;
+ghost use Rattle.grammar.specs.journey.Journey as journey;
+ghost use Rattle.grammar.specs.journey.Parts as parts;
+ghost use Rattle.sheet_fields.specs.Judging.{Standing, Over};
+use crate::point::points;
+use grammar::journey::CONSTRAINTS;
+use kinds::OUT_OF_RANGE;
+use kinds::body::NIter;
+use kinds::journey::NIterSp;
+use kinds::journey::QJpStatus;
+use sheet_fields::Next;
+use sheet_fields::Step;
+use sheet_fields::operational;
+use sheet_fields::ranged;
+use sheet_fields::row::row;
+
+// The count of a segment's temporary constraints, and the constraints.
+fn constraints(s: &[u8], at: usize, n: u32) -> Step
+    requires { ⌜ Standing (now s) at ⌝ }
+    ensures { λ r. ⌜ Over (parts.constraintList journey.constraints) (now (s .entry)) at n r ⌝ }
+{
+    match ranged(s, at, n, NIter::WIDTH, 0, CONSTRAINTS, OUT_OF_RANGE) {
+        Next::Refused(r, place) => Step::Refused(r, place),
+        Next::Is(count, at2, n2) => crate::constraint::constraints(s, at2, n2, count),
+    }
+}
+
+// NID_C to Q_SP_DIR of a segment.
+fn segment_row(s: &[u8], at: usize, n: u32) -> Step
+    requires { ⌜ Standing (now s) at ⌝ }
+    ensures { λ r. ⌜ Over (rows.row parts.segmentWidths parts.segmentMost) (now (s .entry)) at n r ⌝ }
+{
+    let widths = grammar::journey::segment_widths();
+    let most = grammar::journey::segment_most();
+    row(s, at, n, &widths, &most)
+}
+
+// A segment: its names, its timing points, and its temporary constraints.
+fn segment(s: &[u8], at: usize, n: u32) -> Step
+    requires { ⌜ Standing (now s) at ⌝ }
+    ensures { λ r. ⌜ Over (journey.journeySegment journey.constraints) (now (s .entry)) at n r ⌝ }
+{
+    match segment_row(s, at, n) {
+        Step::Refused(r, place) => Step::Refused(r, place),
+        Step::On(at2, n2) => match ranged(
+            s,
+            at2,
+            n2,
+            NIter::WIDTH,
+            0,
+            NIter::LARGEST,
+            OUT_OF_RANGE,
+        ) {
+            Next::Refused(r, place) => Step::Refused(r, place),
+            Next::Is(count, at3, n3) => match points(s, at3, n3, count) {
+                Step::Refused(r, place) => Step::Refused(r, place),
+                Step::On(at4, n4) => constraints(s, at4, n4),
+            },
+        },
+    }
+}
+
+// The segments of a journey.
+fn segments(s: &[u8], at: usize, n: u32, count: u32) -> Step
+    requires { ⌜ Standing (now s) at ⌝ }
+    ensures { λ r. ⌜ Over (times (journey.journeySegment journey.constraints) count) (now (s .entry)) at n r ⌝ }
+{
+    let mut to = at;
+    let mut m = n;
+    let mut left = count;
+    while 0 < left {
+        match segment(s, to, m) {
+            Step::Refused(r, place) => {
+                return Step::Refused(r, place);
+            }
+            Step::On(a, b) => {
+                to = a;
+                m = b;
+                left -= 1;
+            }
+        }
+    }
+    Step::On(to, m)
+}
+
+// Q_JP_Status, and the count of the segments with the segments.
+fn body(s: &[u8], at: usize, n: u32) -> Step
+    requires { ⌜ Standing (now s) at ⌝ }
+    ensures { λ r. ⌜ Over parts.journeyBodyPart (now (s .entry)) at n r ⌝ }
+{
+    match ranged(
+        s,
+        at,
+        n,
+        QJpStatus::WIDTH,
+        0,
+        QJpStatus::LARGEST,
+        OUT_OF_RANGE,
+    ) {
+        Next::Refused(r, place) => Step::Refused(r, place),
+        Next::Is(_, at2, n2) => match ranged(
+            s,
+            at2,
+            n2,
+            NIterSp::WIDTH,
+            0,
+            NIterSp::LARGEST,
+            OUT_OF_RANGE,
+        ) {
+            Next::Refused(r, place) => Step::Refused(r, place),
+            Next::Is(count, at3, n3) => segments(s, at3, n3, count),
+        },
+    }
+}
+
+// NID_ENGINE to N_PACKET_COUNTER.
+fn header_row(s: &[u8], at: usize, n: u32) -> Step
+    requires { ⌜ Standing (now s) at ⌝ }
+    ensures { λ r. ⌜ Over (rows.row parts.headerWidths parts.headerMost) (now (s .entry)) at n r ⌝ }
+{
+    let widths = grammar::journey::header_widths();
+    let most = grammar::journey::header_most();
+    row(s, at, n, &widths, &most)
+}
+
+// Every field after the packet number.
+pub fn fields(s: &[u8], at: usize, n: u32) -> Step
+    requires { ⌜ Standing (now s) at ⌝ }
+    ensures { λ r. ⌜ Over parts.journeyPart (now (s .entry)) at n r ⌝ }
+{
+    match operational(s, at, n) {
+        Step::Refused(r, place) => Step::Refused(r, place),
+        Step::On(at2, n2) => match header_row(s, at2, n2) {
+            Step::Refused(r, place) => Step::Refused(r, place),
+            Step::On(at3, n3) => body(s, at3, n3),
+        },
+    }
+}

@@ -1,0 +1,120 @@
+-- The verdict on a sheet, from the step over every field, and the limits of the fields before the speed profile.
+-- Assumes nothing.
+use mathlib.Core.Path.{_≡_, refl, sym, ap, _∙_}
+use mathlib.Core.List.{List, [], _∷_}
+use Prim.Native.Nat.{ℕ, zero, suc, _+_, _^_, _≤_, _<_}
+use native.Mathlib.Nat.{mod-eq-of-lt}
+use native.Mathlib.Omega.{arith}
+use lib.Dec.{lit≤, lit<}
+use lib.ListN.{length, drop, getD, drop-of-length-le, length-drop}
+use Rattle.bits.specs.Bits.{Bytes}
+use Rattle.kinds.specs.declared.Item.{Item}
+use Rattle.kinds.specs.Kind.{upTo}
+use Rattle.format.specs.Format.{Format, end, Read, accepted, refused, read, write, answerOf}
+use Rattle.format.specs.Media.{packet, sheet}
+use Rattle.format.specs.Pass.{pass, made}
+use Rattle.format.proofs.Media.{sheet-only}
+use Rattle.format.proofs.Passing.{pass-read}
+use Rattle.format.proofs.Tasks.{made-within}
+use Rattle.format.proofs.Sized.{size-most, lowered-priced}
+use Rattle.format.specs.Conforming.{Conforming, InSheet}
+use Rattle.grammar.specs.segment.Segment.{lists, body, fields, sheetFields, wireChanges}
+use Rattle.grammar.specs.segment.Parts.{kindAt, runs}
+use Rattle.grammar.proofs.segment.Ends.{sheet-bits}
+use Rattle.grammar.specs.journey.Journey.{journeyBody, journeyFields, journeySheet, constraints}
+use Rattle.grammar.proofs.journey.Ends as journey
+use Rattle.grammar.specs.declared.link.Tree.{Tree}
+use Rattle.grammar.specs.declared.link.Tree.the-variants.{Segment, Journey}
+use Rattle.grammar.specs.link.Trees.{treeSheetFields, treeSheet}
+use Rattle.grammar.proofs.link.Places.{sheet-place}
+use Rattle.verdict.specs.declared.SheetVerdict.{SheetVerdict}
+use Rattle.verdict.specs.declared.SheetVerdict.the-variants as SheetVerdict
+use Rattle.verdict.specs.Verdict.{sizeFrom, sheetVerdict}
+use Rattle.verdict.proofs.Sizes.{sheet-sorts}
+use Rattle.verdict.proofs.Accepted.{verdict-refused}
+use Rattle.sheet_fields.specs.declared.Step.the-variants.{On, Refused}
+use Rattle.sheet_fields.specs.Judging.{judging, Over}
+use Rattle.sheet_judge.specs.Whole.{numbersPart}
+
+-- the tree is that part and nothing after it
+whole-part : (t : Tree) → treeSheetFields t ≡ numbersPart t end
+unfolding body lists runs kindAt journeyBody
+whole-part Segment = refl
+whole-part Journey = refl
+
+-- a sheet's packet has fewer bits than 2 to the 32
+tree-few : (t : Tree) {l : List Item} → Conforming InSheet (treeSheetFields t) l → length (write packet (treeSheetFields t) l) < 2 ^ 32
+unfolding sheetFields fields journeySheet journeyFields
+tree-few Segment c = omega (arith, size-most lowered-priced (sheet-bits wireChanges (lit≤ tt)) c)
+tree-few Journey c = omega (arith, size-most lowered-priced (journey.sheet-bits constraints (lit≤ tt)) c)
+
+module _ (t : Tree) (s : List ℕ) (ok : Bytes s) where
+  abbrev tree : Format
+  tree = treeSheetFields t
+
+  -- an accepted sheet's packet has fewer bits than 2 to the 32
+  few : (l : List Item) → read sheet tree 0 s ≡ accepted l → length (write packet tree l) < 2 ^ 32
+  few l e = tree-few t (sheet-only tree 0 s l ok e .0)
+
+  counts : (r : Read) → read sheet tree 0 s ≡ r
+      → answerOf SheetVerdict.Refused (λ l. SheetVerdict.PacketBits (0 + length (write packet tree l))) r ≡ answerOf SheetVerdict.Refused (λ l. SheetVerdict.PacketBits (made judging tree l 0)) r
+  counts (accepted l) e =
+      let h = few l e in
+      ap SheetVerdict.PacketBits (sym (made-within packet (2 ^ 32) SheetVerdict.PacketBits SheetVerdict.Refused tree l 0 (lit< tt) ∙ mod-eq-of-lt (omega arith)))
+  counts (refused r place) e = refl
+
+  sheet-verdict : sheetVerdict t s ≡ pass sheet judging (numbersPart t end) 0 0 s
+  unfolding sheetVerdict
+  sheet-verdict =
+      counts (read sheet tree 0 s) refl
+      ∙ sym (pass-read sheet judging tree 0 0 s)
+      ∙ ap (λ (f : Format). pass sheet judging f 0 0 s) (whole-part t)
+
+  pub refused-whole : {r place : ℕ} → Over (numbersPart t) s 0 0 (Refused r place) → SheetVerdict.Refused r place ≡ sheetVerdict t s
+  refused-whole o = sym (sheet-verdict ∙ o .goes end)
+
+  pub accepted-whole : {at n : ℕ} → Over (numbersPart t) s 0 0 (On at n) → at ≡ length s → SheetVerdict.PacketBits n ≡ sheetVerdict t s
+  accepted-whole {at} {n} o e =
+      sym (sheet-verdict ∙ o .goes end ∙ ap (λ (u : List ℕ). pass sheet judging end n at u) (drop-of-length-le s {i = at} (omega arith)))
+
+  pub left-whole : {at n : ℕ} → Over (numbersPart t) s 0 0 (On at n) → (at ≡ length s → ⊥) → SheetVerdict.Refused 9 at ≡ sheetVerdict t s
+  left-whole {at} {n} o e =
+      sym (sheet-verdict ∙ o .goes end ∙ over (drop at s) (omega (arith, length-drop at s, o .stands .inside)))
+    where
+      over : (u : List ℕ) → 0 < length u → pass sheet judging end n at u ≡ SheetVerdict.Refused 9 at
+      over [] l = absurd (omega arith)
+      over (b ∷ u) l = refl
+
+  -- a refusal's place is below 2 to the 32
+  pub place-few : {r place : ℕ} → SheetVerdict.Refused r place ≡ sheetVerdict t s → place < 2 ^ 32
+  unfolding sheetVerdict
+  place-few {r} {place} e = sheet-place t s r place ok (verdict-refused sheet-sorts (sizeFrom packet tree 0) (treeSheet t s) r place e)
+
+-- ---- the fields before the speed profile by their number
+
+-- the code's tables
+abbrev pub widthTable : List ℕ
+widthTable = 32 ∷ 24 ∷ 15 ∷ 17 ∷ 8 ∷ 10 ∷ 32 ∷ 8 ∷ 8 ∷ 24 ∷ 24 ∷ 7 ∷ 20 ∷ []
+
+abbrev pub largestTable : List ℕ
+largestTable = 4294967295 ∷ 16777215 ∷ 32767 ∷ 86399 ∷ 255 ∷ 1023 ∷ 4294967295 ∷ 255 ∷ 255 ∷ 16777215 ∷ 16777215 ∷ 112 ∷ 1048575 ∷ []
+
+pub kind-limits : (i : ℕ) → 1 ≤ i → i < 13 → (i ≡ 9 → ⊥) → kindAt i ≡ upTo (getD widthTable i 0) (getD largestTable i 0)
+unfolding kindAt
+kind-limits zero l h n = absurd (omega arith)
+kind-limits (suc zero) l h n = refl
+kind-limits (suc (suc zero)) l h n = refl
+kind-limits (suc (suc (suc zero))) l h n = refl
+kind-limits (suc (suc (suc (suc zero)))) l h n = refl
+kind-limits (suc (suc (suc (suc (suc i))))) l h n = later i (omega arith) (λ e. n (ap (λ (m : ℕ). suc (suc (suc (suc (suc m))))) e))
+  where
+    later : (j : ℕ) → j < 8 → (j ≡ 4 → ⊥) → kindAt (suc (suc (suc (suc (suc j))))) ≡ upTo (getD widthTable (suc (suc (suc (suc (suc j))))) 0) (getD largestTable (suc (suc (suc (suc (suc j))))) 0)
+    later zero g m = refl
+    later (suc zero) g m = refl
+    later (suc (suc zero)) g m = refl
+    later (suc (suc (suc zero))) g m = refl
+    later (suc (suc (suc (suc zero)))) g m = absurd (m refl)
+    later (suc (suc (suc (suc (suc zero))))) g m = refl
+    later (suc (suc (suc (suc (suc (suc zero)))))) g m = refl
+    later (suc (suc (suc (suc (suc (suc (suc zero))))))) g m = refl
+    later (suc (suc (suc (suc (suc (suc (suc (suc j)))))))) g m = absurd (omega arith)

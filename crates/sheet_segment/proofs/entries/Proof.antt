@@ -1,0 +1,55 @@
+-- `sheet_lists::entries` meets its contract.
+use mathlib.Core.Path.{refl}
+use Prim.Native.Nat.{_-_}
+use Rattle.grammar.specs.segment.Segment.{entries}
+use Rattle.grammar.specs.segment.Parts.{entry}
+use Rattle.format.specs.Ways.{Left}
+use Rattle.format.proofs.Ways.{left-all, left-none, left-as, left-on, left-off}
+use Rattle.grammar.proofs.segment.Parts.{entries-more, entries-none}
+use Rattle.sheet_fields.specs.Judging.{judge}
+use borrow.Author.Needs.{needs}
+use native.Mathlib.Omega.{arith}
+use Rattle.sheet_segment.proofs.entries.Statement.{statement}
+use Rattle.sheet_segment.proofs.entries.Tie as tie
+
+abbrev Inv-loop : tie.InvT-loop
+Inv-loop s at n count figures to₀ m₀ left₀ to m left = Left (judge s) (entries count) (entries left) at n to m
+
+abbrev μ-loop : tie.MeasureT-loop
+μ-loop s at n count figures to₀ m₀ left₀ to m left = left
+
+loop-holds : tie.Need-loop-holds Inv-loop μ-loop
+loop-holds c = left-all (c .before .pre)
+
+entry-requires : tie.Need-entry-requires Inv-loop μ-loop
+entry-requires c κs = (c .before .before .loop .inv .stands, refl)
+
+enum-known-r : tie.Need-enum-known-r Inv-loop μ-loop
+enum-known-r c = search needs
+
+returns : tie.Need-returns Inv-loop μ-loop
+returns c =
+    let l = c .before .before .before .before .before .before .loop in
+    let more = left-as (λ f. entry (entries (l .left - 1) f)) (entries-more (l .left) (omega arith)) (l .inv) in
+    left-off entry (entries (l .left - 1)) more (rw (c .before .r .given .1) at (c .before .before .before .entry .ensures))
+
+enum-known-a : tie.Need-enum-known-a Inv-loop μ-loop
+enum-known-a c = search needs
+
+sub-left : tie.Need-sub-left Inv-loop μ-loop
+sub-left c = omega arith
+
+loop-less : tie.Need-loop-less Inv-loop μ-loop
+loop-less c = omega arith
+
+loop-again : tie.Need-loop-again Inv-loop μ-loop
+loop-again c =
+    let l = c .before .before .before .before .before .before .loop in
+    let more = left-as (λ f. entry (entries (l .left - 1) f)) (entries-more (l .left) (omega arith)) (l .inv) in
+    left-on entry (entries (l .left - 1)) more (rw (c .before .a .given .1) at (c .before .before .before .entry .ensures))
+
+returns-2 : tie.Need-returns-2 Inv-loop μ-loop
+returns-2 c = let l = c .before .loop in left-none (left-as (λ f. f) (entries-none (l .left) (omega arith)) (l .inv))
+
+pub entries-spec : {M : Type 1} → statement M
+entries-spec = tie.close (tie.spec Inv-loop μ-loop loop-holds entry-requires enum-known-r returns enum-known-a sub-left loop-less loop-again returns-2)

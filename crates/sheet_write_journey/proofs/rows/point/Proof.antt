@@ -1,0 +1,73 @@
+-- `write_journey_rows::point` meets its contract.
+use mathlib.Core.Path.{refl}
+use mathlib.Core.List.{[], _∷_}
+use Prim.Native.Nat.{_+_}
+use lib.Dec.{lit<, lit≤}
+use Rattle.sheet_write_journey.proofs.row.Rows.{row-first, row-after, row-both}
+use Rattle.sheet_write_journey.specs.rows.Widths.{choiceWidths}
+use native.Mathlib.Omega.{arith}
+use borrow.Author.Needs.{needs}
+use Rattle.sheet_write_journey.proofs.rows.point.Statement.{statement}
+use Rattle.sheet_write_journey.proofs.rows.point.Tie as tie
+
+number-requires : tie.Need-number-requires
+number-requires c κs = (row-first _ _ (32 ∷ []) _ _ (c .before .before .before .pre), lit< tt, lit≤ tt)
+
+add-moment : tie.Need-add-moment
+add-moment c = search needs
+
+moment-requires : tie.Need-moment-requires
+moment-requires c κs =
+    let r1 = row-after _ _ (32 ∷ []) _ _ (c .before .before .before .before .before .before .before .args .at + 32) refl (c .before .before .before .number .ensures) (c .before .before .before .before .before .before .before .pre) in
+    row-first _ _ (15 ∷ 17 ∷ []) _ _ r1
+
+add-choices : tie.Need-add-choices
+add-choices c = search needs
+
+choices-requires : tie.Need-choices-requires
+choices-requires c κs =
+    let r1 = row-after _ _ (32 ∷ []) _ _ (c .before .before .before .before .before .before .before .before .before .before .before .args .at + 32) refl (c .before .before .before .before .before .before .before .number .ensures) (c .before .before .before .before .before .before .before .before .before .before .before .pre) in
+    let r2 = row-after _ _ (15 ∷ 17 ∷ []) _ _ (c .before .before .before .before .before .before .before .before .before .before .before .args .at + 64) (omega arith) (c .before .before .before .moment .ensures) r1 in
+    row-first _ _ choiceWidths _ _ r2
+
+add-moment-2 : tie.Need-add-moment-2
+add-moment-2 c = search needs
+
+moment-requires-2 : tie.Need-moment-requires-2
+moment-requires-2 c κs =
+    let r1 = row-after _ _ (32 ∷ []) _ _ (c .before .before .before .before .before .before .before .before .before .before .before .before .before .before .before .args .at + 32) refl (c .before .before .before .before .before .before .before .before .before .before .before .number .ensures) (c .before .before .before .before .before .before .before .before .before .before .before .before .before .before .before .pre) in
+    let r2 = row-after _ _ (15 ∷ 17 ∷ []) _ _ (c .before .before .before .before .before .before .before .before .before .before .before .before .before .before .before .args .at + 64) (omega arith) (c .before .before .before .before .before .before .before .moment .ensures) r1 in
+    let r3 = row-after _ _ choiceWidths _ _ (c .before .before .before .before .before .before .before .before .before .before .before .before .before .before .before .args .at + 86) (omega arith) (c .before .before .before .choices .ensures) r2 in
+    row-first _ _ (15 ∷ 17 ∷ []) _ _ r3
+
+add-closing : tie.Need-add-closing
+add-closing c = search needs
+
+closing-requires : tie.Need-closing-requires
+closing-requires c κs =
+    let r1 = row-after _ _ (32 ∷ []) _ _ (c .before .before .before .before .before .before .before .before .before .before .before .before .before .before .before .before .before .before .before .args .at + 32) refl (c .before .before .before .before .before .before .before .before .before .before .before .before .before .before .before .number .ensures) (c .before .before .before .before .before .before .before .before .before .before .before .before .before .before .before .before .before .before .before .pre) in
+    let r2 = row-after _ _ (15 ∷ 17 ∷ []) _ _ (c .before .before .before .before .before .before .before .before .before .before .before .before .before .before .before .before .before .before .before .args .at + 64) (omega arith) (c .before .before .before .before .before .before .before .before .before .before .before .moment .ensures) r1 in
+    let r3 = row-after _ _ choiceWidths _ _ (c .before .before .before .before .before .before .before .before .before .before .before .before .before .before .before .before .before .before .before .args .at + 86) (omega arith) (c .before .before .before .before .before .before .before .choices .ensures) r2 in
+    row-after _ _ (15 ∷ 17 ∷ []) _ _ (c .before .before .before .before .before .before .before .before .before .before .before .before .before .before .before .before .before .before .before .args .at + 118) (omega arith) (c .before .before .before .moment2 .ensures) r3
+
+same-length : tie.Need-same-length
+same-length c = search needs
+
+returns : tie.Need-returns
+returns c = row-both _ _ (32 ∷ []) _ _ (c .before .before .before .before .before .before .before .before .before .before .before .before .before .before .before .before .before .before .before .before .before .before .args .at + 32) refl (c .before .before .before .before .before .before .before .before .before .before .before .before .before .before .before .before .before .before .number .ensures) (row-both _ _ (15 ∷ 17 ∷ []) _ _ (c .before .before .before .before .before .before .before .before .before .before .before .before .before .before .before .before .before .before .before .before .before .before .args .at + 64) (omega arith) (c .before .before .before .before .before .before .before .before .before .before .before .before .before .before .moment .ensures) (row-both _ _ choiceWidths _ _ (c .before .before .before .before .before .before .before .before .before .before .before .before .before .before .before .before .before .before .before .before .before .before .args .at + 86) (omega arith) (c .before .before .before .before .before .before .before .before .before .before .choices .ensures) (row-both _ _ (15 ∷ 17 ∷ []) _ _ (c .before .before .before .before .before .before .before .before .before .before .before .before .before .before .before .before .before .before .before .before .before .before .args .at + 118) (omega arith) (c .before .before .before .before .before .before .moment2 .ensures) (c .before .before .closing .ensures))))
+
+pub point-spec : {M : Type 1} → statement M
+point-spec =
+    tie.close
+    (tie.spec
+    number-requires
+    add-moment
+    moment-requires
+    add-choices
+    choices-requires
+    add-moment-2
+    moment-requires-2
+    add-closing
+    closing-requires
+    same-length
+    returns)

@@ -1,0 +1,4 @@
+pub mod Sheet
+pub mod constraint
+pub mod row
+pub mod rows

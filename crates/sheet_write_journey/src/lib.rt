@@ -1,0 +1,112 @@
+// The sheet of an accepted journey, written part by part into a room that holds all of it. What was accepted is not judged again.
+pub mod constraint;
+pub mod row;
+pub mod rows;
+
+ghost use mathlib.Core.Path.{_≡_};
+ghost use Prim.Native.Nat.{_+_, _*_, _≤_};
+ghost use lib.ListN.{length};
+ghost use lib.Seq.{sets};
+ghost use Rattle.format.specs.Format.{times};
+ghost use Rattle.grammar.specs.journey.Journey.{timingPoint, temporaryConstraint, journeySegment, constraints};
+ghost use Rattle.sheet_write_segment.specs.elements.Writing.{filled, PartWritable, Wrote};
+ghost use Rattle.sheet_write_journey.specs.Sheet.{journeyOf, JourneyWritable};
+use crate::constraint::constraint;
+use crate::row::one;
+use crate::rows::head;
+use crate::rows::point;
+use crate::rows::start;
+use kinds::body::NIter;
+use sheet_write_segment::elements::Spot;
+
+// "A timing point has 129 bits".
+const POINT: usize = 129;
+
+// The bits of a temporary constraint.
+const CONSTRAINT: usize = 73;
+
+// The bits of a segment before its timing points.
+const START: usize = 64;
+
+// The timing points of a segment.
+fn points(packet: &[u8], stop: usize, at: usize, count: u32, room: &mut [u8], n: usize) -> usize
+    requires { ⌜ PartWritable (times timingPoint count) (now packet) stop at (filled (now room) n) ⌝ }
+    ensures { λ r. ⌜ Wrote (times timingPoint count) (now (packet .entry)) stop at (filled (now (room .entry)) n) (at + 129 * count) (filled (now (room .exit)) r) ⌝ }
+{
+    let mut to = at;
+    let mut m = n;
+    let mut left = count;
+    while 0 < left {
+        m = point(packet, to, room, m);
+        to += POINT;
+        left -= 1;
+    }
+    m
+}
+
+// The temporary constraints of a segment.
+fn constraints(
+    packet: &[u8],
+    stop: usize,
+    at: usize,
+    count: u32,
+    room: &mut [u8],
+    n: usize,
+) -> usize
+    requires { ⌜ PartWritable (times temporaryConstraint count) (now packet) stop at (filled (now room) n) ⌝ }
+    ensures { λ r. ⌜ Wrote (times temporaryConstraint count) (now (packet .entry)) stop at (filled (now (room .entry)) n) (at + 73 * count) (filled (now (room .exit)) r) ⌝ }
+{
+    let mut to = at;
+    let mut m = n;
+    let mut left = count;
+    while 0 < left {
+        m = constraint(packet, stop, to, room, m);
+        to += CONSTRAINT;
+        left -= 1;
+    }
+    m
+}
+
+// A segment: its identity and direction, its timing points, and its temporary constraints.
+fn segment(packet: &[u8], stop: usize, at: usize, room: &mut [u8], n: usize) -> Spot
+    requires { ⌜ PartWritable (journeySegment constraints) (now packet) stop at (filled (now room) n) ⌝ }
+    ensures { λ r. ⌜ Wrote (journeySegment constraints) (now (packet .entry)) stop at (filled (now (room .entry)) n) (r .at) (filled (now (room .exit)) (r .n)) ⌝ }
+{
+    let first = start(packet, at, room, n);
+    let count = first.count;
+    let m = points(packet, stop, at + START, count, room, first.n);
+    let to = at + START + POINT * count as usize;
+    let v = bits::read_window(packet, to, NIter::WIDTH);
+    let next = one(room, m, v);
+    let last = constraints(packet, stop, to + 5, v, room, next);
+    Spot {
+        at: to + 5 + CONSTRAINT * v as usize,
+        n: last,
+    }
+}
+
+// The segments of a journey.
+fn segments(packet: &[u8], stop: usize, at: usize, count: u32, room: &mut [u8], n: usize) -> Spot
+    requires { ⌜ PartWritable (times (journeySegment constraints) count) (now packet) stop at (filled (now room) n) ⌝ }
+    ensures { λ r. ⌜ Wrote (times (journeySegment constraints) count) (now (packet .entry)) stop at (filled (now (room .entry)) n) (r .at) (filled (now (room .exit)) (r .n)) ⌝ }
+{
+    let mut to = at;
+    let mut m = n;
+    let mut left = count;
+    while 0 < left {
+        let spot = segment(packet, stop, to, room, m);
+        to = spot.at;
+        m = spot.n;
+        left -= 1;
+    }
+    Spot { at: to, n: m }
+}
+
+// Writes the numbers of a journey's fields, which end at the bit stop, from the byte start of the room on.
+pub fn write_journey(packet: &[u8], stop: usize, room: &mut [u8], start: usize)
+    requires { ⌜ JourneyWritable (now packet) stop (now room) start × (8 ≤ length (now packet)) ⌝ }
+    ensures { λ _. ⌜ now (room .exit) ≡ sets (now (room .entry)) start (journeyOf (now (packet .entry)) stop) ⌝ }
+{
+    let first = head(packet, room, start);
+    segments(packet, stop, 131, first.count, room, first.n);
+}

@@ -1,0 +1,51 @@
+-- `write_sheet::write_fields` meets its contract.
+use denote.Ref.{now}
+use borrow.Author.Needs.{needs}
+use Rattle.sheet_write_segment.specs.elements.Writing.{filled, PartWritable}
+use Rattle.sheet_write_segment.proofs.Sheet.{whole, all-writable, all-held, header-writable, identity-writable, length-read, length-fits, offsets-writable, lists-writable, all-wrote}
+use Rattle.sheet_write_segment.proofs.write_fields.Statement.{statement}
+use Rattle.sheet_write_segment.proofs.write_fields.Tie as tie
+
+-- all of the fields may be written
+writable : (c : tie.Start) → PartWritable whole (now (c .args .packet)) (c .args .stop) 24 (filled (now (c .args .room)) (c .args .start))
+writable c = all-writable (now (c .args .packet)) (c .args .stop) (now (c .args .room)) (c .args .start) (c .pre .0) (c .pre .1)
+
+header-requires : tie.Need-header-requires
+header-requires c κs = header-writable (writable (c .before .before .before))
+
+identity-requires : tie.Need-identity-requires
+identity-requires c κs = identity-writable (writable (c .before .before .before .before .before .before .before)) (c .before .before .before .header .ensures)
+
+read-window-requires : tie.Need-read-window-requires
+read-window-requires c κs = length-read (writable (c .before .before .before .before .before .before .before .before .before .before)) (c .before .before .before .before .before .before .header .ensures) (c .before .before .identity .ensures)
+
+put-number-requires : tie.Need-put-number-requires
+put-number-requires c κs = length-fits (writable (c .before .before .before .before .before .before .before .before .before .before .before .before)) (c .before .before .before .before .before .before .before .before .header .ensures) (c .before .before .before .before .identity .ensures) (c .before .read-window .ensures)
+
+offsets-requires : tie.Need-offsets-requires
+offsets-requires c κs = offsets-writable (writable (c .before .before .before .before .before .before .before .before .before .before .before .before .before .before .before .before)) (c .before .before .before .before .before .before .before .before .before .before .before .before .header .ensures) (c .before .before .before .before .before .before .before .before .identity .ensures) (c .before .before .before .before .before .read-window .ensures) (c .before .before .before .put-number .ensures)
+
+lists-requires : tie.Need-lists-requires
+lists-requires c κs = lists-writable (writable (c .before .before .before .before .before .before .before .before .before .before .before .before .before .before .before .before .before .before .before .before)) (c .before .before .before .before .before .before .before .before .before .before .before .before .before .before .before .before .header .ensures) (c .before .before .before .before .before .before .before .before .before .before .before .before .identity .ensures) (c .before .before .before .before .before .before .before .before .before .read-window .ensures) (c .before .before .before .before .before .before .before .put-number .ensures) (c .before .before .before .offsets .ensures)
+
+same-length : tie.Need-same-length
+same-length c = search needs
+
+returns : tie.Need-returns
+returns c =
+    let b = c .before .before .before .before .before .before .before .before .before .before .before .before .before .before .before .before .before .before .before .before .before .before .before in
+    all-held (now (b .args .packet)) (b .args .stop) (now (b .args .room)) (b .args .start) (b .pre .0)
+    (all-wrote (writable b) (c .before .before .before .before .before .before .before .before .before .before .before .before .before .before .before .before .before .before .before .header .ensures) (c .before .before .before .before .before .before .before .before .before .before .before .before .before .before .before .identity .ensures) (c .before .before .before .before .before .before .before .before .before .before .before .before .read-window .ensures) (c .before .before .before .before .before .before .before .before .before .before .put-number .ensures) (c .before .before .before .before .before .before .offsets .ensures) (c .before .before .lists .ensures))
+
+pub write-fields-spec : {M : Type 1} → statement M
+write-fields-spec =
+    tie.close
+    (tie.spec
+    header-requires
+    identity-requires
+    read-window-requires
+    put-number-requires
+    offsets-requires
+    lists-requires
+    same-length
+    returns)

@@ -1,0 +1,2 @@
+-- The definitions of the module elements.
+pub mod Writing

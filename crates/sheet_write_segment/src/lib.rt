@@ -1,0 +1,121 @@
+// The sheet of an accepted packet, written part by part into a room that holds all of it. What was accepted is not judged again.
+pub mod elements;
+
+ghost use mathlib.Core.Path.{_≡_};
+ghost use Prim.Native.Nat.{_≤_};
+ghost use lib.ListN.{length};
+ghost use lib.Seq.{sets};
+ghost use Rattle.grammar.specs.segment.Segment as segment;
+ghost use Rattle.grammar.specs.segment.Parts.{startOf, threeLists};
+ghost use Rattle.grammar.specs.declared.link.Tree.the-variants.{Segment};
+ghost use Rattle.convert.specs.Writers.{fieldsOf, FieldsWritable};
+ghost use Rattle.sheet_write_segment.specs.elements.Writing.{filled, PartWritable, Wrote};
+
+mod head;
+
+use crate::elements::Spot;
+use crate::elements::element;
+use grammar::segment::Part;
+use grammar::segment::WIRE_CHANGES;
+use kinds::body;
+
+// The changes of a part: each a location that rises, and an element. The end of the segment is for the contract alone.
+fn changes(
+    part: Part,
+    packet: &[u8],
+    stop: usize,
+    at: usize,
+    lsp: u32,
+    count: u32,
+    room: &mut [u8],
+    n: usize,
+) -> Spot
+    requires { ⌜ PartWritable (segment.changes (startOf part) lsp 0 count) (now packet) stop at (filled (now room) n) ⌝ }
+    ensures { λ r. ⌜ Wrote (segment.changes (startOf part) lsp 0 count) (now (packet .entry)) stop at (filled (now (room .entry)) n) (r .at) (filled (now (room .exit)) (r .n)) ⌝ }
+{
+    let mut to = at;
+    let mut m = n;
+    let mut last: u32 = 0;
+    let mut left = count;
+    while 0 < left {
+        let x = bits::read_window(packet, to, body::DLocation::WIDTH);
+        let m2 = numbers::write::put_number(room, m, x);
+        let spot = element(part, packet, stop, to + 24, room, m2);
+        to = spot.at;
+        m = spot.n;
+        last = x;
+        left -= 1;
+    }
+    Spot { at: to, n: m }
+}
+
+// A part: its first element, the count of its changes, and the changes.
+fn list(
+    part: Part,
+    packet: &[u8],
+    stop: usize,
+    at: usize,
+    lsp: u32,
+    limit: u32,
+    room: &mut [u8],
+    n: usize,
+) -> Spot
+    requires { ⌜ PartWritable (segment.part (startOf part) limit lsp) (now packet) stop at (filled (now room) n) ⌝ }
+    ensures { λ r. ⌜ Wrote (segment.part (startOf part) limit lsp) (now (packet .entry)) stop at (filled (now (room .entry)) n) (r .at) (filled (now (room .exit)) (r .n)) ⌝ }
+{
+    let first = element(part, packet, stop, at, room, n);
+    let to = first.at;
+    let count = bits::read_window(packet, to, body::NIter::WIDTH);
+    let m = numbers::write::put_short(room, first.n, count);
+    changes(part, packet, stop, to + 5, lsp, count, room, m)
+}
+
+// The three parts that have changes.
+fn lists(packet: &[u8], stop: usize, at: usize, lsp: u32, room: &mut [u8], n: usize) -> Spot
+    requires { ⌜ PartWritable (threeLists lsp) (now packet) stop at (filled (now room) n) ⌝ }
+    ensures { λ r. ⌜ Wrote (threeLists lsp) (now (packet .entry)) stop at (filled (now (room .entry)) n) (r .at) (filled (now (room .exit)) (r .n)) ⌝ }
+{
+    let one = list(
+        Part::Speeds,
+        packet,
+        stop,
+        at,
+        lsp,
+        body::NIter::LARGEST,
+        room,
+        n,
+    );
+    let two = list(
+        Part::Volts,
+        packet,
+        stop,
+        one.at,
+        lsp,
+        WIRE_CHANGES,
+        room,
+        one.n,
+    );
+    list(
+        Part::Amperes,
+        packet,
+        stop,
+        two.at,
+        lsp,
+        WIRE_CHANGES,
+        room,
+        two.n,
+    )
+}
+
+// Writes the numbers of a packet's fields, which end at the bit stop, from the byte start of the room on.
+pub fn write_fields(packet: &[u8], stop: usize, room: &mut [u8], start: usize)
+    requires { ⌜ FieldsWritable Segment (now packet) stop (now room) start × (8 ≤ length (now packet)) ⌝ }
+    ensures { λ _. ⌜ now (room .exit) ≡ sets (now (room .entry)) start (fieldsOf Segment (now (packet .entry)) stop) ⌝ }
+{
+    let n = head::header(packet, stop, room, start);
+    let m = head::identity(packet, stop, room, n);
+    let lsp = bits::read_window(packet, 178, body::LSp::WIDTH);
+    let to = numbers::write::put_number(room, m, lsp);
+    let first = head::offsets(packet, stop, room, to);
+    lists(packet, stop, 253, lsp, room, first);
+}

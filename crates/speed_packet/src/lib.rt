@@ -1,0 +1,167 @@
+// The permitted speed at a place of an accepted packet, worked out element by element. What was accepted is not judged again.
+
+ghost use mathlib.Core.Bool.{true, cond};
+ghost use mathlib.Core.Path.{_≡_};
+ghost use Prim.Native.Nat.{_+_, _*_, _<_};
+ghost use Rattle.kinds.specs.Kinds as kinds;
+ghost use Rattle.kinds.specs.Tables.{cantFigures};
+ghost use Rattle.grammar.specs.segment.Segment as segment;
+ghost use Rattle.grammar.specs.segment.Parts as parts;
+ghost use Rattle.speed.specs.Speed.{segmentLength, speedIn};
+ghost use Rattle.speed_element.specs.Reading.{Readable, EntryRead, Opens, ElementRead, Ended, NextRead, ChangesRead, ProfileRead};
+ghost use Rattle.speed_packet.specs.Asking.{AcceptedPacket, numbersOfPacket, Reads};
+use fields::tables;
+use kinds::body;
+use speed::Train;
+use speed_element::Found;
+use speed_element::Lows;
+use speed_element::Next;
+use speed_element::Open;
+
+// Where L_SP stands, and where the speed profile starts.
+const LENGTH: usize = 178;
+
+const PROFILE: usize = 253;
+
+// The bits of an entry, and of what an element begins with.
+const ENTRY: usize = 13;
+
+const ELEMENT: usize = 13;
+
+fn chosen(so: bool, a: u32, b: u32) -> u32
+    ensures { λ r. ⌜ r ≡ cond so a b ⌝ }
+{
+    if so {
+        return a;
+    }
+    b
+}
+
+// The number in the sheet of a class. A figure is looked up in any case: no branch depends on Q_DIFF, which goes up and down from entry to entry.
+fn class_number(figures: &[u32], q_diff: u32, v: u32) -> u32
+    requires { ⌜ (now figures ≡ cantFigures) × (kinds.class «q_diff» .allowed v ≡ true) ⌝ }
+    ensures { λ r. ⌜ r ≡ kinds.class «q_diff» .raise v ⌝ }
+{
+    let by_cant = q_diff == speed::OF_CANT;
+    let figure = figures[chosen(by_cant, v, 0) as usize];
+    chosen(by_cant, figure, v)
+}
+
+// The lowest speeds with the entry at the bit at.
+fn entry(s: &[u8], at: usize, figures: &[u32], train: Train, lows: Lows) -> Lows
+    requires { ⌜ (now figures ≡ cantFigures) × Readable (Reads (now s)) (parts.entry) at ⌝ }
+    ensures { λ r. ⌜ EntryRead (Reads (now (s .entry))) train lows r at (at + 13) ⌝ }
+{
+    let t = bits::read_window(s, at, ENTRY as u32);
+    let q_diff = t / 2048;
+    let class = class_number(figures, q_diff, t / 128 % 16);
+    lows.with(train, q_diff, class, t % 128 * body::VStatic::STEP)
+}
+
+// The element at the bit at, which starts at the location start. Its entries are passed over.
+fn element(s: &[u8], at: usize, start: u32) -> Found
+    requires { ⌜ Readable (Reads (now s)) (segment.profile) at ⌝ }
+    ensures { λ r. ⌜ ElementRead (Reads (now (s .entry))) at (r .next) (r .open) × (r .open .start ≡ start) ⌝ }
+{
+    let t = bits::read_window(s, at, ELEMENT as u32);
+    let count = t % 32;
+    let entries = at + ELEMENT;
+    Found {
+        open: Open {
+            start,
+            v_static: t / 64 * body::VStatic::STEP,
+            q_front: t / 32 % 2,
+            count,
+            entries,
+        },
+        next: entries + ENTRY * count as usize,
+    }
+}
+
+// The lowest speed held at x, once the open element ends at end. Its entries are read only where it holds.
+fn ended(s: &[u8], open: Open, train: Train, held: u32, end: u32, x: u32) -> u32
+    requires { ⌜ Opens (Reads (now s)) «open» ⌝ }
+    ensures { λ r. ⌜ Ended (Reads (now (s .entry))) train held end x «open» r ⌝ }
+{
+    if !open.holds(train, end, x) {
+        return held;
+    }
+    let figures = tables::CANT_FIGURES;
+    let mut lows = speed_element::no_lows();
+    let mut to = open.entries;
+    let mut left = open.count;
+    while 0 < left {
+        lows = entry(s, to, &figures, train, lows);
+        to += ENTRY;
+        left -= 1;
+    }
+    lows.lowered(train, open.v_static, held)
+}
+
+// The next change, of so many that are left at the bit at: the open element ends at its location. After the last it ends at lsp, and nothing follows.
+fn next(s: &[u8], open: Open, at: usize, left: u64, lsp: u32) -> Next
+    requires { ⌜ Readable (Reads (now s)) (segment.changes segment.profile lsp («open» .start) left) at ⌝ }
+    ensures { λ r. ⌜ NextRead (Reads (now (s .entry))) lsp «open» left at r ⌝ }
+{
+    if left == 0 {
+        return Next {
+            end: lsp,
+            open,
+            next: at,
+        };
+    }
+    let start = bits::read_window(s, at, body::DLocation::WIDTH);
+    let e = element(s, at + 24, start);
+    let open = e.open;
+    Next {
+        end: start,
+        open,
+        next: e.next,
+    }
+}
+
+// The permitted speed at x, from the changes after the first element. The last element ends at lsp.
+fn changes(s: &[u8], at: usize, count: u32, train: Train, lsp: u32, x: u32, first: Open) -> u32
+    requires { ⌜ Opens (Reads (now s)) first × Readable (Reads (now s)) (segment.changes segment.profile lsp (first .start) count) at ⌝ }
+    ensures { λ r. ⌜ ChangesRead (Reads (now (s .entry))) train lsp x first count at r ⌝ }
+{
+    let mut held = speed_element::NONE;
+    let mut open = first;
+    let mut to = at;
+    let mut left = count as u64 + 1;
+    while 0 < left {
+        left -= 1;
+        let n = next(s, open, to, left, lsp);
+        held = ended(s, open, train, held, n.end, x);
+        open = n.open;
+        to = n.next;
+    }
+    speed_element::permitted(held)
+}
+
+// The permitted speed at x, from the profile at the bit at: its first element, the count of its changes, and the changes.
+fn profile(s: &[u8], at: usize, train: Train, lsp: u32, x: u32) -> u32
+    requires { ⌜ Readable (Reads (now s)) (segment.part segment.profile 31 lsp) at ⌝ }
+    ensures { λ r. ⌜ ProfileRead (Reads (now (s .entry))) train lsp x at r ⌝ }
+{
+    let first = element(s, at, 0);
+    let count = bits::read_window(s, first.next, body::NIter::WIDTH);
+    changes(s, first.next + 5, count, train, lsp, x, first.open)
+}
+
+// The length of an accepted packet's segment.
+pub fn length_of(packet: &[u8]) -> u32
+    requires { ⌜ AcceptedPacket (now packet) ⌝ }
+    ensures { λ r. ⌜ r ≡ segmentLength (numbersOfPacket (now (packet .entry))) ⌝ }
+{
+    bits::read_window(packet, LENGTH, body::LSp::WIDTH)
+}
+
+// The permitted speed for a train at a place of an accepted packet.
+pub fn permitted(packet: &[u8], train: Train, x: u32) -> u32
+    requires { ⌜ AcceptedPacket (now packet) ⌝ }
+    ensures { λ r. ⌜ r ≡ speedIn train x (numbersOfPacket (now (packet .entry))) ⌝ }
+{
+    let lsp = length_of(packet);
+    profile(packet, PROFILE, train, lsp, x)
+}

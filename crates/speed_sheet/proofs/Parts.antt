@@ -1,0 +1,238 @@
+-- The parts of an accepted sheet, from the numbers that the code reads.
+-- Assumes nothing.
+use mathlib.Core.Path.{_≡_, refl, sym, ap, _∙_}
+use mathlib.Core.Bool.{Bool, true, false, _&&_}
+use mathlib.Core.List.{List}
+use mathlib.Core.Option.{some}
+use Prim.Native.Nat.{ℕ, zero, suc, _+_, _-_, _/_, _%_, _≤_, _<_}
+use native.Mathlib.Omega.{arith}
+use borrow.Author.Tests.{leb-true}
+use lib.Dec.{leb, lit<}
+use lib.ListN.{length, drop, getD}
+use Rattle.bits.specs.Bits.{Bytes}
+use Rattle.bits.proofs.Tests.{and-left, and-right}
+use Rattle.numbers.specs.Numbers.{groupsIn}
+use Rattle.numbers.proofs.Counting.{count-some, last-count}
+use Rattle.kinds.specs.declared.Item.{Item}
+use Rattle.kinds.specs.Kind.{Kind, when}
+use Rattle.kinds.specs.Kinds.{nidPacketAto, qDiff, class, speed, qFront, nIter, lSp}
+use Rattle.fields.proofs.Lawful.{LawfulKind, narrow, upTo-lawful, speed-lawful, class-lawful}
+use Rattle.format.specs.Format.{Format, end, field, then, read, valuesOf, sheetNumbers}
+use Rattle.format.specs.Media.{sheet}
+use Rattle.grammar.specs.segment.Segment.{entries, profile, voltage, current, part, lists, body, fields, sheetFields, wireChanges}
+use Rattle.grammar.specs.segment.Judgement.{fromSheet}
+use Rattle.grammar.specs.segment.Parts.{entry, kindAt, runs, threeLists}
+use Rattle.grammar.proofs.segment.Parts.{runs-more, runs-none}
+use Rattle.speed.specs.declared.Train.{Train}
+use Rattle.speed.specs.Speed.{speedIn}
+use Rattle.speed.proofs.Lowering.{when-is}
+use Rattle.speed_element.specs.Elements.{none, Kept}
+use Rattle.speed_element.specs.Reading.{Readable, Past, Passes, FieldRead, ProfileRead}
+use Rattle.speed_element.proofs.Reading.{readable-field, past-here, then-past, then-is, passes-past}
+use Rattle.speed_sheet.specs.Asking.{AcceptedSheet, numbersOfSheet, countedAt, NumberAt, numberEnd, shortEnd, entryEnd, Reads, HeadRead}
+use Rattle.speed_sheet.proofs.Numbers.{valueOr, field-read, field-any, known}
+
+class-highest : (q : ℕ) → class q .highest < 16384
+class-highest zero = lit< tt
+class-highest (suc q) = lit< tt
+
+category-highest : (q : ℕ) → 0 < q → class q .highest < 3
+category-highest zero h = absurd (omega arith)
+category-highest (suc q) h = lit< tt
+
+q-diff-lawful : LawfulKind qDiff
+q-diff-lawful = upTo-lawful 2 2 (narrow tt) (lit< tt)
+
+front-lawful : LawfulKind qFront
+front-lawful = upTo-lawful 1 1 (narrow tt) (lit< tt)
+
+count-lawful : LawfulKind (nIter 31)
+count-lawful = upTo-lawful 5 31 (narrow tt) (lit< tt)
+
+module _ (s : List ℕ) where
+  module _ {at to a : ℕ} (n : NumberAt s at to a) where
+    -- a field whose number in the sheet is its value
+    pub same-read : (k : Kind) → ((u : ℕ) → k .lower u ≡ when (k .allowed u) u) → FieldRead (Reads s) k at to a a
+    same-read k q = field-read s k n a (λ u d. when-is (k .allowed a) a u (sym (q a) ∙ d))
+
+    pub class-read : (q : ℕ) → FieldRead (Reads s) (class q) at to (valueOr (class q .lower a)) a
+    class-read q = field-any s (class q) n
+
+    pub speed-read : FieldRead (Reads s) speed at to (valueOr (speed .lower a)) a
+    speed-read = field-any s speed n
+
+    pub number-most : {k : Kind} → LawfulKind k → (part : ℕ → Format → Format) → Readable (Reads s) (λ i. field k (λ u. part u i)) at → a ≤ k .highest
+    number-most {k} w part h = rw (n .value) (w .top _ _ (known s k (h .reads) .lowers))
+
+    pub speed-small : (part : ℕ → Format → Format) → Readable (Reads s) (λ i. field speed (λ u. part u i)) at → a < none
+    speed-small part h = omega (arith, number-most speed-lawful part h)
+
+  pub entry-kept : {at b d to q g w : ℕ} → NumberAt s at b q → NumberAt s b d g → NumberAt s d to w → Readable (Reads s) entry at → Kept q g w
+  entry-kept {q = q} x y z h =
+      let second = readable-field (Reads s) (same-read x qDiff (λ u. refl)) (λ u f. then (class u) (then speed f)) h in
+      let third = readable-field (Reads s) (class-read y q) (λ c f. then speed f) second in
+      record {
+        few = omega (arith, number-most x q-diff-lawful (λ u f. then (class u) (then speed f)) h);
+        category = λ p. omega (arith, number-most y (class-lawful q) (λ c f. then speed f) second, category-highest q p);
+        speed = speed-small z (λ u f. f) third;
+      }
+
+  -- ---- numbers by their first bytes
+
+  module _ {k : Kind} (w : LawfulKind k) {next : ℕ → Format} {at : ℕ} {l : List Item} (h : Reads s (field k next) at l) where
+    -- a number of at most two groups, and where it ends
+    short-at : k .highest < 16384 → NumberAt s at (shortEnd s at) (countedAt s at % 4294967296)
+    short-at m =
+        let n = known s k h in
+        record { next = omega (arith, n .first (omega (arith, w .top (countedAt s at % 4294967296) (n .packet) (n .lowers)))); value = refl }
+
+    -- and one of a single group, which is its byte
+    single-at : k .highest < 128 → NumberAt s at (at + 1) (getD s at 0)
+    single-at m =
+        let n = known s k h in
+        let small : countedAt s at % 4294967296 < 128 = omega (arith, w .top (countedAt s at % 4294967296) (n .packet) (n .lowers)) in
+        record { next = omega (arith, n .groups ∙ last-count (countedAt s at % 4294967296) small); value = n .single small }
+
+    here-inside : at < length s
+    here-inside = let n = known s k h in omega (arith, n .inside, n .groups, count-some (countedAt s at % 4294967296))
+
+  -- ---- entries passed over
+
+  -- the three numbers of an entry
+  module _ {f : Format} {at : ℕ} (l : List Item) (h : Reads s (entry f) at l) where
+    q-diff-past : Past (Reads s) (then (class (getD s at 0)) (then speed f)) (at + 1) (drop 1 (sheetNumbers l))
+    q-diff-past = then-past (Reads s) (same-read (single-at q-diff-lawful h (lit< tt)) qDiff (λ u. refl)) 0 (sheetNumbers l) (past-here (Reads s) l h)
+
+    class-past : Past (Reads s) (then speed f) (shortEnd s (at + 1)) (drop 2 (sheetNumbers l))
+    class-past =
+        let q = getD s at 0 in
+        then-past (Reads s) (class-read (short-at (class-lawful q) (q-diff-past .reads) (class-highest q)) q) 1 (sheetNumbers l) q-diff-past
+
+    entry-past : Past (Reads s) f (entryEnd s at) (drop 3 (sheetNumbers l))
+    entry-past = then-past (Reads s) (speed-read (short-at speed-lawful (class-past .reads) (lit< tt))) 2 (sheetNumbers l) class-past
+
+  pub entry-pass : (at : ℕ) → Passes (Reads s) entry (drop 3) at (entryEnd s at)
+  entry-pass at = record { past = λ f l h. entry-past l h }
+
+  -- where the code looks, bytes are
+  module _ {at : ℕ} (r : Readable (Reads s) entry at) where
+    pub class-inside : at + 1 < length s
+    class-inside = here-inside (class-lawful (getD s at 0)) (q-diff-past (r .values) (r .reads) .reads)
+
+    pub speed-inside : shortEnd s (at + 1) < length s
+    speed-inside = here-inside speed-lawful (class-past (r .values) (r .reads) .reads)
+
+  -- ---- what an element begins with: after V_STATIC, two numbers of a single group
+
+  module _ {at b v : ℕ} (n : NumberAt s at b v) (r : Readable (Reads s) profile at) where
+    front-readable : Readable (Reads s) (λ f. then qFront (field (nIter 31) λ m. entries m f)) b
+    front-readable = readable-field (Reads s) (speed-read n) (λ v f. then qFront (field (nIter 31) λ m. entries m f)) r
+
+    pub front-inside : b < length s
+    front-inside = here-inside front-lawful (front-readable .reads)
+
+    pub front-at : {q : ℕ} → q ≡ getD s b 0 → NumberAt s b (b + 1) q
+    front-at e = let m = single-at front-lawful (front-readable .reads) (lit< tt) in record { next = m .next; value = e ∙ m .value }
+
+    count-readable : Readable (Reads s) (λ f. field (nIter 31) λ m. entries m f) (b + 1)
+    count-readable = readable-field (Reads s) (same-read (front-at refl) qFront (λ u. refl)) (λ q f. field (nIter 31) λ m. entries m f) front-readable
+
+    pub count-inside : b + 1 < length s
+    count-inside = here-inside count-lawful (count-readable .reads)
+
+    pub count-at : {k : ℕ} → k ≡ getD s (b + 1) 0 → NumberAt s (b + 1) (b + 2) k
+    count-at e = let m = single-at count-lawful (count-readable .reads) (lit< tt) in record { next = omega (arith, m .next); value = e ∙ m .value }
+
+  -- ---- the head
+
+  -- every way into a run is a way to what is left of it
+  pub record Running (first end at i to : ℕ) : Type 0 where
+    pub from : first ≤ i
+    pub up : i ≤ end
+    pub going : (f : Format) (l : List Item) → Reads s (runs first (end - first) f) at l → Past (Reads s) (runs i (end - i) f) to (drop (i - first) (sheetNumbers l))
+
+  pub running-all : {first end at : ℕ} → first ≤ end → Running first end at first at
+  running-all {first} {end} {at} h =
+      record { from = omega arith; up = h; going = λ f l i. let z : first - first ≡ 0 = omega arith in rw z (past-here (Reads s) l i) }
+
+  module _ {first end at i to : ℕ} (g : Running first end at i to) where
+    module _ (h : i < end) where
+      runs-next : (f : Format) → runs i (end - i) f ≡ then (kindAt i) (runs (i + 1) (end - (i + 1)) f)
+      runs-next f = let z : end - i - 1 ≡ end - (i + 1) = omega arith in rw (← z) (runs-more i (end - i) (omega arith) f)
+
+      pub running-readable : Readable (Reads s) (runs first (end - first)) at → Readable (Reads s) (λ f. then (kindAt i) (runs (i + 1) (end - (i + 1)) f)) to
+      running-readable a =
+          let p = g .going (a .follows) (a .values) (a .reads) in
+          record { follows = a .follows; values = p .values; reads = rw (runs-next (a .follows)) at (p .reads) }
+
+      pub running-next : {next : ℕ} → next ≡ numberEnd s to → Running first end at (i + 1) next
+      running-next e =
+          record {
+            from = omega (arith, g .from);
+            up = omega arith;
+            going = λ f l u.
+                let p = rw (runs-next f) at (g .going f l u) in
+                let z : i - first + 1 ≡ i + 1 - first = omega (arith, g .from) in
+                rw z at (then-past (Reads s) (field-any s (kindAt i) (record { next = e; value = refl })) (i - first) (sheetNumbers l) p);
+          }
+
+    pub running-end : end ≤ i → Passes (Reads s) (runs first (end - first)) (drop (end - first)) at to
+    running-end h =
+        let e : i ≡ end = omega (arith, g .up) in
+        record { past = λ f l u. let p = rw e at (g .going f l u) in rw (runs-none end (end - end) (omega arith) f) at p }
+
+  -- the first number is the packet number, one byte
+  number-first : {a v : ℕ} → nidPacketAto .lower a ≡ some v → a ≡ 6
+  number-first {a} {v} e = go (leb 6 a && leb a 6) refl e
+    where
+      go : (b : Bool) → (leb 6 a && leb a 6) ≡ b → when b a ≡ some v → a ≡ 6
+      go true d p = omega (arith, leb-true 6 a (and-left (leb 6 a) (leb a 6) d), leb-true a 6 (and-right (leb 6 a) (leb a 6) d))
+      go false d p = absurd (let z : _≡_ {A = ℕ} 0 1 = cc in omega arith)
+
+  one-group : length (groupsIn 6) ≡ 1
+  unfolding groupsIn
+  one-group = refl
+
+  abbrev pub headPart : Format
+  headPart = runs 0 9 (field lSp λ lsp. runs 10 3 (threeLists lsp end))
+
+  sheet-part : sheetFields wireChanges ≡ then nidPacketAto headPart
+  unfolding sheetFields fields body lists runs kindAt
+  sheet-part = refl
+
+  module _ (e : AcceptedSheet s) (ok : Bytes s) where
+    all-reads : Reads s (then nidPacketAto headPart) 0 (valuesOf (fromSheet wireChanges s))
+    unfolding fromSheet
+    all-reads = record { before = omega arith; ok = ok; reads = ap (λ (f : Format). read sheet f 0 s) (sym sheet-part) ∙ e }
+
+    -- the fields after the packet number
+    pub head-past : Past (Reads s) headPart 1 (drop 1 (numbersOfSheet s))
+    head-past =
+        let w = known s nidPacketAto all-reads in
+        let g : countedAt s 0 / 4294967296 ≡ 1 = w .groups ∙ ap (λ (a : ℕ). length (groupsIn a)) (number-first (w .lowers)) ∙ one-group in
+        then-past (Reads s) (field-any s nidPacketAto (record { next = omega arith; value = refl })) 0 (numbersOfSheet s) (past-here (Reads s) (valuesOf (fromSheet wireChanges s)) all-reads)
+
+    -- L_SP, and the fields after it
+    pub head-readable : Readable (Reads s) (runs 0 9) 1
+    head-readable = record { follows = field lSp λ lsp. runs 10 3 (threeLists lsp end); values = head-past .values; reads = head-past .reads }
+
+    module _ {at : ℕ} (r : Passes (Reads s) (runs 0 9) (drop 9) 1 at) where
+      length-past : Past (Reads s) (field lSp λ lsp. runs 10 3 (threeLists lsp end)) at (drop 10 (numbersOfSheet s))
+      length-past = passes-past (Reads s) 9 r 1 (numbersOfSheet s) head-past
+
+      module _ {to a : ℕ} (n : NumberAt s at to a) where
+        after-past : Past (Reads s) (runs 10 3 (threeLists a end)) to (drop 11 (numbersOfSheet s))
+        after-past = then-past (Reads s) (same-read n lSp (λ u. refl)) 10 (numbersOfSheet s) length-past
+
+        pub after-readable : Readable (Reads s) (runs 10 3) to
+        after-readable = record { follows = threeLists a end; values = after-past .values; reads = after-past .reads }
+
+        pub head-read : {p : ℕ} → Passes (Reads s) (runs 10 3) (drop 3) to p → HeadRead s a p
+        head-read q =
+            record { length-is = sym (then-is (Reads s) (same-read n lSp (λ u. refl)) 10 (numbersOfSheet s) length-past); past = passes-past (Reads s) 3 q 11 (numbersOfSheet s) after-past }
+
+  -- ---- the whole
+
+  module _ {lsp at : ℕ} (h : HeadRead s lsp at) where
+    pub speed-asked : {t : Train} {x v : ℕ} → ProfileRead (Reads s) t lsp x at v → v ≡ speedIn t x (numbersOfSheet s)
+    speed-asked r = r .said (part voltage wireChanges lsp (part current wireChanges lsp end)) (h .past .values) (h .past .reads) ∙ rw (h .past .numbers, h .length-is)

@@ -1,0 +1,37 @@
+-- `lines::after_element` meets its contract.
+use Rattle.text.specs.sheet.Numbers.{numbersIn}
+use Rattle.text.proofs.lines.Laying.{value-at, after-here}
+use lib.ListN.{drop}
+use denote.Ref.{now}
+use borrow.Author.Needs.{needs}
+use Rattle.text.proofs.lines.after_element.Statement.{statement}
+use Rattle.text.proofs.lines.after_element.Tie as tie
+
+past-requires : tie.Need-past-requires
+past-requires c κs = search needs
+
+number-requires : tie.Need-number-requires
+number-requires c κs = search needs
+
+cast-past : tie.Need-cast-past
+cast-past c = search needs
+
+mul-past : tie.Need-mul-past
+mul-past c = search needs
+
+add-past : tie.Need-add-past
+add-past c = search needs
+
+past-requires-2 : tie.Need-past-requires-2
+past-requires-2 c κs = search needs
+
+returns : tie.Need-returns
+returns c =
+    let a = c .before .before .before .before .args in
+    let ns = numbersIn (drop (a .from) (now (a .sheet))) in
+    after-here ns (c .before .number .result) (value-at 2 ns (c .before .before .past .ensures) (c .before .number .ensures)) (c .past2 .ensures)
+
+pub after-element-spec : {M : Type 1} → statement M
+after-element-spec =
+    tie.close
+    (tie.spec past-requires number-requires cast-past mul-past add-past past-requires-2 returns)

@@ -1,0 +1,3 @@
+-- The definitions of the module lines.
+pub mod Lines
+pub mod Changes

@@ -1,0 +1,63 @@
+-- `frame::first_one` meets its contract.
+use mathlib.Core.Path.{_≡_}
+use Prim.Native.Nat.{_+_, _*_, _-_}
+use lib.Count.{leadingZeros, leading-le}
+use lib.ListN.{length, drop}
+use Rattle.bits.specs.Bits.{bitsOfBytes}
+use Rattle.verdict.specs.frame.Framed.{oneOrEnd}
+use Rattle.verdict.proofs.frame.Framing.{leading-place}
+use denote.Ref.{now}
+use native.Mathlib.Omega.{arith}
+use borrow.Author.Needs.{needs}
+use Rattle.verdict.proofs.frame.first_one.Statement.{statement}
+use Rattle.verdict.proofs.frame.first_one.Tie as tie
+use Rattle.verdict.proofs.frame.first_one.Reads as reads
+use Rattle.verdict.proofs.frame.first_one.Lts as lts
+use Rattle.bits.proofs.read_field.Reads as read-field-reads
+
+mul-read-field : tie.Need-mul-read-field
+mul-read-field c = search needs
+
+sub-read-field : tie.Need-sub-read-field
+sub-read-field c = search needs
+
+cast-read-field : tie.Need-cast-read-field
+cast-read-field c = search needs
+
+read-field-requires : tie.Need-read-field-requires
+read-field-requires c κs = search needs
+
+mul-result : tie.Need-mul-result
+mul-result c = search needs
+
+sub-result : tie.Need-sub-result
+sub-result c = omega (arith, leading-le 32 (c .read-field .result))
+
+cast-result : tie.Need-cast-result
+cast-result c = search needs
+
+-- the first 1, and the bits from it on
+place : (c : lts.After-read-field (read-field-reads.Asked, read-field-reads.Learnt) reads.Pre reads.Post)
+    → let s = now (c .before .before .args .s) in let stop = c .before .before .args .stop in
+    oneOrEnd stop (drop stop (bitsOfBytes s)) + (32 - leadingZeros 32 (c .read-field .result)) ≡ 8 * length s
+place c = leading-place (now (c .before .before .args .s)) (c .before .before .args .stop) (omega arith) (omega arith) (c .read-field .result) (c .read-field .ensures)
+
+sub-result-2 : tie.Need-sub-result-2
+sub-result-2 c = omega (arith, place c)
+
+returns : tie.Need-returns
+returns c = omega (arith, place c)
+
+pub first-one-spec : {M : Type 1} → statement M
+first-one-spec =
+    tie.close
+    (tie.spec
+    mul-read-field
+    sub-read-field
+    cast-read-field
+    read-field-requires
+    mul-result
+    sub-result
+    cast-result
+    sub-result-2
+    returns)

@@ -1,0 +1,2 @@
+-- The definitions of the module frame.
+pub mod Framed

@@ -1,0 +1,51 @@
+// The frame of a packet: its refusals, the bit where its fields end, and its padding.
+ghost use mathlib.Core.Path.{_≡_};
+ghost use Prim.Native.Nat.{_+_, _*_, _^_, _≤_, _<_};
+ghost use lib.ListN.{length, drop};
+ghost use Rattle.bits.specs.Bits.{bitsOfBytes};
+ghost use Rattle.verdict.specs.frame.Framed.{frameOf, oneOrEnd};
+use kinds::header;
+
+pub enum Frame {
+    End(usize),
+    Refused(u32),
+}
+
+// The refusals of a frame.
+pub const TOO_SHORT: u32 = 1;
+
+pub const OTHER_SIZE: u32 = 3;
+
+pub const PADDING: u32 = 7;
+
+// The bytes of a header, and the bits before its field NID_OPERATIONAL.
+pub const HEADER: usize = 15;
+
+pub const FIRST_FIELD: usize = 24;
+
+// The bit where a packet's fields end, or the refusal of its frame, where the packet number is to be this one.
+pub fn judge_frame(s: &[u8], number: u32) -> Frame
+    ensures { λ r. ⌜ r ≡ frameOf number (now (s .entry)) ⌝ }
+{
+    if s.len() < HEADER {
+        return Frame::Refused(TOO_SHORT);
+    }
+    if bits::read_field(s, 0, header::NidPacketAto::WIDTH) != number {
+        return Frame::Refused(kinds::PACKET_NUMBER);
+    }
+    let body = bits::read_field(s, 8, header::LPacketAto::WIDTH) as usize;
+    if s.len() == HEADER + (body + 7) / 8 {
+        Frame::End(8 * HEADER + body)
+    } else {
+        Frame::Refused(OTHER_SIZE)
+    }
+}
+
+// The first of the bits from stop on, fewer than eight, that is 1, or the packet's end.
+pub fn first_one(s: &[u8], stop: usize) -> usize
+    requires { ⌜ (stop ≤ 8 * length (now s)) × (8 * length (now s) < stop + 8) × (stop < 2 ^ 32) ⌝ }
+    ensures { λ r. ⌜ r ≡ oneOrEnd stop (drop stop (bitsOfBytes (now (s .entry)))) ⌝ }
+{
+    let padding = bits::read_field(s, stop, (8 * s.len() - stop) as u32);
+    8 * s.len() - (32 - u32::leading_zeros(padding)) as usize
+}

@@ -1,4 +1,0 @@
-pub mod Fields
-pub mod Figures
-pub mod Whole
-pub mod Writing
