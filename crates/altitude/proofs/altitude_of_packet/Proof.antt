@@ -9,15 +9,6 @@ use Rattle.altitude.proofs.Reading.{altitude-accepted, altitude-refused
 use Rattle.altitude.proofs.altitude_of_packet.Statement.{statement}
 use Rattle.altitude.proofs.altitude_of_packet.Tie as tie
 
-judge-packet-requires : tie.Need-judge-packet-requires
-judge-packet-requires c κs = search needs
-
-enum-known-r : tie.Need-enum-known-r
-enum-known-r c = search needs
-
-enum-told : tie.Need-enum-told
-enum-told c = search needs
-
 read-field-requires : tie.Need-read-field-requires
 read-field-requires c κs =
     let s = now (c .before .before .before .before .args .packet) in
@@ -39,9 +30,9 @@ pub altitude-of-packet-spec : {M : Type 1} → statement M
 altitude-of-packet-spec =
     tie.close
     (tie.spec
-    judge-packet-requires
-    enum-known-r
-    enum-told
+    (λ c κs. search needs)
+    (λ c. search needs)
+    (λ c. search needs)
     read-field-requires
     signed-requires
     returns

@@ -8,11 +8,8 @@ use Rattle.altitude.proofs.signed.Tie as tie
 returns : tie.Need-returns
 returns c = rw (same-signed (c .args .v) (c .pre)) (toZ-ofZ (centimetres-fit (c .args .v) (c .pre)))
 
-cast-result : tie.Need-cast-result
-cast-result c = search needs
-
 sub-result : tie.Need-sub-result
 sub-result c = rw (same-signed (c .args .v) (c .pre)) (centimetres-fit (c .args .v) (c .pre))
 
 pub signed-spec : {M : Type 1} → statement M
-signed-spec = tie.close (tie.spec cast-result sub-result returns)
+signed-spec = tie.close (tie.spec (λ c. search needs) sub-result returns)

@@ -6,12 +6,6 @@ use borrow.Author.Needs.{needs}
 use Rattle.bits.proofs.joined.Statement.{statement}
 use Rattle.bits.proofs.joined.Tie as tie
 
-mul-power : tie.Need-mul-power
-mul-power c = search needs
-
-power-requires : tie.Need-power-requires
-power-requires c κs = search needs
-
 mul-result : tie.Need-mul-result
 mul-result c = let b = c .before .before in let a = b .args in omega (arith, joined-fits (now (a .s)) (a .i) (a .n) (b .pre .1) (b .pre .2) (b .pre .3) (c .power .ensures) (b .pre .0))
 
@@ -22,4 +16,4 @@ returns : tie.Need-returns
 returns c = let b = c .before .before in let a = b .args in field-joined (now (a .s)) (a .i) (a .n) (b .pre .1) (b .pre .2) (b .pre .3) (c .power .ensures)
 
 pub joined-spec : {M : Type 1} → statement M
-joined-spec = tie.close (tie.spec mul-power power-requires mul-result add-result returns)
+joined-spec = tie.close (tie.spec (λ c. search needs) (λ c κs. search needs) mul-result add-result returns)

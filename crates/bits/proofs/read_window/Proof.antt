@@ -7,30 +7,6 @@ use borrow.Author.Needs.{needs}
 use Rattle.bits.proofs.read_window.Statement.{statement}
 use Rattle.bits.proofs.read_window.Tie as tie
 
-start-requires : tie.Need-start-requires
-start-requires c κs = search needs
-
-eight-requires : tie.Need-eight-requires
-eight-requires c κs = search needs
-
-mul-cut : tie.Need-mul-cut
-mul-cut c = search needs
-
-sub-cut : tie.Need-sub-cut
-sub-cut c = search needs
-
-sub-cut-2 : tie.Need-sub-cut-2
-sub-cut-2 c = search needs
-
-cast-cut : tie.Need-cast-cut
-cast-cut c = search needs
-
-sub-cut-3 : tie.Need-sub-cut-3
-sub-cut-3 c = search needs
-
-cut-requires : tie.Need-cut-requires
-cut-requires c κs = search needs
-
 returns : tie.Need-returns
 returns c =
     let a = c .before .before .before .before .args in
@@ -42,12 +18,12 @@ pub read-window-spec : {M : Type 1} → statement M
 read-window-spec =
     tie.close
     (tie.spec
-    start-requires
-    eight-requires
-    mul-cut
-    sub-cut
-    sub-cut-2
-    cast-cut
-    sub-cut-3
-    cut-requires
+    (λ c κs. search needs)
+    (λ c κs. search needs)
+    (λ c. search needs)
+    (λ c. search needs)
+    (λ c. search needs)
+    (λ c. search needs)
+    (λ c. search needs)
+    (λ c κs. search needs)
     returns)

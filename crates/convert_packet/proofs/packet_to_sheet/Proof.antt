@@ -6,15 +6,6 @@ use borrow.Author.Needs.{needs}
 use Rattle.convert_packet.proofs.packet_to_sheet.Statement.{statement}
 use Rattle.convert_packet.proofs.packet_to_sheet.Tie as tie
 
-tree-of-requires : tie.Need-tree-of-requires
-tree-of-requires c κs = search needs
-
-tree-to-sheet-requires : tie.Need-tree-to-sheet-requires
-tree-to-sheet-requires c κs = search needs
-
-same-length : tie.Need-same-length
-same-length c = search needs
-
 returns : tie.Need-returns
 returns c =
     let a = c .before .before .before .before .before .before .before .args in
@@ -22,4 +13,4 @@ returns c =
     ∙ sheet-by-tree (now (a .packet)) (now (a .room))
 
 pub packet-to-sheet-spec : {M : Type 1} → statement M
-packet-to-sheet-spec = tie.close (tie.spec tree-of-requires tree-to-sheet-requires same-length returns)
+packet-to-sheet-spec = tie.close (tie.spec (λ c κs. search needs) (λ c κs. search needs) (λ c. search needs) returns)

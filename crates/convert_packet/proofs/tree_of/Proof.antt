@@ -15,11 +15,8 @@ returns c = no-number (now (c .before .before .args .packet)) (c .if1 .taken)
 read-field-requires : tie.Need-read-field-requires
 read-field-requires c κs = (lit≤ tt, omega (arith, c .if1 .left), lit< tt)
 
-tree-of-requires : tie.Need-tree-of-requires
-tree-of-requires c κs = search needs
-
 returns-2 : tie.Need-returns-2
 returns-2 c = c .tree-of .ensures ∙ ap treeOf (c .before .read-field .ensures)
 
 pub tree-of-spec : {M : Type 1} → statement M
-tree-of-spec = tie.close (tie.spec returns read-field-requires tree-of-requires returns-2)
+tree-of-spec = tie.close (tie.spec returns read-field-requires (λ c κs. search needs) returns-2)

@@ -5,23 +5,11 @@ use borrow.Author.Needs.{needs}
 use Rattle.convert_packet.proofs.write_fields.Statement.{statement}
 use Rattle.convert_packet.proofs.write_fields.Tie as tie
 
-enum-told : tie.Need-enum-told
-enum-told c = search needs
-
 write-fields-requires : tie.Need-write-fields-requires
 write-fields-requires c κs = (rw (c .before .enum-told .given .1) at (c .before .before .before .before .before .pre .0), c .before .before .before .before .before .pre .1)
 
-enum-told-2 : tie.Need-enum-told-2
-enum-told-2 c = search needs
-
 write-journey-requires : tie.Need-write-journey-requires
 write-journey-requires c κs = (journey-writable (rw (c .before .enum-told2 .given .1) at (c .before .before .before .before .before .pre .0)), c .before .before .before .before .before .pre .1)
-
-same-length : tie.Need-same-length
-same-length c = search needs
-
-same-length-2 : tie.Need-same-length-2
-same-length-2 c = search needs
 
 returns : tie.Need-returns
 returns c = rw (c .before .before .before .before .enum-told .given .1) (c .before .before .write-fields .ensures)
@@ -31,4 +19,4 @@ unfolding journeyFields
 returns-2 c = rw (c .before .before .before .before .enum-told2 .given .1) (c .before .before .write-journey .ensures)
 
 pub write-fields-spec : {M : Type 1} → statement M
-write-fields-spec = tie.close (tie.spec enum-told write-fields-requires enum-told-2 write-journey-requires same-length returns same-length-2 returns-2)
+write-fields-spec = tie.close (tie.spec (λ c. search needs) write-fields-requires (λ c. search needs) write-journey-requires (λ c. search needs) returns (λ c. search needs) returns-2)

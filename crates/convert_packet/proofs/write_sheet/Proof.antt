@@ -14,48 +14,42 @@ use borrow.Author.Needs.{needs}
 use Rattle.convert_packet.proofs.write_sheet.Statement.{statement}
 use Rattle.convert_packet.proofs.write_sheet.Tie as tie
 
-tree-frame-requires : tie.Need-tree-frame-requires
-tree-frame-requires c κs = search needs
-
-enum-told : tie.Need-enum-told
-enum-told c = search needs
-
-enum-known-stop : tie.Need-enum-known-stop
-enum-known-stop c = search needs
-
 put-number-requires : tie.Need-put-number-requires
-put-number-requires c κs = let a = c .before .before .before .before .before .before .before .args in rw (c .before .before .before .before .before .before .before .pre .1) (number-fits (a .tree) (now (a .packet)) (now (a .room)) (c .before .before .before .before .before .before .before .pre .0) _ (sym (c .before .before .stop .given .1) ∙ c .before .before .before .before .tree-frame .ensures))
+put-number-requires c κs =
+    let b = c .before .before .before .before .before .before .before in
+    let a = b .args in rw (b .pre .1) (number-fits (a .tree) (now (a .packet)) (now (a .room)) (b .pre .0) _ (sym (c .before .before .stop .given .1) ∙ c .before .before .before .before .tree-frame .ensures))
 
 write-fields-requires : tie.Need-write-fields-requires
 write-fields-requires c κs =
-    let a = c .before .before .before .before .before .before .before .before .before .before .before .args in
-    let q = rw (c .before .before .before .before .before .before .before .before .before .before .before .pre .1) at (c .before .before .before .put-number .ensures) in
+    let b = c .before .before .before .before .before .before in
+    let e = b .before .before .before .before .before in
+    let a = e .args in
+    let q = rw (e .pre .1) at (c .before .before .before .put-number .ensures) in
     let m = ap (λ (x : Put). x .bytes) q in
-    let w = whole (treeNumber (a .tree)) (now (a .packet)) _ (sym (c .before .before .before .before .before .before .stop .given .1) ∙ c .before .before .before .before .before .before .before .before .tree-frame .ensures) in
-    (fields-writable (a .tree) (now (a .packet)) (now (a .room)) (c .before .before .before .before .before .before .before .before .before .before .before .pre .0) _ (sym (c .before .before .before .before .before .before .stop .given .1) ∙ c .before .before .before .before .before .before .before .before .tree-frame .ensures) _ _ (ap (λ (x : Put). x .next) q) (ap length m ∙ length-sets (now (a .room)) 0 (groupsIn (treeNumber (a .tree)))), omega (arith, w .ends, w .inside))
+    let w = whole (treeNumber (a .tree)) (now (a .packet)) _ (sym (b .stop .given .1) ∙ b .before .before .tree-frame .ensures) in
+    (fields-writable (a .tree) (now (a .packet)) (now (a .room)) (e .pre .0) _ (sym (b .stop .given .1) ∙ b .before .before .tree-frame .ensures) _ _ (ap (λ (x : Put). x .next) q) (ap length m ∙ length-sets (now (a .room)) 0 (groupsIn (treeNumber (a .tree)))), omega (arith, w .ends, w .inside))
 
 returns : tie.Need-returns
 returns c = let a = c .before .before .before .before .before .args in accepted-frame (a .tree) (now (a .packet)) _ (c .before .before .before .before .before .pre .0 .accepts) (sym (c .enum-told .given .1) ∙ c .before .before .tree-frame .ensures)
 
-same-length : tie.Need-same-length
-same-length c = search needs
-
 returns-2 : tie.Need-returns-2
 returns-2 c =
-    let a = c .before .before .before .before .before .before .before .before .before .before .before .before .before .before .args in
-    let q = rw (c .before .before .before .before .before .before .before .before .before .before .before .before .before .before .pre .1) at (c .before .before .before .before .before .before .put-number .ensures) in
+    let b = c .before .before .before .before .before .before .before .before .before in
+    let e = b .before .before .before .before .before in
+    let a = e .args in
+    let q = rw (e .pre .1) at (c .before .before .before .before .before .before .put-number .ensures) in
     c .before .before .write-fields .ensures
-    ∙ sheet-written (a .tree) (now (a .packet)) (now (a .room)) (c .before .before .before .before .before .before .before .before .before .before .before .before .before .before .pre .0) _ (sym (c .before .before .before .before .before .before .before .before .before .stop .given .1) ∙ c .before .before .before .before .before .before .before .before .before .before .before .tree-frame .ensures) _ _ (ap (λ (x : Put). x .next) q) (ap (λ (x : Put). x .bytes) q)
+    ∙ sheet-written (a .tree) (now (a .packet)) (now (a .room)) (e .pre .0) _ (sym (b .stop .given .1) ∙ b .before .before .tree-frame .ensures) _ _ (ap (λ (x : Put). x .next) q) (ap (λ (x : Put). x .bytes) q)
 
 pub write-sheet-spec : {M : Type 1} → statement M
 write-sheet-spec =
     tie.close
     (tie.spec
-    tree-frame-requires
-    enum-told
-    enum-known-stop
+    (λ c κs. search needs)
+    (λ c. search needs)
+    (λ c. search needs)
     put-number-requires
     write-fields-requires
     returns
-    same-length
+    (λ c. search needs)
     returns-2)

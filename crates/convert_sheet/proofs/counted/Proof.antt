@@ -7,18 +7,6 @@ use borrow.Author.Needs.{needs}
 use Rattle.convert_sheet.proofs.counted.Statement.{statement}
 use Rattle.convert_sheet.proofs.counted.Tie as tie
 
-judge-sheet-requires : tie.Need-judge-sheet-requires
-judge-sheet-requires c κs = search needs
-
-enum-known-r : tie.Need-enum-known-r
-enum-known-r c = search needs
-
-enum-known-n : tie.Need-enum-known-n
-enum-known-n c = search needs
-
-add-if1 : tie.Need-add-if1
-add-if1 c = search needs
-
 returns : tie.Need-returns
 returns c =
     let a = c .before .before .before .before .before .before .args in
@@ -38,4 +26,4 @@ returns-3 c =
     counted-accepted (a .tree) (now (a .sheet)) ok _ (sym (c .before .before .n .given .1) ∙ c .before .before .before .before .judge-sheet .ensures) (c .if1 .left)
 
 pub counted-spec : {M : Type 1} → statement M
-counted-spec = tie.close (tie.spec judge-sheet-requires enum-known-r enum-known-n add-if1 returns returns-2 returns-3)
+counted-spec = tie.close (tie.spec (λ c κs. search needs) (λ c. search needs) (λ c. search needs) (λ c. search needs) returns returns-2 returns-3)

@@ -6,15 +6,6 @@ use borrow.Author.Needs.{needs}
 use Rattle.convert_sheet.proofs.sheet_to_packet.Statement.{statement}
 use Rattle.convert_sheet.proofs.sheet_to_packet.Tie as tie
 
-tree-of-requires : tie.Need-tree-of-requires
-tree-of-requires c κs = search needs
-
-tree-to-packet-requires : tie.Need-tree-to-packet-requires
-tree-to-packet-requires c κs = search needs
-
-same-length : tie.Need-same-length
-same-length c = search needs
-
 returns : tie.Need-returns
 returns c =
     let a = c .before .before .before .before .before .before .before .args in
@@ -22,4 +13,4 @@ returns c =
     ∙ packet-by-tree (now (a .sheet)) (now (a .room))
 
 pub sheet-to-packet-spec : {M : Type 1} → statement M
-sheet-to-packet-spec = tie.close (tie.spec tree-of-requires tree-to-packet-requires same-length returns)
+sheet-to-packet-spec = tie.close (tie.spec (λ c κs. search needs) (λ c κs. search needs) (λ c. search needs) returns)

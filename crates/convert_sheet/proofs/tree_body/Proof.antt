@@ -3,23 +3,11 @@ use borrow.Author.Needs.{needs}
 use Rattle.convert_sheet.proofs.tree_body.Statement.{statement}
 use Rattle.convert_sheet.proofs.tree_body.Tie as tie
 
-enum-told : tie.Need-enum-told
-enum-told c = search needs
-
 body-requires : tie.Need-body-requires
 body-requires c κs = rw (c .before .enum-told .given .1) at (c .before .before .before .before .before .pre)
 
-enum-told-2 : tie.Need-enum-told-2
-enum-told-2 c = search needs
-
 body-requires-2 : tie.Need-body-requires-2
 body-requires-2 c κs = rw (c .before .enum-told2 .given .1) at (c .before .before .before .before .before .pre)
-
-same-length : tie.Need-same-length
-same-length c = search needs
-
-same-length-2 : tie.Need-same-length-2
-same-length-2 c = search needs
 
 returns : tie.Need-returns
 returns c = rw (c .before .before .before .before .enum-told .given .1) (c .before .before .body .ensures)
@@ -28,4 +16,4 @@ returns-2 : tie.Need-returns-2
 returns-2 c = rw (c .before .before .before .before .enum-told2 .given .1) (c .before .before .body2 .ensures)
 
 pub tree-body-spec : {M : Type 1} → statement M
-tree-body-spec = tie.close (tie.spec enum-told body-requires enum-told-2 body-requires-2 same-length returns same-length-2 returns-2)
+tree-body-spec = tie.close (tie.spec (λ c. search needs) body-requires (λ c. search needs) body-requires-2 (λ c. search needs) returns (λ c. search needs) returns-2)

@@ -11,9 +11,6 @@ use borrow.Author.Needs.{needs}
 use Rattle.convert_sheet.proofs.write_body.Statement.{statement}
 use Rattle.convert_sheet.proofs.write_body.Tie as tie
 
-slice-relend-prefix-tree-body : tie.Need-slice-relend-prefix-tree-body
-slice-relend-prefix-tree-body c = search needs
-
 slice-aggregate-tree-body : tie.Need-slice-aggregate-tree-body
 slice-aggregate-tree-body c =
     sym (length-take-le (c .before .before .before .args .bytes) (now (c .before .before .before .args .body)) (c .before .before .before .pre .2))
@@ -25,18 +22,16 @@ tree-body-requires c κs =
     let ok = bytes-of s (λ i. c .before .before .shared-slice-known .given i .fits) in
     body-may (a .tree) s ok (a .start) (c .before .before .before .pre .0) (c .before .before .before .pre .3) (take (a .bytes) (now (a .body)))
 
-same-length : tie.Need-same-length
-same-length c = search needs
-
 returns : tie.Need-returns
 returns c =
-    let a = c .before .before .before .before .before .before .args in
+    let b = c .before .before .before .before .before in
+    let a = b .before .args in
     let s = now (a .sheet) in
-    let h = c .before .before .before .before .before .before .pre in
-    let ok = bytes-of s (λ i. c .before .before .before .before .before .shared-slice-known .given i .fits) in
+    let h = b .before .pre in
+    let ok = bytes-of s (λ i. b .shared-slice-known .given i .fits) in
     ap₂ (λ (p : List ℕ) (m : ℕ). p ++ drop m (now (a .body))) (body-done (a .tree) s ok (a .start) (h .0) (h .3) (length-take-le (a .bytes) (now (a .body)) (h .2) ∙ h .1) (c .before .before .tree-body .ensures)) (h .1)
 
 pub write-body-spec : {M : Type 1} → statement M
 write-body-spec =
     tie.close
-    (tie.spec slice-relend-prefix-tree-body slice-aggregate-tree-body tree-body-requires same-length returns)
+    (tie.spec (λ c. search needs) slice-aggregate-tree-body tree-body-requires (λ c. search needs) returns)

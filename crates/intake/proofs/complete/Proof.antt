@@ -6,21 +6,12 @@ use borrow.Author.Needs.{needs}
 use Rattle.intake.proofs.complete.Statement.{statement}
 use Rattle.intake.proofs.complete.Tie as tie
 
-in-room-requires : tie.Need-in-room-requires
-in-room-requires c κs = search needs
-
-verdict-requires : tie.Need-verdict-requires
-verdict-requires c κs = search needs
-
 returns : tie.Need-returns
 returns c = let a = c .before .before .before .before .before .args in judged-completed (a .intake) (now (a .room)) (c .before .before .if1 .taken) (c .before .in-room .ensures) (c .verdict .ensures)
-
-judge-requires : tie.Need-judge-requires
-judge-requires c κs = search needs
 
 returns-2 : tie.Need-returns-2
 returns-2 c = let a = c .before .before .before .before .args in past-completed (a .intake) (now (a .room)) (omega arith) (c .judge .ensures)
 
 pub complete-spec : {M : Type 1} → statement M
 complete-spec =
-    tie.close (tie.spec in-room-requires verdict-requires returns judge-requires returns-2)
+    tie.close (tie.spec (λ c κs. search needs) (λ c κs. search needs) returns (λ c κs. search needs) returns-2)

@@ -16,24 +16,6 @@ use Rattle.numbers.proofs.found_at.Tie as tie
 returns : tie.Need-returns
 returns c = let a = c .before .before .args in ap found (number-end (now (a .s)) (a .at) 5 (c .if1 .taken))
 
-add-if2 : tie.Need-add-if2
-add-if2 c = search needs
-
-shared-slice-read-wide : tie.Need-shared-slice-read-wide
-shared-slice-read-wide c = search needs
-
-wide-requires : tie.Need-wide-requires
-wide-requires c κs = search needs
-
-add-wide : tie.Need-add-wide
-add-wide c = search needs
-
-shared-slice-read-wide-2 : tie.Need-shared-slice-read-wide-2
-shared-slice-read-wide-2 c = search needs
-
-wide-requires-2 : tie.Need-wide-requires-2
-wide-requires-2 c κs = search needs
-
 mul-high : tie.Need-mul-high
 mul-high c =
     let a = c .before .before .before .before .before .before .before .args in
@@ -48,9 +30,6 @@ add-t19 c = omega (arith, short-value (c .before .before .before .before .wide .
 cast-t20 : tie.Need-cast-t20
 cast-t20 c = omega (arith, short-value (c .before .before .before .before .wide .result) (c .before .before .wide2 .result * (c .before .before .before .before .wide .result / 128)) (ltb-true _ 128 (c .if4 .taken)))
 
-add-t21 : tie.Need-add-t21
-add-t21 c = search needs
-
 cast-t22 : tie.Need-cast-t22
 cast-t22 c =
     let a = c .before .before .before .before .before .before .before .before .before .args in
@@ -58,31 +37,14 @@ cast-t22 c =
 
 returns-2 : tie.Need-returns-2
 returns-2 c =
-    let a = c .before .before .before .before .before .before .before .before .before .args in
-    let w = c .before .before .before .before .wide in
+    let b = c .before .before .before .before in
+    let a = b .before .before .before .before .before .args in
+    let w = b .wide in
     let high : ℕ = c .before .before .wide2 .result * (w .result / 128) in
     let few = ltb-true _ 128 (c .if4 .taken) in
     found-is (numberIn (drop (a .at) (now (a .s)))) (number-below 5 (drop (a .at) (now (a .s)))) (w .result % 128 + 128 * high) (1 + w .result / 128) (omega (arith, short-value (w .result) high few))
-    (counted-short (now (a .s)) (a .at) (c .before .before .before .before .before .before .if2 .taken) (w .result) (w .result / 128) high (w .ensures) (omega (arith, w .ensures, c .before .before .before .before .before .shared-slice-known2 .given (a .at)))
+    (counted-short (now (a .s)) (a .at) (b .before .before .if2 .taken) (w .result) (w .result / 128) high (w .ensures) (omega (arith, w .ensures, b .before .shared-slice-known2 .given (a .at)))
     refl (ap (λ (x : ℕ). x * (w .result / 128)) (c .before .before .wide2 .ensures)) (c .before .if3 .taken) few)
-
-sub-read-number : tie.Need-sub-read-number
-sub-read-number c = search needs
-
-part-read-number-start : tie.Need-part-read-number-start
-part-read-number-start c = search needs
-
-part-read-number-end : tie.Need-part-read-number-end
-part-read-number-end c = search needs
-
-read-number-requires : tie.Need-read-number-requires
-read-number-requires c κs = search needs
-
-cast-t27 : tie.Need-cast-t27
-cast-t27 c = search needs
-
-cast-t29 : tie.Need-cast-t29
-cast-t29 c = search needs
 
 returns-3 : tie.Need-returns-3
 returns-3 c =
@@ -96,23 +58,23 @@ found-at-spec =
     tie.close
     (tie.spec
     returns
-    add-if2
-    shared-slice-read-wide
-    wide-requires
-    add-wide
-    shared-slice-read-wide-2
-    wide-requires-2
+    (λ c. search needs)
+    (λ c. search needs)
+    (λ c κs. search needs)
+    (λ c. search needs)
+    (λ c. search needs)
+    (λ c κs. search needs)
     mul-high
     mul-t18
     add-t19
     cast-t20
-    add-t21
+    (λ c. search needs)
     cast-t22
     returns-2
-    sub-read-number
-    part-read-number-start
-    part-read-number-end
-    read-number-requires
-    cast-t27
-    cast-t29
+    (λ c. search needs)
+    (λ c. search needs)
+    (λ c. search needs)
+    (λ c κs. search needs)
+    (λ c. search needs)
+    (λ c. search needs)
     returns-3)

@@ -7,9 +7,6 @@ use borrow.Author.Needs.{needs}
 use Rattle.numbers.proofs.number_at.Statement.{statement}
 use Rattle.numbers.proofs.number_at.Tie as tie
 
-found-at-requires : tie.Need-found-at-requires
-found-at-requires c κs = search needs
-
 returns : tie.Need-returns
 returns c = let a = c .before .before .before .before .args in sym (found-none (drop (a .at) (now (a .s))) _ (c .before .before .found-at .ensures) (c .if1 .taken))
 
@@ -17,4 +14,4 @@ returns-2 : tie.Need-returns-2
 returns-2 c = let a = c .before .before .before .before .args in sym (found-value (drop (a .at) (now (a .s))) _ (c .before .before .found-at .ensures) (c .if1 .left) .value)
 
 pub number-at-spec : {M : Type 1} → statement M
-number-at-spec = tie.close (tie.spec found-at-requires returns returns-2)
+number-at-spec = tie.close (tie.spec (λ c κs. search needs) returns returns-2)

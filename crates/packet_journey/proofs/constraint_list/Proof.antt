@@ -6,15 +6,6 @@ use borrow.Author.Needs.{needs}
 use Rattle.packet_journey.proofs.constraint_list.Statement.{statement}
 use Rattle.packet_journey.proofs.constraint_list.Tie as tie
 
-count-requires : tie.Need-count-requires
-count-requires c κs = search needs
-
-enum-known-r : tie.Need-enum-known-r
-enum-known-r c = search needs
-
-enum-known-count : tie.Need-enum-known-count
-enum-known-count c = search needs
-
 constraints-requires : tie.Need-constraints-requires
 constraints-requires c κs = (rw (c .before .count2 .given .1) at (c .before .before .before .count .ensures)) .stands
 
@@ -27,4 +18,4 @@ returns-2 c = value-on (times temporaryConstraint) (rw (c .before .before .count
 pub constraint-list-spec : {M : Type 1} → statement M
 constraint-list-spec =
     tie.close
-    (tie.spec count-requires enum-known-r enum-known-count constraints-requires returns returns-2)
+    (tie.spec (λ c κs. search needs) (λ c. search needs) (λ c. search needs) constraints-requires returns returns-2)

@@ -6,26 +6,8 @@ use borrow.Author.Needs.{needs}
 use Rattle.packet_journey.proofs.cut_head.Statement.{statement}
 use Rattle.packet_journey.proofs.cut_head.Tie as tie
 
-segment-widths-requires : tie.Need-segment-widths-requires
-segment-widths-requires c κs = search needs
-
-segment-most-requires : tie.Need-segment-most-requires
-segment-most-requires c κs = search needs
-
-slice-aggregate-row : tie.Need-slice-aggregate-row
-slice-aggregate-row c = search needs
-
-slice-aggregate-row-2 : tie.Need-slice-aggregate-row-2
-slice-aggregate-row-2 c = search needs
-
 row-requires : tie.Need-row-requires
 row-requires c κs = (c .before .before .before .before .before .pre, rw (c .before .before .before .segment-widths .ensures, c .before .before .segment-most .ensures) segment-fits)
-
-enum-known-r : tie.Need-enum-known-r
-enum-known-r c = search needs
-
-enum-known-at2 : tie.Need-enum-known-at2
-enum-known-at2 c = search needs
 
 count-requires : tie.Need-count-requires
 count-requires c κs = ((rw (c .before .at2 .given .1) at (c .before .before .before .row .ensures)) .stands, lit< tt)
@@ -40,13 +22,13 @@ pub cut-head-spec : {M : Type 1} → statement M
 cut-head-spec =
     tie.close
     (tie.spec
-    segment-widths-requires
-    segment-most-requires
-    slice-aggregate-row
-    slice-aggregate-row-2
+    (λ c κs. search needs)
+    (λ c κs. search needs)
+    (λ c. search needs)
+    (λ c. search needs)
     row-requires
-    enum-known-r
-    enum-known-at2
+    (λ c. search needs)
+    (λ c. search needs)
     count-requires
     returns
     returns-2)

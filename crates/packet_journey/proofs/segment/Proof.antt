@@ -7,23 +7,8 @@ use borrow.Author.Needs.{needs}
 use Rattle.packet_journey.proofs.segment.Statement.{statement}
 use Rattle.packet_journey.proofs.segment.Tie as tie
 
-segment-head-requires : tie.Need-segment-head-requires
-segment-head-requires c κs = search needs
-
-enum-known-r : tie.Need-enum-known-r
-enum-known-r c = search needs
-
-enum-known-count : tie.Need-enum-known-count
-enum-known-count c = search needs
-
 points-requires : tie.Need-points-requires
 points-requires c κs = (rw (c .before .count .given .1) at (c .before .before .before .segment-head .ensures)) .stands
-
-enum-known-r-2 : tie.Need-enum-known-r-2
-enum-known-r-2 c = search needs
-
-enum-known-at3 : tie.Need-enum-known-at3
-enum-known-at3 c = search needs
 
 constraint-list-requires : tie.Need-constraint-list-requires
 constraint-list-requires c κs = (rw (c .before .at3 .given .1) at (c .before .before .before .points .ensures)) .stands
@@ -41,12 +26,12 @@ pub segment-spec : {M : Type 1} → statement M
 segment-spec =
     tie.close
     (tie.spec
-    segment-head-requires
-    enum-known-r
-    enum-known-count
+    (λ c κs. search needs)
+    (λ c. search needs)
+    (λ c. search needs)
     points-requires
-    enum-known-r-2
-    enum-known-at3
+    (λ c. search needs)
+    (λ c. search needs)
     constraint-list-requires
     returns
     returns-2

@@ -8,32 +8,11 @@ use borrow.Author.Needs.{needs}
 use Rattle.packet_journey.proofs.whole_head.Statement.{statement}
 use Rattle.packet_journey.proofs.whole_head.Tie as tie
 
-read-window-requires : tie.Need-read-window-requires
-read-window-requires c κs = search needs
-
 short-requires : tie.Need-short-requires
 short-requires c κs = let a = c .before .before .args in omega (arith, window-small (now (a .s)) (a .at) 10 (c .read-window .ensures))
 
-add-read-window : tie.Need-add-read-window
-add-read-window c = search needs
-
-read-window-requires-2 : tie.Need-read-window-requires-2
-read-window-requires-2 c κs = search needs
-
-groups-requires : tie.Need-groups-requires
-groups-requires c κs = search needs
-
-add-read-window-2 : tie.Need-add-read-window-2
-add-read-window-2 c = search needs
-
-read-window-requires-3 : tie.Need-read-window-requires-3
-read-window-requires-3 c κs = search needs
-
 short-requires-2 : tie.Need-short-requires-2
 short-requires-2 c κs = let a = c .before .before .before .before .before .before .args in omega (arith, window-small (now (a .s)) (a .at + 42) 22 (c .read-window3 .ensures))
-
-short-requires-3 : tie.Need-short-requires-3
-short-requires-3 c κs = search needs
 
 -- the bytes of the four numbers are few
 sum-small : (c : tie.After-short3) → c .before .before .before .before .before .short .result + c .before .before .before .groups .result + c .before .short2 .result + c .short3 .result ≤ 20
@@ -51,36 +30,29 @@ add-bytes-3 c = omega (arith, sum-small c)
 add-bytes-4 : tie.Need-add-bytes-4
 add-bytes-4 c = omega (arith, sum-small c)
 
-add-t12 : tie.Need-add-t12
-add-t12 c = search needs
-
-cast-t15 : tie.Need-cast-t15
-cast-t15 c = search needs
-
-add-t16 : tie.Need-add-t16
-add-t16 c = search needs
-
 returns : tie.Need-returns
-returns c = let b = c .before .before .before .before .before .before .before .before in head-on (now (b .args .s)) (b .args .stop) (b .pre .0) (b .pre .1) (c .before .before .read-window3 .ensures) (rw (c .before .before .before .before .before .before .read-window .ensures) at (c .before .before .before .before .before .short .ensures)) (rw (c .before .before .before .before .read-window2 .ensures) at (c .before .before .before .groups .ensures)) (c .before .short2 .ensures) (c .short3 .ensures)
+returns c =
+    let e = c .before .before .before in
+    let b = e .before .before .before .before .before in head-on (now (b .args .s)) (b .args .stop) (b .pre .0) (b .pre .1) (c .before .before .read-window3 .ensures) (rw (e .before .before .before .read-window .ensures) at (e .before .before .short .ensures)) (rw (e .before .read-window2 .ensures) at (e .groups .ensures)) (c .before .short2 .ensures) (c .short3 .ensures)
 
 pub whole-head-spec : {M : Type 1} → statement M
 whole-head-spec =
     tie.close
     (tie.spec
-    read-window-requires
+    (λ c κs. search needs)
     short-requires
-    add-read-window
-    read-window-requires-2
-    groups-requires
-    add-read-window-2
-    read-window-requires-3
+    (λ c. search needs)
+    (λ c κs. search needs)
+    (λ c κs. search needs)
+    (λ c. search needs)
+    (λ c κs. search needs)
     short-requires-2
-    short-requires-3
+    (λ c κs. search needs)
     add-bytes
     add-bytes-2
     add-bytes-3
     add-bytes-4
-    add-t12
-    cast-t15
-    add-t16
+    (λ c. search needs)
+    (λ c. search needs)
+    (λ c. search needs)
     returns)

@@ -7,27 +7,12 @@ use Rattle.packet_judge.proofs.Framed.{frame-refused, framed-whole, fie
 use Rattle.packet_judge.proofs.judge_packet.Statement.{statement}
 use Rattle.packet_judge.proofs.judge_packet.Tie as tie
 
-tree-frame-requires : tie.Need-tree-frame-requires
-tree-frame-requires c κs = search needs
-
-enum-known-r : tie.Need-enum-known-r
-enum-known-r c = search needs
-
-enum-known-stop : tie.Need-enum-known-stop
-enum-known-stop c = search needs
-
 packet-fields-requires : tie.Need-packet-fields-requires
 packet-fields-requires c κs =
     let b = c .before in
     let a = b .before .before .before .before .args in
     let w = framed-whole (a .tree) (now (a .s)) (b .before .before .tree-frame .ensures) (b .stop .given .1) in
     (w .placed, omega (arith, w .ends, w .inside))
-
-enum-known-r-2 : tie.Need-enum-known-r-2
-enum-known-r-2 c = search needs
-
-enum-known-n : tie.Need-enum-known-n
-enum-known-n c = search needs
 
 first-one-requires : tie.Need-first-one-requires
 first-one-requires c κs =
@@ -78,12 +63,12 @@ pub judge-packet-spec : {M : Type 1} → statement M
 judge-packet-spec =
     tie.close
     (tie.spec
-    tree-frame-requires
-    enum-known-r
-    enum-known-stop
+    (λ c κs. search needs)
+    (λ c. search needs)
+    (λ c. search needs)
     packet-fields-requires
-    enum-known-r-2
-    enum-known-n
+    (λ c. search needs)
+    (λ c. search needs)
     first-one-requires
     mul-if1
     cast-t17

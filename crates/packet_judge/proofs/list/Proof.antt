@@ -9,20 +9,8 @@ use Rattle.packet_judge.proofs.list.Tie as tie
 element-requires : tie.Need-element-requires
 element-requires c κs = c .before .pre .0
 
-enum-known-r : tie.Need-enum-known-r
-enum-known-r c = search needs
-
-enum-known-at2 : tie.Need-enum-known-at2
-enum-known-at2 c = search needs
-
 count-requires : tie.Need-count-requires
 count-requires c κs = ((rw (c .before .at2 .given .1) at (c .before .before .before .element .ensures)) .stands, c .before .before .before .before .before .pre .1)
-
-enum-known-r-2 : tie.Need-enum-known-r-2
-enum-known-r-2 c = search needs
-
-enum-known-count : tie.Need-enum-known-count
-enum-known-count c = search needs
 
 changes-requires : tie.Need-changes-requires
 changes-requires c κs = (rw (c .before .count2 .given .1) at (c .before .before .before .count .ensures)) .stands
@@ -33,24 +21,26 @@ returns c =
 
 returns-2 : tie.Need-returns-2
 returns-2 c =
-    let a = c .before .before .before .before .before .before .before .before .before .args in
-    over-on (rw (c .before .before .before .before .before .at2 .given .1) at (c .before .before .before .before .before .before .before .element .ensures)) (value-off (changes (startOf (a .part)) (a .lsp) 0) (rw (c .before .r2 .given .1) at (c .before .before .before .count .ensures)))
+    let b = c .before .before .before .before .before in
+    let a = b .before .before .before .before .args in
+    over-on (rw (b .at2 .given .1) at (b .before .before .element .ensures)) (value-off (changes (startOf (a .part)) (a .lsp) 0) (rw (c .before .r2 .given .1) at (c .before .before .before .count .ensures)))
 
 returns-3 : tie.Need-returns-3
 returns-3 c =
-    let a = c .before .before .before .before .before .before .before .before .before .before .args in
-    over-on (rw (c .before .before .before .before .before .before .at2 .given .1) at (c .before .before .before .before .before .before .before .before .element .ensures)) (value-on (changes (startOf (a .part)) (a .lsp) 0) (rw (c .before .before .count2 .given .1) at (c .before .before .before .before .count .ensures)) (c .changes .ensures))
+    let b = c .before .before .before .before in
+    let a = b .before .before .before .before .before .before .args in
+    over-on (rw (b .before .before .at2 .given .1) at (b .before .before .before .before .element .ensures)) (value-on (changes (startOf (a .part)) (a .lsp) 0) (rw (c .before .before .count2 .given .1) at (b .count .ensures)) (c .changes .ensures))
 
 pub list-spec : {M : Type 1} → statement M
 list-spec =
     tie.close
     (tie.spec
     element-requires
-    enum-known-r
-    enum-known-at2
+    (λ c. search needs)
+    (λ c. search needs)
     count-requires
-    enum-known-r-2
-    enum-known-count
+    (λ c. search needs)
+    (λ c. search needs)
     changes-requires
     returns
     returns-2

@@ -8,20 +8,8 @@ use Rattle.packet_judge.proofs.lists.Tie as tie
 list-requires : tie.Need-list-requires
 list-requires c κs = (c .before .pre, lit< tt)
 
-enum-known-r : tie.Need-enum-known-r
-enum-known-r c = search needs
-
-enum-known-at2 : tie.Need-enum-known-at2
-enum-known-at2 c = search needs
-
 list-requires-2 : tie.Need-list-requires-2
 list-requires-2 c κs = ((rw (c .before .at2 .given .1) at (c .before .before .before .list .ensures)) .stands, lit< tt)
-
-enum-known-r-2 : tie.Need-enum-known-r-2
-enum-known-r-2 c = search needs
-
-enum-known-at3 : tie.Need-enum-known-at3
-enum-known-at3 c = search needs
 
 list-requires-3 : tie.Need-list-requires-3
 list-requires-3 c κs = ((rw (c .before .at3 .given .1) at (c .before .before .before .list2 .ensures)) .stands, lit< tt)
@@ -43,11 +31,11 @@ lists-spec =
     tie.close
     (tie.spec
     list-requires
-    enum-known-r
-    enum-known-at2
+    (λ c. search needs)
+    (λ c. search needs)
     list-requires-2
-    enum-known-r-2
-    enum-known-at3
+    (λ c. search needs)
+    (λ c. search needs)
     list-requires-3
     returns
     returns-2

@@ -9,12 +9,6 @@ use Rattle.packet_judge.proofs.packet_fields.Tie as tie
 fields-requires : tie.Need-fields-requires
 fields-requires c κs = let a = c .before .args in first (now (a .s)) (a .stop) (c .before .pre .0) (c .before .pre .1)
 
-enum-known-r : tie.Need-enum-known-r
-enum-known-r c = search needs
-
-enum-known-at : tie.Need-enum-known-at
-enum-known-at c = search needs
-
 returns : tie.Need-returns
 returns c =
     let a = c .before .before .before .before .before .before .args in
@@ -38,4 +32,4 @@ returns-3 c =
 pub packet-fields-spec : {M : Type 1} → statement M
 packet-fields-spec =
     tie.close
-    (tie.spec fields-requires enum-known-r enum-known-at returns cast-t11 returns-2 returns-3)
+    (tie.spec fields-requires (λ c. search needs) (λ c. search needs) returns cast-t11 returns-2 returns-3)

@@ -14,12 +14,11 @@ number-requires-2 c κs = (body-count (c .before .before .before .before .before
 segments-requires : tie.Need-segments-requires
 segments-requires c κs = body-segments (c .before .before .before .before .before .before .before .before .before .before .before .before .before .pre) (c .before .before .before .before .before .before .before .before .before .number .ensures) (c .before .before .before .before .number2 .ensures)
 
-same-length : tie.Need-same-length
-same-length c = search needs
-
 returns : tie.Need-returns
-returns c = body-wrote (c .before .before .before .before .before .before .before .before .before .before .before .before .before .before .before .before .pre) (c .before .before .before .before .before .before .before .before .before .before .before .before .number .ensures) (c .before .before .before .before .before .before .before .number2 .ensures) (c .before .before .segments .ensures)
+returns c =
+    let b = c .before .before .before .before .before .before .before in
+    body-wrote (b .before .before .before .before .before .before .before .before .before .pre) (b .before .before .before .before .before .number .ensures) (b .number2 .ensures) (c .before .before .segments .ensures)
 
 pub body-spec : {M : Type 1} → statement M
 body-spec =
-    tie.close (tie.spec number-requires number-requires-2 segments-requires same-length returns)
+    tie.close (tie.spec number-requires number-requires-2 segments-requires (λ c. search needs) returns)

@@ -20,12 +20,6 @@ constraint-requires c κs =
     let l = c .before .before .loop in
     times-next temporaryConstraint (l .inv) (omega arith) (c .before .before .before .before .before .pre)
 
-sub-ahead : tie.Need-sub-ahead Inv-loop μ-loop
-sub-ahead c = omega arith
-
-loop-less : tie.Need-loop-less Inv-loop μ-loop
-loop-less c = omega arith
-
 loop-again : tie.Need-loop-again Inv-loop μ-loop
 loop-again c =
     let l = c .before .before .before .before .before .loop in
@@ -47,8 +41,8 @@ constraints-spec =
     μ-loop
     loop-holds
     constraint-requires
-    sub-ahead
-    loop-less
+    (λ c. omega arith)
+    (λ c. omega arith)
     loop-again
     same-length
     returns)

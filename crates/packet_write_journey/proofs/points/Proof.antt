@@ -20,12 +20,6 @@ point-requires c κs =
     let l = c .before .before .loop in
     times-next timingPoint (l .inv) (omega arith) (c .before .before .before .before .before .pre)
 
-sub-left : tie.Need-sub-left Inv-loop μ-loop
-sub-left c = omega arith
-
-loop-less : tie.Need-loop-less Inv-loop μ-loop
-loop-less c = omega arith
-
 loop-again : tie.Need-loop-again Inv-loop μ-loop
 loop-again c =
     let l = c .before .before .before .before .before .loop in
@@ -47,8 +41,8 @@ points-spec =
     μ-loop
     loop-holds
     point-requires
-    sub-left
-    loop-less
+    (λ c. omega arith)
+    (λ c. omega arith)
     loop-again
     same-length
     returns)

@@ -15,15 +15,19 @@ points-requires c κs = segment-points (c .before .before .before .before .befor
 
 number-requires-2 : tie.Need-number-requires-2
 number-requires-2 c κs =
-    (segment-last (c .before .before .before .before .before .before .before .before .before .before .before .before .before .before .before .before .pre) (c .before .before .before .before .before .before .before .before .before .before .before .before .names .ensures) (c .before .before .before .before .before .before .before .before .number .ensures) (c .before .before .before .points .ensures), lit≤ tt, lit≤ tt, lit< tt)
+    let b = c .before .before .before .before .before .before .before .before in
+    (segment-last (b .before .before .before .before .before .before .before .before .pre) (b .before .before .before .before .names .ensures) (b .number .ensures) (c .before .before .before .points .ensures), lit≤ tt, lit≤ tt, lit< tt)
 
 constraints-requires : tie.Need-constraints-requires
 constraints-requires c κs =
-    segment-constraints (c .before .before .before .before .before .before .before .before .before .before .before .before .before .before .before .before .before .before .before .before .before .pre) (c .before .before .before .before .before .before .before .before .before .before .before .before .before .before .before .before .before .names .ensures) (c .before .before .before .before .before .before .before .before .before .before .before .before .before .number .ensures) (c .before .before .before .before .before .before .before .before .points .ensures) (c .before .before .before .before .number2 .ensures)
+    let b = c .before .before .before .before .before .before .before .before .before .before .before .before .before in
+    segment-constraints (b .before .before .before .before .before .before .before .before .pre) (b .before .before .before .before .names .ensures) (b .number .ensures) (c .before .before .before .before .before .before .before .before .points .ensures) (c .before .before .before .before .number2 .ensures)
 
 returns : tie.Need-returns
 returns c =
-    segment-wrote (c .before .before .before .before .before .before .before .before .before .before .before .before .before .before .before .before .before .before .before .before .before .before .before .before .pre) (c .before .before .before .before .before .before .before .before .before .before .before .before .before .before .before .before .before .before .before .before .names .ensures) (c .before .before .before .before .before .before .before .before .before .before .before .before .before .before .before .before .number .ensures) (c .before .before .before .before .before .before .before .before .before .before .before .points .ensures) (c .before .before .before .before .before .before .before .number2 .ensures) (c .before .before .constraints .ensures)
+    let b = c .before .before .before .before .before .before .before .before .before .before .before in
+    let e = b .before .before .before .before .before in
+    segment-wrote (e .before .before .before .before .before .before .before .before .pre) (e .before .before .before .before .names .ensures) (e .number .ensures) (b .points .ensures) (c .before .before .before .before .before .before .before .number2 .ensures) (c .before .before .constraints .ensures)
 
 same-length : tie.Need-same-length
 same-length c = returns c .puts .long

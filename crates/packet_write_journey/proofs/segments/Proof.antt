@@ -20,12 +20,6 @@ segment-requires c κs =
     let l = c .before .before .loop in
     times-next (journeySegment constraints) (l .inv) (omega arith) (c .before .before .before .before .before .pre)
 
-sub-rest : tie.Need-sub-rest Inv-loop μ-loop
-sub-rest c = omega arith
-
-loop-less : tie.Need-loop-less Inv-loop μ-loop
-loop-less c = omega arith
-
 loop-again : tie.Need-loop-again Inv-loop μ-loop
 loop-again c =
     let l = c .before .before .before .before .before .loop in
@@ -47,8 +41,8 @@ segments-spec =
     μ-loop
     loop-holds
     segment-requires
-    sub-rest
-    loop-less
+    (λ c. omega arith)
+    (λ c. omega arith)
     loop-again
     same-length
     returns)

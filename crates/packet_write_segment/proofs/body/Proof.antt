@@ -25,35 +25,36 @@ put-requires c κs =
     let l = along-on (runs 5 4) (λ f. field lSp λ n. runs 10 3 (threeLists n f)) (along-all (c .before .before .before .before .before .before .before .before .pre)) (c .before .before .before .before .run .ensures .0) in
     (lit< tt, lit≤ tt, plain-small lSp (λ n f. runs 10 3 (threeLists n f)) l (c .before .before .before .before .before .before .before .before .pre) (c .before .number .ensures) (lSp .allowed (c .before .number .result .value)) refl (range-lawful 24 1 16777215 4 (narrow tt) (lit< tt)))
 
-cast-t13 : tie.Need-cast-t13
-cast-t13 c = omega arith
-
 add-t14 : tie.Need-add-t14
 add-t14 c =
-    omega (arith, along-small (along-on (runs 5 4) (λ f. field lSp λ n. runs 10 3 (threeLists n f)) (along-all (c .before .before .before .before .before .before .before .before .before .before .before .before .pre)) (c .before .before .before .before .before .before .before .before .run .ensures .0)) (c .before .before .before .before .before .before .before .before .before .before .before .before .pre))
+    let b = c .before .before .before .before .before .before .before .before in
+    omega (arith, along-small (along-on (runs 5 4) (λ f. field lSp λ n. runs 10 3 (threeLists n f)) (along-all (b .before .before .before .before .pre)) (b .run .ensures .0)) (b .before .before .before .before .pre))
 
 run-requires-2 : tie.Need-run-requires-2
 run-requires-2 c κs =
-    let l = along-on (runs 5 4) (λ f. field lSp λ n. runs 10 3 (threeLists n f)) (along-all (c .before .before .before .before .before .before .before .before .before .before .before .before .before .pre)) (c .before .before .before .before .before .before .before .before .before .run .ensures .0) in
-    let m = along-put lSp (λ n f. runs 10 3 (threeLists n f)) l (c .before .before .before .before .before .before .before .before .before .before .before .before .before .pre) (c .before .before .before .before .before .before .number .ensures) (lSp .allowed (c .before .before .before .before .before .before .number .result .value)) refl refl (c .before .before .before .before .put .ensures) in
-    (along-next (runs 10 3) (threeLists (c .before .before .before .before .before .before .number .result .value)) m (c .before .before .before .before .before .before .before .before .before .before .before .before .before .pre), lit≤ tt, lit≤ tt)
+    let b = c .before .before .before .before .before .before in
+    let h = b .before .before .before .before .before .before .before .pre in
+    let l = along-on (runs 5 4) (λ f. field lSp λ n. runs 10 3 (threeLists n f)) (along-all h) (b .before .before .before .run .ensures .0) in
+    let m = along-put lSp (λ n f. runs 10 3 (threeLists n f)) l h (b .number .ensures) (lSp .allowed (b .number .result .value)) refl refl (c .before .before .before .before .put .ensures) in
+    (along-next (runs 10 3) (threeLists (b .number .result .value)) m h, lit≤ tt, lit≤ tt)
 
 lists-requires : tie.Need-lists-requires
 lists-requires c κs =
-    let l = along-on (runs 5 4) (λ f. field lSp λ n. runs 10 3 (threeLists n f)) (along-all (c .before .before .before .before .before .before .before .before .before .before .before .before .before .before .before .before .before .pre)) (c .before .before .before .before .before .before .before .before .before .before .before .before .before .run .ensures .0) in
-    let v = c .before .before .before .before .before .before .before .before .before .before .number .result .value in
-    let m = along-put lSp (λ n f. runs 10 3 (threeLists n f)) l (c .before .before .before .before .before .before .before .before .before .before .before .before .before .before .before .before .before .pre) (c .before .before .before .before .before .before .before .before .before .before .number .ensures) (lSp .allowed v) refl refl (c .before .before .before .before .before .before .before .before .put .ensures) in
+    let b = c .before .before .before .before .before .before .before .before .before .before in
+    let h = b .before .before .before .before .before .before .before .pre in
+    let l = along-on (runs 5 4) (λ f. field lSp λ n. runs 10 3 (threeLists n f)) (along-all h) (b .before .before .before .run .ensures .0) in
+    let v = b .number .result .value in
+    let m = along-put lSp (λ n f. runs 10 3 (threeLists n f)) l h (b .number .ensures) (lSp .allowed v) refl refl (c .before .before .before .before .before .before .before .before .put .ensures) in
     let o = along-on (runs 10 3) (threeLists v) m (c .before .before .before .run2 .ensures .0) in
-    (along-next (threeLists v) (λ f. f) o (c .before .before .before .before .before .before .before .before .before .before .before .before .before .before .before .before .before .pre), plain-small lSp (λ n f. runs 10 3 (threeLists n f)) l (c .before .before .before .before .before .before .before .before .before .before .before .before .before .before .before .before .before .pre) (c .before .before .before .before .before .before .before .before .before .before .number .ensures) (lSp .allowed v) refl (range-lawful 24 1 16777215 4 (narrow tt) (lit< tt)))
-
-same-length : tie.Need-same-length
-same-length c = search needs
+    (along-next (threeLists v) (λ f. f) o h, plain-small lSp (λ n f. runs 10 3 (threeLists n f)) l h (b .number .ensures) (lSp .allowed v) refl (range-lawful 24 1 16777215 4 (narrow tt) (lit< tt)))
 
 returns : tie.Need-returns
 returns c =
-    let l = along-on (runs 5 4) (λ f. field lSp λ n. runs 10 3 (threeLists n f)) (along-all (c .before .before .before .before .before .before .before .before .before .before .before .before .before .before .before .before .before .before .before .before .pre)) (c .before .before .before .before .before .before .before .before .before .before .before .before .before .before .before .before .run .ensures .0) in
-    let v = c .before .before .before .before .before .before .before .before .before .before .before .before .before .number .result .value in
-    let m = along-put lSp (λ n f. runs 10 3 (threeLists n f)) l (c .before .before .before .before .before .before .before .before .before .before .before .before .before .before .before .before .before .before .before .before .pre) (c .before .before .before .before .before .before .before .before .before .before .before .before .before .number .ensures) (lSp .allowed v) refl refl (c .before .before .before .before .before .before .before .before .before .before .before .put .ensures) in
+    let b = c .before .before .before .before .before .before .before .before .before .before .before in
+    let e = b .before .before .before .before .before in
+    let l = along-on (runs 5 4) (λ f. field lSp λ n. runs 10 3 (threeLists n f)) (along-all (e .before .before .before .before .pre)) (e .run .ensures .0) in
+    let v = b .before .before .number .result .value in
+    let m = along-put lSp (λ n f. runs 10 3 (threeLists n f)) l (e .before .before .before .before .pre) (b .before .before .number .ensures) (lSp .allowed v) refl refl (b .put .ensures) in
     let o = along-on (runs 10 3) (threeLists v) m (c .before .before .before .before .before .before .run2 .ensures .0) in
     along-none (along-on (threeLists v) (λ f. f) o (c .before .before .lists .ensures))
 
@@ -64,9 +65,9 @@ body-spec =
     run-requires
     number-requires
     put-requires
-    cast-t13
+    (λ c. omega arith)
     add-t14
     run-requires-2
     lists-requires
-    same-length
+    (λ c. search needs)
     returns)

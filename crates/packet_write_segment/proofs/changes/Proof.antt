@@ -32,14 +32,12 @@ number-requires c κs =
 
 put-requires : tie.Need-put-requires Inv-loop μ-loop
 put-requires c κs =
+    let b = c .before .before .before .before .before .before in
     let l = c .before .before .before .loop in
-    let a = c .before .before .before .before .before .before .args in
+    let a = b .args in
     let k = dLocation (l .last) (a .lsp) in
     let more = along-as (λ f. field k λ x. startOf (a .part) (changes (startOf (a .part)) (a .lsp) x (l .left - 1) f)) (changes-more (startOf (a .part)) (a .lsp) (l .last) (l .left) (omega arith)) (l .inv) in
-    (lit< tt, lit≤ tt, plain-small k (λ x f. startOf (a .part) (changes (startOf (a .part)) (a .lsp) x (l .left - 1) f)) more (c .before .before .before .before .before .before .pre .0) (c .before .number .ensures) (k .allowed (c .before .number .result .value)) refl (location-lawful (l .last) (a .lsp) (c .before .before .before .before .before .before .pre .1)))
-
-cast-t16 : tie.Need-cast-t16 Inv-loop μ-loop
-cast-t16 c = omega arith
+    (lit< tt, lit≤ tt, plain-small k (λ x f. startOf (a .part) (changes (startOf (a .part)) (a .lsp) x (l .left - 1) f)) more (b .pre .0) (c .before .number .ensures) (k .allowed (c .before .number .result .value)) refl (location-lawful (l .last) (a .lsp) (b .pre .1)))
 
 add-t17 : tie.Need-add-t17 Inv-loop μ-loop
 add-t17 c =
@@ -47,27 +45,24 @@ add-t17 c =
 
 element-requires : tie.Need-element-requires Inv-loop μ-loop
 element-requires c κs =
-    let l = c .before .before .before .before .before .before .before .before .loop in
-    let a = c .before .before .before .before .before .before .before .before .before .before .before .args in
+    let b = c .before .before .before .before .before .before in
+    let e = b .before .before .before .before .before in
+    let l = b .before .before .loop in
+    let a = e .args in
     let k = dLocation (l .last) (a .lsp) in
     let more = along-as (λ f. field k λ x. startOf (a .part) (changes (startOf (a .part)) (a .lsp) x (l .left - 1) f)) (changes-more (startOf (a .part)) (a .lsp) (l .last) (l .left) (omega arith)) (l .inv) in
-    let there = along-put k (λ x f. startOf (a .part) (changes (startOf (a .part)) (a .lsp) x (l .left - 1) f)) more (c .before .before .before .before .before .before .before .before .before .before .before .pre .0) (c .before .before .before .before .before .before .number .ensures) (k .allowed (c .before .before .before .before .before .before .number .result .value)) refl refl (c .before .before .before .before .put .ensures) in
-    along-next (startOf (a .part)) (changes (startOf (a .part)) (a .lsp) (c .before .before .before .before .before .before .number .result .value) (l .left - 1)) there (c .before .before .before .before .before .before .before .before .before .before .before .pre .0)
-
-sub-left : tie.Need-sub-left Inv-loop μ-loop
-sub-left c = omega arith
-
-loop-less : tie.Need-loop-less Inv-loop μ-loop
-loop-less c = omega arith
+    let there = along-put k (λ x f. startOf (a .part) (changes (startOf (a .part)) (a .lsp) x (l .left - 1) f)) more (e .pre .0) (b .number .ensures) (k .allowed (b .number .result .value)) refl refl (c .before .before .before .before .put .ensures) in
+    along-next (startOf (a .part)) (changes (startOf (a .part)) (a .lsp) (b .number .result .value) (l .left - 1)) there (e .pre .0)
 
 loop-again : tie.Need-loop-again Inv-loop μ-loop
 loop-again c =
-    let l = c .before .before .before .before .before .before .before .before .before .before .before .loop in
-    let a = c .before .before .before .before .before .before .before .before .before .before .before .before .before .before .args in
+    let b = c .before .before .before .before .before .before .before .before .before in
+    let l = b .before .before .loop in
+    let a = b .before .before .before .before .before .args in
     let k = dLocation (l .last) (a .lsp) in
     let more = along-as (λ f. field k λ x. startOf (a .part) (changes (startOf (a .part)) (a .lsp) x (l .left - 1) f)) (changes-more (startOf (a .part)) (a .lsp) (l .last) (l .left) (omega arith)) (l .inv) in
-    let there = along-put k (λ x f. startOf (a .part) (changes (startOf (a .part)) (a .lsp) x (l .left - 1) f)) more (c .before .before .before .before .before .before .before .before .before .before .before .before .before .before .pre .0) (c .before .before .before .before .before .before .before .before .before .number .ensures) (k .allowed (c .before .before .before .before .before .before .before .before .before .number .result .value)) refl refl (c .before .before .before .before .before .before .before .put .ensures) in
-    along-on (startOf (a .part)) (changes (startOf (a .part)) (a .lsp) (c .before .before .before .before .before .before .before .before .before .number .result .value) (l .left - 1)) there (c .before .before .element .ensures)
+    let there = along-put k (λ x f. startOf (a .part) (changes (startOf (a .part)) (a .lsp) x (l .left - 1) f)) more (b .before .before .before .before .before .pre .0) (b .number .ensures) (k .allowed (b .number .result .value)) refl refl (c .before .before .before .before .before .before .before .put .ensures) in
+    along-on (startOf (a .part)) (changes (startOf (a .part)) (a .lsp) (b .number .result .value) (l .left - 1)) there (c .before .before .element .ensures)
 
 same-length : tie.Need-same-length Inv-loop μ-loop
 same-length c = c .before .loop .inv .puts .long
@@ -87,11 +82,11 @@ changes-spec =
     loop-holds
     number-requires
     put-requires
-    cast-t16
+    (λ c. omega arith)
     add-t17
     element-requires
-    sub-left
-    loop-less
+    (λ c. omega arith)
+    (λ c. omega arith)
     loop-again
     same-length
     returns)

@@ -5,14 +5,8 @@ use borrow.Author.Needs.{needs}
 use Rattle.packet_write_segment.proofs.header.Statement.{statement}
 use Rattle.packet_write_segment.proofs.header.Tie as tie
 
-run-requires : tie.Need-run-requires
-run-requires c κs = search needs
-
-same-length : tie.Need-same-length
-same-length c = search needs
-
 returns : tie.Need-returns
 returns c = (c .before .before .run .ensures .0, omega (arith, c .before .before .run .ensures .1, header-size))
 
 pub header-spec : {M : Type 1} → statement M
-header-spec = tie.close (tie.spec run-requires same-length returns)
+header-spec = tie.close (tie.spec (λ c κs. search needs) (λ c. search needs) returns)

@@ -32,34 +32,31 @@ put-requires c κs =
     let l = along-on (startOf (a .part)) (λ f. field k λ n. changes (startOf (a .part)) (a .lsp) 0 n f) (along-all (h .0)) (c .before .before .before .before .element .ensures) in
     (lit< tt, lit≤ tt, plain-small k (changes (startOf (a .part)) (a .lsp) 0) l (h .0) (c .before .number .ensures) (k .allowed (c .before .number .result .value)) refl (upTo-lawful 5 (a .limit) (narrow tt) (h .2)))
 
-cast-t15 : tie.Need-cast-t15
-cast-t15 c = omega arith
-
 add-t16 : tie.Need-add-t16
 add-t16 c =
-    let a = c .before .before .before .before .before .before .before .before .before .before .before .before .args in
-    omega (arith, along-small (along-on (startOf (a .part)) (λ f. field (nIter (a .limit)) λ n. changes (startOf (a .part)) (a .lsp) 0 n f) (along-all (c .before .before .before .before .before .before .before .before .before .before .before .before .pre .0)) (c .before .before .before .before .before .before .before .before .element .ensures)) (c .before .before .before .before .before .before .before .before .before .before .before .before .pre .0))
+    let b = c .before .before .before .before .before .before .before .before in
+    let a = b .before .before .before .before .args in
+    omega (arith, along-small (along-on (startOf (a .part)) (λ f. field (nIter (a .limit)) λ n. changes (startOf (a .part)) (a .lsp) 0 n f) (along-all (b .before .before .before .before .pre .0)) (b .element .ensures)) (b .before .before .before .before .pre .0))
 
 changes-requires : tie.Need-changes-requires
 changes-requires c κs =
-    let a = c .before .before .before .before .before .before .before .before .before .before .before .before .before .args in
-    let h = c .before .before .before .before .before .before .before .before .before .before .before .before .before .pre in
+    let b = c .before .before .before .before .before .before in
+    let a = b .before .before .before .before .before .before .before .args in
+    let h = b .before .before .before .before .before .before .before .pre in
     let k = nIter (a .limit) in
-    let l = along-on (startOf (a .part)) (λ f. field k λ n. changes (startOf (a .part)) (a .lsp) 0 n f) (along-all (h .0)) (c .before .before .before .before .before .before .before .before .before .element .ensures) in
-    let m = along-put k (changes (startOf (a .part)) (a .lsp) 0) l (h .0) (c .before .before .before .before .before .before .number .ensures) (k .allowed (c .before .before .before .before .before .before .number .result .value)) refl refl (c .before .before .before .before .put .ensures) in
-    (along-next (changes (startOf (a .part)) (a .lsp) 0 (c .before .before .before .before .before .before .number .result .value)) (λ f. f) m (h .0), h .1)
-
-same-length : tie.Need-same-length
-same-length c = search needs
+    let l = along-on (startOf (a .part)) (λ f. field k λ n. changes (startOf (a .part)) (a .lsp) 0 n f) (along-all (h .0)) (b .before .before .before .element .ensures) in
+    let m = along-put k (changes (startOf (a .part)) (a .lsp) 0) l (h .0) (b .number .ensures) (k .allowed (b .number .result .value)) refl refl (c .before .before .before .before .put .ensures) in
+    (along-next (changes (startOf (a .part)) (a .lsp) 0 (b .number .result .value)) (λ f. f) m (h .0), h .1)
 
 returns : tie.Need-returns
 returns c =
-    let a = c .before .before .before .before .before .before .before .before .before .before .before .before .before .before .before .before .args in
-    let h = c .before .before .before .before .before .before .before .before .before .before .before .before .before .before .before .before .pre in
+    let b = c .before .before .before .before .before .before .before .before .before in
+    let a = b .before .before .before .before .before .before .before .args in
+    let h = b .before .before .before .before .before .before .before .pre in
     let k = nIter (a .limit) in
-    let l = along-on (startOf (a .part)) (λ f. field k λ n. changes (startOf (a .part)) (a .lsp) 0 n f) (along-all (h .0)) (c .before .before .before .before .before .before .before .before .before .before .before .before .element .ensures) in
-    let m = along-put k (changes (startOf (a .part)) (a .lsp) 0) l (h .0) (c .before .before .before .before .before .before .before .before .before .number .ensures) (k .allowed (c .before .before .before .before .before .before .before .before .before .number .result .value)) refl refl (c .before .before .before .before .before .before .before .put .ensures) in
-    along-none (along-on (changes (startOf (a .part)) (a .lsp) 0 (c .before .before .before .before .before .before .before .before .before .number .result .value)) (λ f. f) m (c .before .before .changes .ensures))
+    let l = along-on (startOf (a .part)) (λ f. field k λ n. changes (startOf (a .part)) (a .lsp) 0 n f) (along-all (h .0)) (b .before .before .before .element .ensures) in
+    let m = along-put k (changes (startOf (a .part)) (a .lsp) 0) l (h .0) (b .number .ensures) (k .allowed (b .number .result .value)) refl refl (c .before .before .before .before .before .before .before .put .ensures) in
+    along-none (along-on (changes (startOf (a .part)) (a .lsp) 0 (b .number .result .value)) (λ f. f) m (c .before .before .changes .ensures))
 
 pub list-spec : {M : Type 1} → statement M
 list-spec =
@@ -68,8 +65,8 @@ list-spec =
     element-requires
     number-requires
     put-requires
-    cast-t15
+    (λ c. omega arith)
     add-t16
     changes-requires
-    same-length
+    (λ c. search needs)
     returns)

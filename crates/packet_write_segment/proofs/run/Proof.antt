@@ -38,43 +38,42 @@ array-read-width c = omega (arith, c .before .before .before .before .before .pr
 
 put-requires : tie.Need-put-requires Inv-loop μ-loop
 put-requires c κs =
+    let b = c .before .before .before .before .before .before in
     let l = c .before .before .before .loop in
-    let a = c .before .before .before .before .before .before .args in
+    let a = b .args in
     let v = c .before .number .result .value in
-    let i : l .i < 13 = omega (arith, c .before .before .before .before .before .before .pre .2) in
+    let i : l .i < 13 = omega (arith, b .pre .2) in
     let k = head-plain (l .i) i in
     let e = head-width (l .i) i in
     let more = along-as (λ f. then (kindAt (l .i)) (runs (l .i + 1) (a .end - l .i - 1) f)) (runs-more (l .i) (a .end - l .i) (omega arith)) (l .inv .0) in
-    (rw e at (k .lawful .narrow .some), rw e at (k .lawful .narrow .most), rw e at (plain-small (kindAt (l .i)) (λ x. runs (l .i + 1) (a .end - l .i - 1)) more (c .before .before .before .before .before .before .pre .0) (c .before .number .ensures) (kindAt (l .i) .allowed v) (k .same v) (k .lawful)))
+    (rw e at (k .lawful .narrow .some), rw e at (k .lawful .narrow .most), rw e at (plain-small (kindAt (l .i)) (λ x. runs (l .i + 1) (a .end - l .i - 1)) more (b .pre .0) (c .before .number .ensures) (kindAt (l .i) .allowed v) (k .same v) (k .lawful)))
 
 cast-t14 : tie.Need-cast-t14 Inv-loop μ-loop
 cast-t14 c =
-    let i : c .before .before .before .before .before .before .loop .i < 13 = omega (arith, c .before .before .before .before .before .before .before .before .before .pre .2) in
-    omega (arith, head-width (c .before .before .before .before .before .before .loop .i) i, head-plain (c .before .before .before .before .before .before .loop .i) i .lawful .narrow .most)
+    let b = c .before .before .before .before .before .before in
+    let i : b .loop .i < 13 = omega (arith, b .before .before .before .pre .2) in
+    omega (arith, head-width (b .loop .i) i, head-plain (b .loop .i) i .lawful .narrow .most)
 
 add-t15 : tie.Need-add-t15 Inv-loop μ-loop
 add-t15 c =
-    let i : c .before .before .before .before .before .before .before .loop .i < 13 = omega (arith, c .before .before .before .before .before .before .before .before .before .before .pre .2) in
-    omega (arith, head-width (c .before .before .before .before .before .before .before .loop .i) i, head-plain (c .before .before .before .before .before .before .before .loop .i) i .lawful .narrow .most, along-small (c .before .before .before .before .before .before .before .loop .inv .0) (c .before .before .before .before .before .before .before .before .before .before .pre .0))
-
-add-i : tie.Need-add-i Inv-loop μ-loop
-add-i c = omega arith
-
-loop-less : tie.Need-loop-less Inv-loop μ-loop
-loop-less c = omega arith
+    let b = c .before .before .before .before .before .before .before in
+    let i : b .loop .i < 13 = omega (arith, b .before .before .before .pre .2) in
+    omega (arith, head-width (b .loop .i) i, head-plain (b .loop .i) i .lawful .narrow .most, along-small (b .loop .inv .0) (b .before .before .before .pre .0))
 
 loop-again : tie.Need-loop-again Inv-loop μ-loop
 loop-again c =
-    let l = c .before .before .before .before .before .before .before .loop in
-    let a = c .before .before .before .before .before .before .before .before .before .before .args in
-    let v = c .before .before .before .before .before .number .result .value in
-    let i : l .i < 13 = omega (arith, c .before .before .before .before .before .before .before .before .before .before .pre .2) in
+    let b = c .before .before .before .before .before in
+    let g = b .before .before .before .before .before in
+    let l = b .before .before .loop in
+    let a = g .args in
+    let v = b .number .result .value in
+    let i : l .i < 13 = omega (arith, g .pre .2) in
     let k = head-plain (l .i) i in
     let w = head-width (l .i) i in
     let more = along-as (λ f. then (kindAt (l .i)) (runs (l .i + 1) (a .end - l .i - 1) f)) (runs-more (l .i) (a .end - l .i) (omega arith)) (l .inv .0) in
     let e : a .end - (l .i + 1) ≡ a .end - l .i - 1 = omega arith in
     let m = widths-more (l .i) (a .end - l .i) (omega arith) in
-    (rw e (along-put (kindAt (l .i)) (λ x. runs (l .i + 1) (a .end - l .i - 1)) more (c .before .before .before .before .before .before .before .before .before .before .pre .0) (c .before .before .before .before .before .number .ensures) (kindAt (l .i) .allowed v) (k .same v) w (c .before .before .before .put .ensures)), omega arith, omega arith, rw e (omega (arith, l .inv .3, m, w)))
+    (rw e (along-put (kindAt (l .i)) (λ x. runs (l .i + 1) (a .end - l .i - 1)) more (g .pre .0) (b .number .ensures) (kindAt (l .i) .allowed v) (k .same v) w (c .before .before .before .put .ensures)), omega arith, omega arith, rw e (omega (arith, l .inv .3, m, w)))
 
 same-length : tie.Need-same-length Inv-loop μ-loop
 same-length c = c .before .loop .inv .0 .puts .long
@@ -100,8 +99,8 @@ run-spec =
     put-requires
     cast-t14
     add-t15
-    add-i
-    loop-less
+    (λ c. omega arith)
+    (λ c. omega arith)
     loop-again
     same-length
     returns)

@@ -8,19 +8,10 @@ use borrow.Author.Needs.{needs}
 use Rattle.sheet_fields.proofs.class.Statement.{statement}
 use Rattle.sheet_fields.proofs.class.Tie as tie
 
-found-at-requires : tie.Need-found-at-requires
-found-at-requires c κs = search needs
-
-class-place-requires : tie.Need-class-place-requires
-class-place-requires c κs = search needs
-
-lowered-requires : tie.Need-lowered-requires
-lowered-requires c κs = search needs
-
 returns : tie.Need-returns
 returns c =
     let a = c .before .before .before .before .args in
     low-over (now (a .s)) (c .before .before .before .before .pre .0) (c .before .before .found-at .ensures) (class (a .q)) (a .n) (class-lawful (a .q)) (class-refusal (a .q)) (c .before .class-place .ensures) (class-width (a .q)) (c .lowered .ensures)
 
 pub class-spec : {M : Type 1} → statement M
-class-spec = tie.close (tie.spec found-at-requires class-place-requires lowered-requires returns)
+class-spec = tie.close (tie.spec (λ c κs. search needs) (λ c κs. search needs) (λ c κs. search needs) returns)

@@ -8,15 +8,6 @@ use borrow.Author.Needs.{needs}
 use Rattle.sheet_fields.proofs.current.Statement.{statement}
 use Rattle.sheet_fields.proofs.current.Tie as tie
 
-found-at-requires : tie.Need-found-at-requires
-found-at-requires c κs = search needs
-
-current-steps-requires : tie.Need-current-steps-requires
-current-steps-requires c κs = search needs
-
-lowered-requires : tie.Need-lowered-requires
-lowered-requires c κs = search needs
-
 returns : tie.Need-returns
 returns c =
     let a = c .before .before .before .before .args in
@@ -24,4 +15,4 @@ returns c =
 
 pub current-spec : {M : Type 1} → statement M
 current-spec =
-    tie.close (tie.spec found-at-requires current-steps-requires lowered-requires returns)
+    tie.close (tie.spec (λ c κs. search needs) (λ c κs. search needs) (λ c κs. search needs) returns)

@@ -8,9 +8,6 @@ use borrow.Author.Needs.{needs}
 use Rattle.sheet_fields.proofs.location.Statement.{statement}
 use Rattle.sheet_fields.proofs.location.Tie as tie
 
-found-at-requires : tie.Need-found-at-requires
-found-at-requires c κs = search needs
-
 returns : tie.Need-returns
 returns c =
     let a = c .before .before .before .before .args in
@@ -24,34 +21,27 @@ returns-2 c =
 
 returns-3 : tie.Need-returns-3
 returns-3 c =
-    let a = c .before .before .before .before .before .before .args in
-    took-out (now (a .s)) (c .before .before .before .before .before .before .pre) (c .before .before .before .before .found-at .ensures) (dLocation (a .last) (a .lsp)) (a .n) (c .before .before .if1 .left)
-    (location-high (a .last) (a .lsp) (c .before .before .before .before .found-at .result .value) (omega arith) (omega arith))
-
-cast-t9 : tie.Need-cast-t9
-cast-t9 c = search needs
-
-add-t10 : tie.Need-add-t10
-add-t10 c = search needs
-
-wrapping-add-u32-requires : tie.Need-wrapping-add-u32-requires
-wrapping-add-u32-requires c κs = search needs
+    let b = c .before .before .before .before in
+    let a = b .before .before .args in
+    took-out (now (a .s)) (b .before .before .pre) (b .found-at .ensures) (dLocation (a .last) (a .lsp)) (a .n) (c .before .before .if1 .left)
+    (location-high (a .last) (a .lsp) (b .found-at .result .value) (omega arith) (omega arith))
 
 returns-4 : tie.Need-returns-4
 returns-4 c =
-    let a = c .before .before .before .before .before .before .before .before .args in
-    took-in (now (a .s)) (c .before .before .before .before .before .before .before .before .pre) (c .before .before .before .before .before .before .found-at .ensures) (dLocation (a .last) (a .lsp)) (a .n) (c .before .before .before .before .if1 .left)
-    (location-in (a .last) (a .lsp) (c .before .before .before .before .before .before .found-at .result .value) (omega arith) (omega arith)) refl (c .wrapping-add-u32 .ensures)
+    let b = c .before .before .before .before .before .before in
+    let a = b .before .before .args in
+    took-in (now (a .s)) (b .before .before .pre) (b .found-at .ensures) (dLocation (a .last) (a .lsp)) (a .n) (c .before .before .before .before .if1 .left)
+    (location-in (a .last) (a .lsp) (b .found-at .result .value) (omega arith) (omega arith)) refl (c .wrapping-add-u32 .ensures)
 
 pub location-spec : {M : Type 1} → statement M
 location-spec =
     tie.close
     (tie.spec
-    found-at-requires
+    (λ c κs. search needs)
     returns
     returns-2
     returns-3
-    cast-t9
-    add-t10
-    wrapping-add-u32-requires
+    (λ c. search needs)
+    (λ c. search needs)
+    (λ c κs. search needs)
     returns-4)

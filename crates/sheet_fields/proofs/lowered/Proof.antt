@@ -10,12 +10,6 @@ returns c = let e = c .if1 .taken in record { bad = λ z. refl; out = λ z o. ab
 returns-2 : tie.Need-returns-2
 returns-2 c = record { bad = λ z. absurd (c .before .if1 .left z); out = λ z o. refl; on = λ z o. absurd (o (c .if2 .taken)) }
 
-add-t9 : tie.Need-add-t9
-add-t9 c = search needs
-
-wrapping-add-u32-requires : tie.Need-wrapping-add-u32-requires
-wrapping-add-u32-requires c κs = search needs
-
 returns-3 : tie.Need-returns-3
 returns-3 c =
     record {
@@ -25,4 +19,4 @@ returns-3 c =
     }
 
 pub lowered-spec : {M : Type 1} → statement M
-lowered-spec = tie.close (tie.spec returns returns-2 add-t9 wrapping-add-u32-requires returns-3)
+lowered-spec = tie.close (tie.spec returns returns-2 (λ c. search needs) (λ c κs. search needs) returns-3)

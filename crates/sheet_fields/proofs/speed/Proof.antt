@@ -8,19 +8,10 @@ use borrow.Author.Needs.{needs}
 use Rattle.sheet_fields.proofs.speed.Statement.{statement}
 use Rattle.sheet_fields.proofs.speed.Tie as tie
 
-found-at-requires : tie.Need-found-at-requires
-found-at-requires c κs = search needs
-
-speed-steps-requires : tie.Need-speed-steps-requires
-speed-steps-requires c κs = search needs
-
-lowered-requires : tie.Need-lowered-requires
-lowered-requires c κs = search needs
-
 returns : tie.Need-returns
 returns c =
     let a = c .before .before .before .before .args in
     low-over (now (a .s)) (c .before .before .before .before .pre) (c .before .before .found-at .ensures) speed (a .n) speed-lawful (λ _. refl) (c .before .speed-steps .ensures) refl (c .lowered .ensures)
 
 pub speed-spec : {M : Type 1} → statement M
-speed-spec = tie.close (tie.spec found-at-requires speed-steps-requires lowered-requires returns)
+speed-spec = tie.close (tie.spec (λ c κs. search needs) (λ c κs. search needs) (λ c κs. search needs) returns)

@@ -7,23 +7,8 @@ use borrow.Author.Needs.{needs}
 use Rattle.sheet_journey.proofs.body.Statement.{statement}
 use Rattle.sheet_journey.proofs.body.Tie as tie
 
-ranged-requires : tie.Need-ranged-requires
-ranged-requires c κs = search needs
-
-enum-known-r : tie.Need-enum-known-r
-enum-known-r c = search needs
-
-enum-known-at2 : tie.Need-enum-known-at2
-enum-known-at2 c = search needs
-
 ranged-requires-2 : tie.Need-ranged-requires-2
 ranged-requires-2 c κs = (rw (c .before .at2 .given .1) at (c .before .before .before .ranged .ensures)) .stands
-
-enum-known-r-2 : tie.Need-enum-known-r-2
-enum-known-r-2 c = search needs
-
-enum-known-count : tie.Need-enum-known-count
-enum-known-count c = search needs
 
 segments-requires : tie.Need-segments-requires
 segments-requires c κs = (rw (c .before .count .given .1) at (c .before .before .before .ranged2 .ensures)) .stands
@@ -41,12 +26,12 @@ pub body-spec : {M : Type 1} → statement M
 body-spec =
     tie.close
     (tie.spec
-    ranged-requires
-    enum-known-r
-    enum-known-at2
+    (λ c κs. search needs)
+    (λ c. search needs)
+    (λ c. search needs)
     ranged-requires-2
-    enum-known-r-2
-    enum-known-count
+    (λ c. search needs)
+    (λ c. search needs)
     segments-requires
     returns
     returns-2

@@ -5,23 +5,8 @@ use borrow.Author.Needs.{needs}
 use Rattle.sheet_journey.proofs.fields.Statement.{statement}
 use Rattle.sheet_journey.proofs.fields.Tie as tie
 
-operational-requires : tie.Need-operational-requires
-operational-requires c κs = search needs
-
-enum-known-r : tie.Need-enum-known-r
-enum-known-r c = search needs
-
-enum-known-at2 : tie.Need-enum-known-at2
-enum-known-at2 c = search needs
-
 header-row-requires : tie.Need-header-row-requires
 header-row-requires c κs = (rw (c .before .at2 .given .1) at (c .before .before .before .operational .ensures)) .stands
-
-enum-known-r-2 : tie.Need-enum-known-r-2
-enum-known-r-2 c = search needs
-
-enum-known-at3 : tie.Need-enum-known-at3
-enum-known-at3 c = search needs
 
 body-requires : tie.Need-body-requires
 body-requires c κs = (rw (c .before .at3 .given .1) at (c .before .before .before .header-row .ensures)) .stands
@@ -42,12 +27,12 @@ pub fields-spec : {M : Type 1} → statement M
 fields-spec =
     tie.close
     (tie.spec
-    operational-requires
-    enum-known-r
-    enum-known-at2
+    (λ c κs. search needs)
+    (λ c. search needs)
+    (λ c. search needs)
     header-row-requires
-    enum-known-r-2
-    enum-known-at3
+    (λ c. search needs)
+    (λ c. search needs)
     body-requires
     returns
     returns-2

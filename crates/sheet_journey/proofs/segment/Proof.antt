@@ -7,32 +7,11 @@ use borrow.Author.Needs.{needs}
 use Rattle.sheet_journey.proofs.segment.Statement.{statement}
 use Rattle.sheet_journey.proofs.segment.Tie as tie
 
-segment-row-requires : tie.Need-segment-row-requires
-segment-row-requires c κs = search needs
-
-enum-known-r : tie.Need-enum-known-r
-enum-known-r c = search needs
-
-enum-known-at2 : tie.Need-enum-known-at2
-enum-known-at2 c = search needs
-
 ranged-requires : tie.Need-ranged-requires
 ranged-requires c κs = (rw (c .before .at2 .given .1) at (c .before .before .before .segment-row .ensures)) .stands
 
-enum-known-r-2 : tie.Need-enum-known-r-2
-enum-known-r-2 c = search needs
-
-enum-known-count : tie.Need-enum-known-count
-enum-known-count c = search needs
-
 points-requires : tie.Need-points-requires
 points-requires c κs = (rw (c .before .count .given .1) at (c .before .before .before .ranged .ensures)) .stands
-
-enum-known-r-3 : tie.Need-enum-known-r-3
-enum-known-r-3 c = search needs
-
-enum-known-at4 : tie.Need-enum-known-at4
-enum-known-at4 c = search needs
 
 constraints-requires : tie.Need-constraints-requires
 constraints-requires c κs = (rw (c .before .at4 .given .1) at (c .before .before .before .points .ensures)) .stands
@@ -61,15 +40,15 @@ pub segment-spec : {M : Type 1} → statement M
 segment-spec =
     tie.close
     (tie.spec
-    segment-row-requires
-    enum-known-r
-    enum-known-at2
+    (λ c κs. search needs)
+    (λ c. search needs)
+    (λ c. search needs)
     ranged-requires
-    enum-known-r-2
-    enum-known-count
+    (λ c. search needs)
+    (λ c. search needs)
     points-requires
-    enum-known-r-3
-    enum-known-at4
+    (λ c. search needs)
+    (λ c. search needs)
     constraints-requires
     returns
     returns-2

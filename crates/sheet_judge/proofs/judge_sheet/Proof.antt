@@ -10,20 +10,11 @@ use Rattle.sheet_judge.proofs.judge_sheet.Tie as tie
 tree-numbers-requires : tie.Need-tree-numbers-requires
 tree-numbers-requires c κs = record { bytes = bytes-of (now (c .before .args .s)) (λ i. c .shared-slice-known .given i .fits); inside = omega arith }
 
-enum-known-r : tie.Need-enum-known-r
-enum-known-r c = search needs
-
 cast-t9 : tie.Need-cast-t9
 cast-t9 c =
     let a = c .before .before .before .before .before .args in
     let ok = bytes-of (now (a .s)) (λ i. c .before .before .before .before .shared-slice-known .given i .fits) in
     omega (arith, place-few (a .tree) (now (a .s)) ok (refused-whole (a .tree) (now (a .s)) ok (rw (c .before .r .given .1) at (c .before .before .before .tree-numbers .ensures))))
-
-enum-known-at : tie.Need-enum-known-at
-enum-known-at c = search needs
-
-cast-t12 : tie.Need-cast-t12
-cast-t12 c = search needs
 
 returns : tie.Need-returns
 returns c =
@@ -54,10 +45,10 @@ judge-sheet-spec =
     tie.close
     (tie.spec
     tree-numbers-requires
-    enum-known-r
+    (λ c. search needs)
     cast-t9
-    enum-known-at
-    cast-t12
+    (λ c. search needs)
+    (λ c. search needs)
     returns
     cast-t13
     returns-2

@@ -5,15 +5,6 @@ use borrow.Author.Needs.{needs}
 use Rattle.sheet_judge.proofs.numbers_of.Statement.{statement}
 use Rattle.sheet_judge.proofs.numbers_of.Tie as tie
 
-ranged-requires : tie.Need-ranged-requires
-ranged-requires c κs = search needs
-
-enum-known-r : tie.Need-enum-known-r
-enum-known-r c = search needs
-
-enum-known-at : tie.Need-enum-known-at
-enum-known-at c = search needs
-
 fields-requires : tie.Need-fields-requires
 fields-requires c κs = (rw (c .before .at .given .1) at (c .before .before .before .ranged .ensures)) .stands
 
@@ -30,4 +21,4 @@ returns-2 c =
     value-on (λ v. afterPart (a .tree)) (rw (c .before .before .at .given .1) at q) (c .fields .ensures)
 
 pub numbers-of-spec : {M : Type 1} → statement M
-numbers-of-spec = tie.close (tie.spec ranged-requires enum-known-r enum-known-at fields-requires returns returns-2)
+numbers-of-spec = tie.close (tie.spec (λ c κs. search needs) (λ c. search needs) (λ c. search needs) fields-requires returns returns-2)

@@ -53,30 +53,20 @@ array-read-most c = omega (arith, c .before .before .before .pre .1 .last)
 ranged-requires : tie.Need-ranged-requires Inv-loop μ-loop
 ranged-requires c κs = c .before .loop .inv .0 .stands
 
-enum-known-r : tie.Need-enum-known-r Inv-loop μ-loop
-enum-known-r c = search needs
-
 returns : tie.Need-returns Inv-loop μ-loop
 returns c =
-    let a = c .before .before .before .before .before .before .before .args in
-    let l = c .before .before .before .before .before .loop in
-    let more = next (l .i) (c .before .before .before .before .before .before .before .pre .1) (l .inv .1) (omega arith) (l .inv .0) in
+    let b = c .before .before .before .before .before in
+    let a = b .before .before .args in
+    let l = b .loop in
+    let more = next (l .i) (b .before .before .pre .1) (l .inv .1) (omega arith) (l .inv .0) in
     left-refused (λ v. runs (l .i + 1) (a .end - l .i - 1)) more (rw (c .before .r .given .1) at (c .before .before .before .ranged .ensures))
-
-enum-known-a : tie.Need-enum-known-a Inv-loop μ-loop
-enum-known-a c = search needs
-
-add-i : tie.Need-add-i Inv-loop μ-loop
-add-i c = omega arith
-
-loop-less : tie.Need-loop-less Inv-loop μ-loop
-loop-less c = omega arith
 
 loop-again : tie.Need-loop-again Inv-loop μ-loop
 loop-again c =
-    let a = c .before .before .before .before .before .before .before .args in
-    let l = c .before .before .before .before .before .loop in
-    let more = next (l .i) (c .before .before .before .before .before .before .before .pre .1) (l .inv .1) (omega arith) (l .inv .0) in
+    let b = c .before .before .before .before .before in
+    let a = b .before .before .args in
+    let l = b .loop in
+    let more = next (l .i) (b .before .before .pre .1) (l .inv .1) (omega arith) (l .inv .0) in
     let e : a .end - (l .i + 1) ≡ a .end - l .i - 1 = omega arith in
     (rw e (left-value (λ v. runs (l .i + 1) (a .end - l .i - 1)) more (rw (c .before .a .given .1) at (c .before .before .before .ranged .ensures))), omega arith, omega arith)
 
@@ -100,10 +90,10 @@ run-spec =
     mul-most
     array-read-most
     ranged-requires
-    enum-known-r
+    (λ c. search needs)
     returns
-    enum-known-a
-    add-i
-    loop-less
+    (λ c. search needs)
+    (λ c. omega arith)
+    (λ c. omega arith)
     loop-again
     returns-2)

@@ -7,41 +7,14 @@ use lib.Dec.{lit≤}
 use Rattle.sheet_judge.proofs.segment.Statement.{statement}
 use Rattle.sheet_judge.proofs.segment.Tie as tie
 
-operational-requires : tie.Need-operational-requires
-operational-requires c κs = search needs
-
-enum-known-r : tie.Need-enum-known-r
-enum-known-r c = search needs
-
-enum-known-at2 : tie.Need-enum-known-at2
-enum-known-at2 c = search needs
-
 run-requires : tie.Need-run-requires
 run-requires c κs = ((rw (c .before .at2 .given .1) at (c .before .before .before .operational .ensures)) .stands, record { some = lit≤ tt; ordered = lit≤ tt; last = lit≤ tt; apart = λ i h l e. omega arith })
-
-enum-known-r-2 : tie.Need-enum-known-r-2
-enum-known-r-2 c = search needs
-
-enum-known-at3 : tie.Need-enum-known-at3
-enum-known-at3 c = search needs
 
 ranged-requires : tie.Need-ranged-requires
 ranged-requires c κs = (rw (c .before .at3 .given .1) at (c .before .before .before .run .ensures)) .stands
 
-enum-known-r-3 : tie.Need-enum-known-r-3
-enum-known-r-3 c = search needs
-
-enum-known-lsp : tie.Need-enum-known-lsp
-enum-known-lsp c = search needs
-
 run-requires-2 : tie.Need-run-requires-2
 run-requires-2 c κs = ((rw (c .before .lsp .given .1) at (c .before .before .before .ranged .ensures)) .stands, record { some = lit≤ tt; ordered = lit≤ tt; last = lit≤ tt; apart = λ i h l e. omega arith })
-
-enum-known-r-4 : tie.Need-enum-known-r-4
-enum-known-r-4 c = search needs
-
-enum-known-at5 : tie.Need-enum-known-at5
-enum-known-at5 c = search needs
 
 lists-requires : tie.Need-lists-requires
 lists-requires c κs = (rw (c .before .at5 .given .1) at (c .before .before .before .run2 .ensures)) .stands
@@ -54,23 +27,26 @@ returns-2 c = over-on (rw (c .before .before .before .before .before .at2 .given
 
 returns-3 : tie.Need-returns-3
 returns-3 c =
-    over-on (rw (c .before .before .before .before .before .before .before .before .before .at2 .given .1) at (c .before .before .before .before .before .before .before .before .before .before .before .operational .ensures))
-    (over-on (rw (c .before .before .before .before .before .at3 .given .1) at (c .before .before .before .before .before .before .before .run .ensures))
+    let b = c .before .before .before .before .before in
+    over-on (rw (b .before .before .before .before .at2 .given .1) at (b .before .before .before .before .before .before .operational .ensures))
+    (over-on (rw (b .at3 .given .1) at (b .before .before .run .ensures))
     (value-off (λ lsp f. runs 10 3 (threeLists lsp f)) (rw (c .before .r3 .given .1) at (c .before .before .before .ranged .ensures))))
 
 returns-4 : tie.Need-returns-4
 returns-4 c =
-    over-on (rw (c .before .before .before .before .before .before .before .before .before .before .before .before .before .at2 .given .1) at (c .before .before .before .before .before .before .before .before .before .before .before .before .before .before .before .operational .ensures))
-    (over-on (rw (c .before .before .before .before .before .before .before .before .before .at3 .given .1) at (c .before .before .before .before .before .before .before .before .before .before .before .run .ensures))
-    (value-on (λ lsp f. runs 10 3 (threeLists lsp f)) (rw (c .before .before .before .before .before .lsp .given .1) at (c .before .before .before .before .before .before .before .ranged .ensures))
+    let b = c .before .before .before .before .before .before .before in
+    over-on (rw (b .before .before .before .before .before .before .at2 .given .1) at (b .before .before .before .before .before .before .before .before .operational .ensures))
+    (over-on (rw (b .before .before .at3 .given .1) at (b .before .before .before .before .run .ensures))
+    (value-on (λ lsp f. runs 10 3 (threeLists lsp f)) (rw (c .before .before .before .before .before .lsp .given .1) at (b .ranged .ensures))
     (over-off (rw (c .before .r4 .given .1) at (c .before .before .before .run2 .ensures)))))
 
 returns-5 : tie.Need-returns-5
 returns-5 c =
-    over-on (rw (c .before .before .before .before .before .before .before .before .before .before .before .before .before .before .at2 .given .1) at (c .before .before .before .before .before .before .before .before .before .before .before .before .before .before .before .before .operational .ensures))
-    (over-on (rw (c .before .before .before .before .before .before .before .before .before .before .at3 .given .1) at (c .before .before .before .before .before .before .before .before .before .before .before .before .run .ensures))
-    (value-on (λ lsp f. runs 10 3 (threeLists lsp f)) (rw (c .before .before .before .before .before .before .lsp .given .1) at (c .before .before .before .before .before .before .before .before .ranged .ensures))
+    let b = c .before .before .before .before .before .before .before .before in
+    over-on (rw (b .before .before .before .before .before .before .at2 .given .1) at (b .before .before .before .before .before .before .before .before .operational .ensures))
+    (over-on (rw (b .before .before .at3 .given .1) at (b .before .before .before .before .run .ensures))
+    (value-on (λ lsp f. runs 10 3 (threeLists lsp f)) (rw (c .before .before .before .before .before .before .lsp .given .1) at (b .ranged .ensures))
     (over-on (rw (c .before .before .at5 .given .1) at (c .before .before .before .before .run2 .ensures)) (c .lists .ensures))))
 
 pub segment-spec : {M : Type 1} → statement M
-segment-spec = tie.close (tie.spec operational-requires enum-known-r enum-known-at2 run-requires enum-known-r-2 enum-known-at3 ranged-requires enum-known-r-3 enum-known-lsp run-requires-2 enum-known-r-4 enum-known-at5 lists-requires returns returns-2 returns-3 returns-4 returns-5)
+segment-spec = tie.close (tie.spec (λ c κs. search needs) (λ c. search needs) (λ c. search needs) run-requires (λ c. search needs) (λ c. search needs) ranged-requires (λ c. search needs) (λ c. search needs) run-requires-2 (λ c. search needs) (λ c. search needs) lists-requires returns returns-2 returns-3 returns-4 returns-5)

@@ -24,23 +24,11 @@ loop-holds c = left-all (c .before .pre)
 entry-requires : tie.Need-entry-requires Inv-loop μ-loop
 entry-requires c κs = (c .before .before .loop .inv .stands, refl)
 
-enum-known-r : tie.Need-enum-known-r Inv-loop μ-loop
-enum-known-r c = search needs
-
 returns : tie.Need-returns Inv-loop μ-loop
 returns c =
     let l = c .before .before .before .before .before .before .loop in
     let more = left-as (λ f. entry (entries (l .left - 1) f)) (entries-more (l .left) (omega arith)) (l .inv) in
     left-off entry (entries (l .left - 1)) more (rw (c .before .r .given .1) at (c .before .before .before .entry .ensures))
-
-enum-known-a : tie.Need-enum-known-a Inv-loop μ-loop
-enum-known-a c = search needs
-
-sub-left : tie.Need-sub-left Inv-loop μ-loop
-sub-left c = omega arith
-
-loop-less : tie.Need-loop-less Inv-loop μ-loop
-loop-less c = omega arith
 
 loop-again : tie.Need-loop-again Inv-loop μ-loop
 loop-again c =
@@ -52,4 +40,4 @@ returns-2 : tie.Need-returns-2 Inv-loop μ-loop
 returns-2 c = let l = c .before .loop in left-none (left-as (λ f. f) (entries-none (l .left) (omega arith)) (l .inv))
 
 pub entries-spec : {M : Type 1} → statement M
-entries-spec = tie.close (tie.spec Inv-loop μ-loop loop-holds entry-requires enum-known-r returns enum-known-a sub-left loop-less loop-again returns-2)
+entries-spec = tie.close (tie.spec Inv-loop μ-loop loop-holds entry-requires (λ c. search needs) returns (λ c. search needs) (λ c. omega arith) (λ c. omega arith) loop-again returns-2)

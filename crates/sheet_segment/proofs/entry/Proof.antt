@@ -10,20 +10,8 @@ use Rattle.sheet_segment.proofs.entry.Tie as tie
 single-requires : tie.Need-single-requires
 single-requires c κs = (c .before .pre .0, lit< tt)
 
-enum-known-r : tie.Need-enum-known-r
-enum-known-r c = search needs
-
-enum-known-q : tie.Need-enum-known-q
-enum-known-q c = search needs
-
 class-requires : tie.Need-class-requires
 class-requires c κs = ((rw (c .before .q .given .1) at (c .before .before .before .single .ensures)) .stands, c .before .before .before .before .before .pre .1)
-
-enum-known-r-2 : tie.Need-enum-known-r-2
-enum-known-r-2 c = search needs
-
-enum-known-at3 : tie.Need-enum-known-at3
-enum-known-at3 c = search needs
 
 speed-requires : tie.Need-speed-requires
 speed-requires c κs = (rw (c .before .at3 .given .1) at (c .before .before .before .class .ensures)) .stands
@@ -38,4 +26,4 @@ returns-3 : tie.Need-returns-3
 returns-3 c = value-on (λ q f. then (class q) (then speed f)) (rw (c .before .before .before .before .before .before .q .given .1) at (c .before .before .before .before .before .before .before .before .single .ensures)) (over-on (rw (c .before .before .at3 .given .1) at (c .before .before .before .before .class .ensures)) (c .speed .ensures))
 
 pub entry-spec : {M : Type 1} → statement M
-entry-spec = tie.close (tie.spec single-requires enum-known-r enum-known-q class-requires enum-known-r-2 enum-known-at3 speed-requires returns returns-2 returns-3)
+entry-spec = tie.close (tie.spec single-requires (λ c. search needs) (λ c. search needs) class-requires (λ c. search needs) (λ c. search needs) speed-requires returns returns-2 returns-3)

@@ -5,23 +5,8 @@ use borrow.Author.Needs.{needs}
 use Rattle.sheet_segment.proofs.lists.Statement.{statement}
 use Rattle.sheet_segment.proofs.lists.Tie as tie
 
-list-requires : tie.Need-list-requires
-list-requires c κs = search needs
-
-enum-known-r : tie.Need-enum-known-r
-enum-known-r c = search needs
-
-enum-known-at2 : tie.Need-enum-known-at2
-enum-known-at2 c = search needs
-
 list-requires-2 : tie.Need-list-requires-2
 list-requires-2 c κs = ((rw (c .before .at2 .given .1) at (c .before .before .before .list .ensures)) .stands, lit< tt)
-
-enum-known-r-2 : tie.Need-enum-known-r-2
-enum-known-r-2 c = search needs
-
-enum-known-at3 : tie.Need-enum-known-at3
-enum-known-at3 c = search needs
 
 list-requires-3 : tie.Need-list-requires-3
 list-requires-3 c κs = ((rw (c .before .at3 .given .1) at (c .before .before .before .list2 .ensures)) .stands, lit< tt)
@@ -36,4 +21,4 @@ returns-3 : tie.Need-returns-3
 returns-3 c = over-on (rw (c .before .before .before .before .before .before .at2 .given .1) at (c .before .before .before .before .before .before .before .before .list .ensures)) (over-on (rw (c .before .before .at3 .given .1) at (c .before .before .before .before .list2 .ensures)) (c .list3 .ensures))
 
 pub lists-spec : {M : Type 1} → statement M
-lists-spec = tie.close (tie.spec list-requires enum-known-r enum-known-at2 list-requires-2 enum-known-r-2 enum-known-at3 list-requires-3 returns returns-2 returns-3)
+lists-spec = tie.close (tie.spec (λ c κs. search needs) (λ c. search needs) (λ c. search needs) list-requires-2 (λ c. search needs) (λ c. search needs) list-requires-3 returns returns-2 returns-3)

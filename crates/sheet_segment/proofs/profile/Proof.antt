@@ -11,29 +11,11 @@ use Rattle.sheet_segment.proofs.profile.Tie as tie
 speed-requires : tie.Need-speed-requires
 speed-requires c κs = c .before .pre
 
-enum-known-r : tie.Need-enum-known-r
-enum-known-r c = search needs
-
-enum-known-at2 : tie.Need-enum-known-at2
-enum-known-at2 c = search needs
-
 single-requires : tie.Need-single-requires
 single-requires c κs = ((rw (c .before .at2 .given .1) at (c .before .before .before .speed .ensures)) .stands, lit< tt)
 
-enum-known-r-2 : tie.Need-enum-known-r-2
-enum-known-r-2 c = search needs
-
-enum-known-at3 : tie.Need-enum-known-at3
-enum-known-at3 c = search needs
-
 single-requires-2 : tie.Need-single-requires-2
 single-requires-2 c κs = ((rw (c .before .at3 .given .1) at (c .before .before .before .single .ensures)) .stands, lit< tt)
-
-enum-known-r-3 : tie.Need-enum-known-r-3
-enum-known-r-3 c = search needs
-
-enum-known-count : tie.Need-enum-known-count
-enum-known-count c = search needs
 
 entries-requires : tie.Need-entries-requires
 entries-requires c κs = (rw (c .before .count .given .1) at (c .before .before .before .single2 .ensures)) .stands
@@ -48,15 +30,17 @@ returns-2 c =
 
 returns-3 : tie.Need-returns-3
 returns-3 c =
-    over-on (rw (c .before .before .before .before .before .before .before .before .before .at2 .given .1) at (c .before .before .before .before .before .before .before .before .before .before .before .speed .ensures))
-    (value-on (λ v f. field (nIter 31) (λ m. entries m f)) (rw (c .before .before .before .before .before .at3 .given .1) at (c .before .before .before .before .before .before .before .single .ensures))
+    let b = c .before .before .before .before .before in
+    over-on (rw (b .before .before .before .before .at2 .given .1) at (b .before .before .before .before .before .before .speed .ensures))
+    (value-on (λ v f. field (nIter 31) (λ m. entries m f)) (rw (b .at3 .given .1) at (b .before .before .single .ensures))
     (value-off entries (rw (c .before .r3 .given .1) at (c .before .before .before .single2 .ensures))))
 
 returns-4 : tie.Need-returns-4
 returns-4 c =
-    over-on (rw (c .before .before .before .before .before .before .before .before .before .before .at2 .given .1) at (c .before .before .before .before .before .before .before .before .before .before .before .before .speed .ensures))
-    (value-on (λ v f. field (nIter 31) (λ m. entries m f)) (rw (c .before .before .before .before .before .before .at3 .given .1) at (c .before .before .before .before .before .before .before .before .single .ensures))
+    let b = c .before .before .before .before .before .before in
+    over-on (rw (b .before .before .before .before .at2 .given .1) at (b .before .before .before .before .before .before .speed .ensures))
+    (value-on (λ v f. field (nIter 31) (λ m. entries m f)) (rw (b .at3 .given .1) at (b .before .before .single .ensures))
     (value-on entries (rw (c .before .before .count .given .1) at (c .before .before .before .before .single2 .ensures)) (c .entries .ensures)))
 
 pub profile-spec : {M : Type 1} → statement M
-profile-spec = tie.close (tie.spec speed-requires enum-known-r enum-known-at2 single-requires enum-known-r-2 enum-known-at3 single-requires-2 enum-known-r-3 enum-known-count entries-requires returns returns-2 returns-3 returns-4)
+profile-spec = tie.close (tie.spec speed-requires (λ c. search needs) (λ c. search needs) single-requires (λ c. search needs) (λ c. search needs) single-requires-2 (λ c. search needs) (λ c. search needs) entries-requires returns returns-2 returns-3 returns-4)

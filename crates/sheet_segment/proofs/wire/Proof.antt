@@ -11,36 +11,23 @@ use Rattle.sheet_segment.proofs.wire.Tie as tie
 voltage-requires : tie.Need-voltage-requires
 voltage-requires c κs = c .before .pre
 
-enum-known-r : tie.Need-enum-known-r
-enum-known-r c = search needs
-
-enum-known-u : tie.Need-enum-known-u
-enum-known-u c = search needs
-
-most-traction-requires : tie.Need-most-traction-requires
-most-traction-requires c κs = search needs
-
 ranged-requires : tie.Need-ranged-requires
 ranged-requires c κs = (rw (c .before .before .u .given .1) at (c .before .before .before .before .voltage .ensures)) .stands
-
-enum-known-r-2 : tie.Need-enum-known-r-2
-enum-known-r-2 c = search needs
-
-enum-known-at3 : tie.Need-enum-known-at3
-enum-known-at3 c = search needs
 
 returns : tie.Need-returns
 returns c = value-off (λ u f. then (nidCTraction u) f) (rw (c .before .r .given .1) at (c .before .before .before .voltage .ensures))
 
 returns-2 : tie.Need-returns-2
 returns-2 c =
-    let a = c .before .before .before .before .before .before .before .before .before .before .args in
-    value-on (λ u f. then (nidCTraction u) f) (rw (c .before .before .before .before .before .before .u .given .1) at (c .before .before .before .before .before .before .before .before .voltage .ensures)) (plain-off (now (a .s)) (rw (c .before .r2 .given .1, c .before .before .before .before .most-traction .ensures) at (c .before .before .before .ranged .ensures)))
+    let b = c .before .before .before in
+    let a = b .before .before .before .before .before .before .before .args in
+    value-on (λ u f. then (nidCTraction u) f) (rw (b .before .before .before .u .given .1) at (b .before .before .before .before .before .voltage .ensures)) (plain-off (now (a .s)) (rw (c .before .r2 .given .1, b .before .most-traction .ensures) at (b .ranged .ensures)))
 
 returns-3 : tie.Need-returns-3
 returns-3 c =
-    let a = c .before .before .before .before .before .before .before .before .before .before .args in
-    value-on (λ u f. then (nidCTraction u) f) (rw (c .before .before .before .before .before .before .u .given .1) at (c .before .before .before .before .before .before .before .before .voltage .ensures)) (plain-on (now (a .s)) (rw (c .before .at3 .given .1, c .before .before .before .before .most-traction .ensures) at (c .before .before .before .ranged .ensures)))
+    let b = c .before .before .before in
+    let a = b .before .before .before .before .before .before .before .args in
+    value-on (λ u f. then (nidCTraction u) f) (rw (b .before .before .before .u .given .1) at (b .before .before .before .before .before .voltage .ensures)) (plain-on (now (a .s)) (rw (c .before .at3 .given .1, b .before .most-traction .ensures) at (b .ranged .ensures)))
 
 pub wire-spec : {M : Type 1} → statement M
-wire-spec = tie.close (tie.spec voltage-requires enum-known-r enum-known-u most-traction-requires ranged-requires enum-known-r-2 enum-known-at3 returns returns-2 returns-3)
+wire-spec = tie.close (tie.spec voltage-requires (λ c. search needs) (λ c. search needs) (λ c κs. search needs) ranged-requires (λ c. search needs) (λ c. search needs) returns returns-2 returns-3)

@@ -25,12 +25,6 @@ constraint-requires c κs = times-next _ _ temporaryConstraint (c .before .befor
 add-to : tie.Need-add-to Inv-loop μ-loop
 add-to c = let h = c .before .before .constraint .ensures .over .stands in omega (arith, h .before, h .few)
 
-sub-left : tie.Need-sub-left Inv-loop μ-loop
-sub-left c = omega arith
-
-loop-less : tie.Need-loop-less Inv-loop μ-loop
-loop-less c = omega arith
-
 loop-again : tie.Need-loop-again Inv-loop μ-loop
 loop-again c =
     let l = c .before .before .before .before .before .loop in
@@ -56,8 +50,8 @@ constraints-spec =
     loop-holds
     constraint-requires
     add-to
-    sub-left
-    loop-less
+    (λ c. omega arith)
+    (λ c. omega arith)
     loop-again
     same-length
     returns)

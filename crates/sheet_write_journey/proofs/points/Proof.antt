@@ -26,12 +26,6 @@ point-requires c κs = points-row _ _ (c .before .loop-test .taken) (c .before .
 add-to : tie.Need-add-to Inv-loop μ-loop
 add-to c = let h = points-row _ _ (c .before .before .before .before .loop-test .taken) (c .before .before .before .before .before .loop .inv .0) (c .before .before .before .before .before .before .before .before .pre) in omega (arith, h .few)
 
-sub-left : tie.Need-sub-left Inv-loop μ-loop
-sub-left c = omega arith
-
-loop-less : tie.Need-loop-less Inv-loop μ-loop
-loop-less c = omega arith
-
 loop-again : tie.Need-loop-again Inv-loop μ-loop
 loop-again c =
     let l = c .before .before .before .before .before .loop in
@@ -57,8 +51,8 @@ points-spec =
     loop-holds
     point-requires
     add-to
-    sub-left
-    loop-less
+    (λ c. omega arith)
+    (λ c. omega arith)
     loop-again
     same-length
     returns)

@@ -17,9 +17,6 @@ points-requires c κs = points-writable _ _ _ (c .before .before .before .before
 add-to : tie.Need-add-to
 add-to c = omega (arith, start-row _ _ _ (c .before .before .before .before .before .before .before .before .before .before .pre) .few)
 
-cast-to : tie.Need-cast-to
-cast-to c = search needs
-
 mul-to : tie.Need-mul-to
 mul-to c = let h = c .before .before .points .ensures .over .stands in omega (arith, h .before, h .few)
 
@@ -27,22 +24,25 @@ add-to-2 : tie.Need-add-to-2
 add-to-2 c = let h = c .before .before .points .ensures .over .stands in omega (arith, h .before, h .few)
 
 read-window-requires : tie.Need-read-window-requires
-read-window-requires c κs = count-read _ _ _ (c .before .before .before .before .before .before .before .before .before .before .pre) (c .before .before .before .before .before .before .start .ensures .0) (c .before .before .before .before .before .before .start .ensures .1) (c .before .before .points .ensures)
+read-window-requires c κs =
+    let b = c .before .before .before .before .before .before in
+    count-read _ _ _ (b .before .before .before .before .pre) (b .start .ensures .0) (b .start .ensures .1) (c .before .before .points .ensures)
 
 one-requires : tie.Need-one-requires
-one-requires c κs = count-fits _ _ _ (c .before .before .before .before .before .before .before .before .before .before .before .before .pre) (c .before .before .before .before .before .before .before .before .start .ensures .0) (c .before .before .before .before .before .before .before .before .start .ensures .1) (c .before .before .before .before .points .ensures) (c .before .read-window .ensures)
+one-requires c κs =
+    let b = c .before .before .before .before .before .before .before .before in
+    count-fits _ _ _ (b .before .before .before .before .pre) (b .start .ensures .0) (b .start .ensures .1) (c .before .before .before .before .points .ensures) (c .before .read-window .ensures)
 
 add-constraints : tie.Need-add-constraints
 add-constraints c = let h = c .before .before .before .before .before .before .before .points .ensures .over .stands in omega (arith, h .before, h .few)
 
 constraints-requires : tie.Need-constraints-requires
-constraints-requires c κs = constraints-writable _ _ _ (c .before .before .before .before .before .before .before .before .before .before .before .before .before .before .before .before .pre) (c .before .before .before .before .before .before .before .before .before .before .before .before .start .ensures .0) (c .before .before .before .before .before .before .before .before .before .before .before .before .start .ensures .1) (c .before .before .before .before .before .before .before .before .points .ensures) (c .before .before .before .before .before .read-window .ensures) (c .before .before .before .one .ensures)
+constraints-requires c κs =
+    let b = c .before .before .before .before .before .before .before .before in
+    constraints-writable _ _ _ (b .before .before .before .before .before .before .before .before .pre) (b .before .before .before .before .start .ensures .0) (b .before .before .before .before .start .ensures .1) (b .points .ensures) (c .before .before .before .before .before .read-window .ensures) (c .before .before .before .one .ensures)
 
 add-t19 : tie.Need-add-t19
 add-t19 c = let h = c .before .before .constraints .ensures .over .stands in omega (arith, h .before, h .few)
-
-cast-t15 : tie.Need-cast-t15
-cast-t15 c = search needs
 
 mul-t18 : tie.Need-mul-t18
 mul-t18 c = let h = c .before .before .constraints .ensures .over .stands in omega (arith, h .before, h .few)
@@ -50,11 +50,10 @@ mul-t18 c = let h = c .before .before .constraints .ensures .over .stands in ome
 add-t24 : tie.Need-add-t24
 add-t24 c = let h = c .before .before .constraints .ensures .over .stands in omega (arith, h .before, h .few)
 
-same-length : tie.Need-same-length
-same-length c = search needs
-
 returns : tie.Need-returns
-returns c = segment-wrote _ _ _ (c .before .before .before .before .before .before .before .before .before .before .before .before .before .before .before .before .before .before .before .pre) (c .before .before .before .before .before .before .before .before .before .before .before .before .before .before .before .start .ensures .0) (c .before .before .before .before .before .before .before .before .before .before .before .before .before .before .before .start .ensures .1) (c .before .before .before .before .before .before .before .before .before .before .before .points .ensures) (c .before .before .before .before .before .before .before .before .read-window .ensures) (c .before .before .before .before .before .before .one .ensures) (c .before .before .constraints .ensures)
+returns c =
+    let b = c .before .before .before .before .before .before .before .before .before .before .before in
+    segment-wrote _ _ _ (b .before .before .before .before .before .before .before .before .pre) (b .before .before .before .before .start .ensures .0) (b .before .before .before .before .start .ensures .1) (b .points .ensures) (c .before .before .before .before .before .before .before .before .read-window .ensures) (c .before .before .before .before .before .before .one .ensures) (c .before .before .constraints .ensures)
 
 pub segment-spec : {M : Type 1} → statement M
 segment-spec =
@@ -64,7 +63,7 @@ segment-spec =
     add-points
     points-requires
     add-to
-    cast-to
+    (λ c. search needs)
     mul-to
     add-to-2
     read-window-requires
@@ -72,8 +71,8 @@ segment-spec =
     add-constraints
     constraints-requires
     add-t19
-    cast-t15
+    (λ c. search needs)
     mul-t18
     add-t24
-    same-length
+    (λ c. search needs)
     returns)

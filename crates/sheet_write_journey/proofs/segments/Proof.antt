@@ -20,12 +20,6 @@ loop-holds c = along-all _ _ (c .before .before .pre)
 segment-requires : tie.Need-segment-requires Inv-loop μ-loop
 segment-requires c κs = times-next _ _ (journeySegment constraints) (c .before .before .loop .inv) (c .before .loop-test .taken) (c .before .before .before .before .before .pre)
 
-sub-left : tie.Need-sub-left Inv-loop μ-loop
-sub-left c = omega arith
-
-loop-less : tie.Need-loop-less Inv-loop μ-loop
-loop-less c = omega arith
-
 loop-again : tie.Need-loop-again Inv-loop μ-loop
 loop-again c = times-on _ _ (journeySegment constraints) (c .before .before .before .before .before .loop .inv) (c .before .before .before .before .loop-test .taken) (c .before .before .segment .ensures)
 
@@ -43,8 +37,8 @@ segments-spec =
     μ-loop
     loop-holds
     segment-requires
-    sub-left
-    loop-less
+    (λ c. omega arith)
+    (λ c. omega arith)
     loop-again
     same-length
     returns)

@@ -10,11 +10,10 @@ head-requires c κs = head-row _ _ (journey-writable _ _ _ _ (c .before .before 
 segments-requires : tie.Need-segments-requires
 segments-requires c κs = segments-writable _ _ (journey-writable _ _ _ _ (c .before .before .before .before .before .before .before .pre)) (c .before .before .before .head .ensures .0) (c .before .before .before .head .ensures .1)
 
-same-length : tie.Need-same-length
-same-length c = search needs
-
 returns : tie.Need-returns
-returns c = journey-held _ _ _ _ (c .before .before .before .before .before .before .before .before .before .before .pre) (journey-wrote _ _ (journey-writable _ _ _ _ (c .before .before .before .before .before .before .before .before .before .before .pre)) (c .before .before .before .before .before .before .head .ensures .0) (c .before .before .before .before .before .before .head .ensures .1) (c .before .before .segments .ensures))
+returns c =
+    let b = c .before .before .before .before .before .before in
+    journey-held _ _ _ _ (b .before .before .before .before .pre) (journey-wrote _ _ (journey-writable _ _ _ _ (b .before .before .before .before .pre)) (b .head .ensures .0) (b .head .ensures .1) (c .before .before .segments .ensures))
 
 pub write-journey-spec : {M : Type 1} → statement M
-write-journey-spec = tie.close (tie.spec head-requires segments-requires same-length returns)
+write-journey-spec = tie.close (tie.spec head-requires segments-requires (λ c. search needs) returns)

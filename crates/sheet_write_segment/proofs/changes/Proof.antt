@@ -45,27 +45,24 @@ add-element c = let g = c .before .before .before .before .before .before .loop 
 
 element-requires : tie.Need-element-requires Inv-loop μ-loop
 element-requires c κs =
-    let a = c .before .before .before .before .before .before .before .before .before .before .args in
+    let b = c .before .before .before .before .before in
+    let e = b .before .before .before .before .before in
+    let a = e .args in
     let s = now (a .packet) in
-    let l = c .before .before .before .before .before .before .before .loop in
+    let l = b .before .before .loop in
     let next = change-next s (a .stop) (startOf (a .part)) (a .lsp) (l .last) (l .left) (omega arith) (l .inv) in
-    let there = along-put s (a .stop) (dLocation (l .last) (a .lsp)) (changed (startOf (a .part)) (a .lsp) (l .left - 1)) 24 refl next (c .before .before .before .before .before .before .before .before .before .before .pre) _ (c .before .before .before .before .before .read-window .ensures) (l .to + 24) refl (c .before .before .before .put-number .ensures) in
-    along-next s (a .stop) (startOf (a .part)) (changes (startOf (a .part)) (a .lsp) (c .before .before .before .before .before .read-window .result) (l .left - 1)) there (c .before .before .before .before .before .before .before .before .before .before .pre)
-
-sub-left : tie.Need-sub-left Inv-loop μ-loop
-sub-left c = omega arith
-
-loop-less : tie.Need-loop-less Inv-loop μ-loop
-loop-less c = omega arith
+    let there = along-put s (a .stop) (dLocation (l .last) (a .lsp)) (changed (startOf (a .part)) (a .lsp) (l .left - 1)) 24 refl next (e .pre) _ (b .read-window .ensures) (l .to + 24) refl (c .before .before .before .put-number .ensures) in
+    along-next s (a .stop) (startOf (a .part)) (changes (startOf (a .part)) (a .lsp) (b .read-window .result) (l .left - 1)) there (e .pre)
 
 loop-again : tie.Need-loop-again Inv-loop μ-loop
 loop-again c =
-    let a = c .before .before .before .before .before .before .before .before .before .before .before .before .before .args in
+    let b = c .before .before .before .before .before .before .before .before in
+    let a = b .before .before .before .before .before .args in
     let s = now (a .packet) in
-    let l = c .before .before .before .before .before .before .before .before .before .before .loop in
+    let l = b .before .before .loop in
     let next = change-next s (a .stop) (startOf (a .part)) (a .lsp) (l .last) (l .left) (omega arith) (l .inv) in
-    let there = along-put s (a .stop) (dLocation (l .last) (a .lsp)) (changed (startOf (a .part)) (a .lsp) (l .left - 1)) 24 refl next (c .before .before .before .before .before .before .before .before .before .before .before .before .before .pre) _ (c .before .before .before .before .before .before .before .before .read-window .ensures) (l .to + 24) refl (c .before .before .before .before .before .before .put-number .ensures) in
-    along-on s (a .stop) (startOf (a .part)) (changes (startOf (a .part)) (a .lsp) (c .before .before .before .before .before .before .before .before .read-window .result) (l .left - 1)) there (c .before .before .element .ensures)
+    let there = along-put s (a .stop) (dLocation (l .last) (a .lsp)) (changed (startOf (a .part)) (a .lsp) (l .left - 1)) 24 refl next (b .before .before .before .before .before .pre) _ (b .read-window .ensures) (l .to + 24) refl (c .before .before .before .before .before .before .put-number .ensures) in
+    along-on s (a .stop) (startOf (a .part)) (changes (startOf (a .part)) (a .lsp) (b .read-window .result) (l .left - 1)) there (c .before .before .element .ensures)
 
 same-length : tie.Need-same-length Inv-loop μ-loop
 same-length c = c .before .loop .inv .long
@@ -88,8 +85,8 @@ changes-spec =
     put-number-requires
     add-element
     element-requires
-    sub-left
-    loop-less
+    (λ c. omega arith)
+    (λ c. omega arith)
     loop-again
     same-length
     returns)

@@ -23,18 +23,20 @@ element-requires c κs =
 
 read-window-requires : tie.Need-read-window-requires
 read-window-requires c κs =
-    let a = c .before .before .before .before .before .before .args in
+    let b = c .before .before .before .before .before .before in
+    let a = b .args in
     let s = now (a .packet) in
-    let m = along-on s (a .stop) (startOf (a .part)) (λ f. field (nIter (a .limit)) λ n. changes (startOf (a .part)) (a .lsp) 0 n f) (along-all s (a .stop) (c .before .before .before .before .before .before .pre)) (c .before .before .element .ensures) in
-    field-read s (a .stop) (nIter (a .limit)) (changes (startOf (a .part)) (a .lsp) 0) 5 refl (along-here s (a .stop) m (c .before .before .before .before .before .before .pre)) (lit< tt) (lit≤ tt)
+    let m = along-on s (a .stop) (startOf (a .part)) (λ f. field (nIter (a .limit)) λ n. changes (startOf (a .part)) (a .lsp) 0 n f) (along-all s (a .stop) (b .pre)) (c .before .before .element .ensures) in
+    field-read s (a .stop) (nIter (a .limit)) (changes (startOf (a .part)) (a .lsp) 0) 5 refl (along-here s (a .stop) m (b .pre)) (lit< tt) (lit≤ tt)
 
 put-short-requires : tie.Need-put-short-requires
 put-short-requires c κs =
-    let a = c .before .before .before .before .before .before .before .before .args in
+    let b = c .before .before .before .before in
+    let a = b .before .before .before .before .args in
     let s = now (a .packet) in
-    let m = along-on s (a .stop) (startOf (a .part)) (λ f. field (nIter (a .limit)) λ n. changes (startOf (a .part)) (a .lsp) 0 n f) (along-all s (a .stop) (c .before .before .before .before .before .before .before .before .pre)) (c .before .before .before .before .element .ensures) in (
-      omega (arith, c .before .read-window .ensures, field-small s (c .before .before .before .before .element .result .at) 5 5 (le-refl _)),
-      field-here s (a .stop) (nIter (a .limit)) (changes (startOf (a .part)) (a .lsp) 0) 5 refl (along-here s (a .stop) m (c .before .before .before .before .before .before .before .before .pre)) _ (c .before .read-window .ensures) .fits,
+    let m = along-on s (a .stop) (startOf (a .part)) (λ f. field (nIter (a .limit)) λ n. changes (startOf (a .part)) (a .lsp) 0 n f) (along-all s (a .stop) (b .before .before .before .before .pre)) (b .element .ensures) in (
+      omega (arith, c .before .read-window .ensures, field-small s (b .element .result .at) 5 5 (le-refl _)),
+      field-here s (a .stop) (nIter (a .limit)) (changes (startOf (a .part)) (a .lsp) 0) 5 refl (along-here s (a .stop) m (b .before .before .before .before .pre)) _ (c .before .read-window .ensures) .fits,
     )
 
 add-changes : tie.Need-add-changes
@@ -42,21 +44,22 @@ add-changes c = let g = c .before .before .before .before .before .before .befor
 
 changes-requires : tie.Need-changes-requires
 changes-requires c κs =
-    let a = c .before .before .before .before .before .before .before .before .before .before .before .before .args in
+    let b = c .before .before .before .before .before .before .before .before in
+    let e = b .before .before .before .before in
+    let a = e .args in
     let s = now (a .packet) in
-    let m = along-on s (a .stop) (startOf (a .part)) (λ f. field (nIter (a .limit)) λ n. changes (startOf (a .part)) (a .lsp) 0 n f) (along-all s (a .stop) (c .before .before .before .before .before .before .before .before .before .before .before .before .pre)) (c .before .before .before .before .before .before .before .before .element .ensures) in
-    along-here s (a .stop) (along-put s (a .stop) (nIter (a .limit)) (changes (startOf (a .part)) (a .lsp) 0) 5 refl m (c .before .before .before .before .before .before .before .before .before .before .before .before .pre) _ (c .before .before .before .before .before .read-window .ensures) (c .before .before .before .before .before .before .before .before .element .result .at + 5) refl (c .before .before .before .put-short .ensures)) (c .before .before .before .before .before .before .before .before .before .before .before .before .pre)
-
-same-length : tie.Need-same-length
-same-length c = search needs
+    let m = along-on s (a .stop) (startOf (a .part)) (λ f. field (nIter (a .limit)) λ n. changes (startOf (a .part)) (a .lsp) 0 n f) (along-all s (a .stop) (e .pre)) (b .element .ensures) in
+    along-here s (a .stop) (along-put s (a .stop) (nIter (a .limit)) (changes (startOf (a .part)) (a .lsp) 0) 5 refl m (e .pre) _ (c .before .before .before .before .before .read-window .ensures) (b .element .result .at + 5) refl (c .before .before .before .put-short .ensures)) (e .pre)
 
 returns : tie.Need-returns
 returns c =
-    let a = c .before .before .before .before .before .before .before .before .before .before .before .before .before .before .before .args in
+    let b = c .before .before .before .before .before .before .before .before in
+    let e = b .before .before .before .before .before .before .before in
+    let a = e .args in
     let s = now (a .packet) in
-    let m = along-on s (a .stop) (startOf (a .part)) (λ f. field (nIter (a .limit)) λ n. changes (startOf (a .part)) (a .lsp) 0 n f) (along-all s (a .stop) (c .before .before .before .before .before .before .before .before .before .before .before .before .before .before .before .pre)) (c .before .before .before .before .before .before .before .before .before .before .before .element .ensures) in
-    let o = along-put s (a .stop) (nIter (a .limit)) (changes (startOf (a .part)) (a .lsp) 0) 5 refl m (c .before .before .before .before .before .before .before .before .before .before .before .before .before .before .before .pre) _ (c .before .before .before .before .before .before .before .before .read-window .ensures) (c .before .before .before .before .before .before .before .before .before .before .before .element .result .at + 5) refl (c .before .before .before .before .before .before .put-short .ensures) in
-    along-none s (a .stop) (along-on s (a .stop) (changes (startOf (a .part)) (a .lsp) 0 (c .before .before .before .before .before .before .before .before .read-window .result)) (λ f. f) o (c .before .before .changes .ensures))
+    let m = along-on s (a .stop) (startOf (a .part)) (λ f. field (nIter (a .limit)) λ n. changes (startOf (a .part)) (a .lsp) 0 n f) (along-all s (a .stop) (e .pre)) (b .before .before .before .element .ensures) in
+    let o = along-put s (a .stop) (nIter (a .limit)) (changes (startOf (a .part)) (a .lsp) 0) 5 refl m (e .pre) _ (b .read-window .ensures) (b .before .before .before .element .result .at + 5) refl (c .before .before .before .before .before .before .put-short .ensures) in
+    along-none s (a .stop) (along-on s (a .stop) (changes (startOf (a .part)) (a .lsp) 0 (b .read-window .result)) (λ f. f) o (c .before .before .changes .ensures))
 
 pub list-spec : {M : Type 1} → statement M
 list-spec =
@@ -67,5 +70,5 @@ list-spec =
     put-short-requires
     add-changes
     changes-requires
-    same-length
+    (λ c. search needs)
     returns)

@@ -23,19 +23,23 @@ put-number-requires : tie.Need-put-number-requires
 put-number-requires c κs = length-fits (writable (c .before .before .before .before .before .before .before .before .before .before .before .before)) (c .before .before .before .before .before .before .before .before .header .ensures) (c .before .before .before .before .identity .ensures) (c .before .read-window .ensures)
 
 offsets-requires : tie.Need-offsets-requires
-offsets-requires c κs = offsets-writable (writable (c .before .before .before .before .before .before .before .before .before .before .before .before .before .before .before .before)) (c .before .before .before .before .before .before .before .before .before .before .before .before .header .ensures) (c .before .before .before .before .before .before .before .before .identity .ensures) (c .before .before .before .before .before .read-window .ensures) (c .before .before .before .put-number .ensures)
+offsets-requires c κs =
+    let b = c .before .before .before .before .before .before .before .before in
+    offsets-writable (writable (b .before .before .before .before .before .before .before .before)) (b .before .before .before .before .header .ensures) (b .identity .ensures) (c .before .before .before .before .before .read-window .ensures) (c .before .before .before .put-number .ensures)
 
 lists-requires : tie.Need-lists-requires
-lists-requires c κs = lists-writable (writable (c .before .before .before .before .before .before .before .before .before .before .before .before .before .before .before .before .before .before .before .before)) (c .before .before .before .before .before .before .before .before .before .before .before .before .before .before .before .before .header .ensures) (c .before .before .before .before .before .before .before .before .before .before .before .before .identity .ensures) (c .before .before .before .before .before .before .before .before .before .read-window .ensures) (c .before .before .before .before .before .before .before .put-number .ensures) (c .before .before .before .offsets .ensures)
-
-same-length : tie.Need-same-length
-same-length c = search needs
+lists-requires c κs =
+    let b = c .before .before .before .before .before .before .before in
+    let e = b .before .before .before .before .before in
+    lists-writable (writable (e .before .before .before .before .before .before .before .before)) (e .before .before .before .before .header .ensures) (e .identity .ensures) (b .before .before .read-window .ensures) (b .put-number .ensures) (c .before .before .before .offsets .ensures)
 
 returns : tie.Need-returns
 returns c =
-    let b = c .before .before .before .before .before .before .before .before .before .before .before .before .before .before .before .before .before .before .before .before .before .before .before in
+    let e = c .before .before .before .before .before .before .before .before .before .before in
+    let g = e .before .before .before .before .before in
+    let b = g .before .before .before .before .before .before .before .before in
     all-held (now (b .args .packet)) (b .args .stop) (now (b .args .room)) (b .args .start) (b .pre .0)
-    (all-wrote (writable b) (c .before .before .before .before .before .before .before .before .before .before .before .before .before .before .before .before .before .before .before .header .ensures) (c .before .before .before .before .before .before .before .before .before .before .before .before .before .before .before .identity .ensures) (c .before .before .before .before .before .before .before .before .before .before .before .before .read-window .ensures) (c .before .before .before .before .before .before .before .before .before .before .put-number .ensures) (c .before .before .before .before .before .before .offsets .ensures) (c .before .before .lists .ensures))
+    (all-wrote (writable b) (g .before .before .before .before .header .ensures) (g .identity .ensures) (e .before .before .read-window .ensures) (e .put-number .ensures) (c .before .before .before .before .before .before .offsets .ensures) (c .before .before .lists .ensures))
 
 pub write-fields-spec : {M : Type 1} → statement M
 write-fields-spec =
@@ -47,5 +51,5 @@ write-fields-spec =
     put-number-requires
     offsets-requires
     lists-requires
-    same-length
+    (λ c. search needs)
     returns)

@@ -6,29 +6,17 @@ use Rattle.speed.proofs.Laws.{byte-most, belongs-bit}
 use Rattle.speed.proofs.belongs_to.Statement.{statement}
 use Rattle.speed.proofs.belongs_to.Tie as tie
 
-cast-all : tie.Need-cast-all
-cast-all c = search needs
-
-cast-all-2 : tie.Need-cast-all-2
-cast-all-2 c = search needs
-
 mul-all : tie.Need-mul-all
 mul-all c = let t = c .before .before .args .train in omega (arith, byte-most (t .«freight_g»))
 
 add-all : tie.Need-add-all
 add-all c = let t = c .before .before .args .train in omega (arith, byte-most (t .«freight_p»), byte-most (t .«freight_g»))
 
-cast-all-3 : tie.Need-cast-all-3
-cast-all-3 c = search needs
-
 mul-all-2 : tie.Need-mul-all-2
 mul-all-2 c = let t = c .before .before .before .args .train in omega (arith, byte-most (t .passenger))
 
 add-all-2 : tie.Need-add-all-2
 add-all-2 c = let t = c .before .before .before .args .train in omega (arith, byte-most (t .«freight_p»), byte-most (t .«freight_g»), byte-most (t .passenger))
-
-shr-result : tie.Need-shr-result
-shr-result c = search needs
 
 returns : tie.Need-returns
 returns c = let a = c .before .before .before .args in belongs-bit (a .train) (a .category % 32)
@@ -37,12 +25,12 @@ pub belongs-to-spec : {M : Type 1} → statement M
 belongs-to-spec =
     tie.close
     (tie.spec
-    cast-all
-    cast-all-2
+    (λ c. search needs)
+    (λ c. search needs)
     mul-all
     add-all
-    cast-all-3
+    (λ c. search needs)
     mul-all-2
     add-all-2
-    shr-result
+    (λ c. search needs)
     returns)

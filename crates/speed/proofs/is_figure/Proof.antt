@@ -4,9 +4,6 @@ use Rattle.speed.proofs.Laws.{figure-place}
 use Rattle.speed.proofs.is_figure.Statement.{statement}
 use Rattle.speed.proofs.is_figure.Tie as tie
 
-cant-figures-requires : tie.Need-cant-figures-requires
-cant-figures-requires c κs = search needs
-
 class-place-requires : tie.Need-class-place-requires
 class-place-requires c κs = c .before .cant-figures .ensures
 
@@ -14,4 +11,4 @@ returns : tie.Need-returns
 returns c = figure-place _ _ (c .class-place .ensures)
 
 pub is-figure-spec : {M : Type 1} → statement M
-is-figure-spec = tie.close (tie.spec cant-figures-requires class-place-requires returns)
+is-figure-spec = tie.close (tie.spec (λ c κs. search needs) class-place-requires returns)

@@ -12,11 +12,8 @@ returns c = valid-short (c .before .before .args .train) (omega (arith, c .if1 .
 returns-2 : tie.Need-returns-2
 returns-2 c = valid-long (c .before .before .before .before .args .train) (omega (arith, c .if2 .taken))
 
-is-figure-requires : tie.Need-is-figure-requires
-is-figure-requires c κs = search needs
-
 returns-3 : tie.Need-returns-3
 returns-3 c = c .is-figure .ensures ∙ valid-figure (c .before .before .before .before .before .args .train) (omega (arith, c .before .before .before .if1 .left)) (omega (arith, c .before .if2 .left))
 
 pub valid-spec : {M : Type 1} → statement M
-valid-spec = tie.close (tie.spec returns returns-2 is-figure-requires returns-3)
+valid-spec = tie.close (tie.spec returns returns-2 (λ c κs. search needs) returns-3)

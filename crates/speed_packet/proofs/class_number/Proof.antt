@@ -5,23 +5,11 @@ use borrow.Author.Needs.{needs}
 use Rattle.speed_packet.proofs.class_number.Statement.{statement}
 use Rattle.speed_packet.proofs.class_number.Tie as tie
 
-chosen-requires : tie.Need-chosen-requires
-chosen-requires c κs = search needs
-
-cast-figure : tie.Need-cast-figure
-cast-figure c = search needs
-
-mul-figure : tie.Need-mul-figure
-mul-figure c = search needs
-
 shared-slice-read-figure : tie.Need-shared-slice-read-figure
 shared-slice-read-figure c =
     let a = c .before .before .before .args in
     let e = c .before .before .before .pre in
     rw (c .before .chosen .ensures, e .0) (class-place (a .q-diff) (a .v) (e .1))
-
-chosen-requires-2 : tie.Need-chosen-requires-2
-chosen-requires-2 c κs = search needs
 
 returns : tie.Need-returns
 returns c =
@@ -33,9 +21,9 @@ pub class-number-spec : {M : Type 1} → statement M
 class-number-spec =
     tie.close
     (tie.spec
-    chosen-requires
-    cast-figure
-    mul-figure
+    (λ c κs. search needs)
+    (λ c. search needs)
+    (λ c. search needs)
     shared-slice-read-figure
-    chosen-requires-2
+    (λ c κs. search needs)
     returns)

@@ -9,28 +9,10 @@ use borrow.Author.Needs.{needs}
 use Rattle.speed_packet.proofs.element.Statement.{statement}
 use Rattle.speed_packet.proofs.element.Tie as tie
 
-cast-read-window : tie.Need-cast-read-window
-cast-read-window c = search needs
-
 read-window-requires : tie.Need-read-window-requires
 read-window-requires c κs =
     let h = c .before .pre in
     (lit< tt, lit≤ tt, element-inside (now (c .before .args .s)) h, h .reads .long)
-
-add-entries : tie.Need-add-entries
-add-entries c = search needs
-
-mul-t8 : tie.Need-mul-t8
-mul-t8 c = search needs
-
-cast-t12 : tie.Need-cast-t12
-cast-t12 c = search needs
-
-mul-t13 : tie.Need-mul-t13
-mul-t13 c = search needs
-
-add-t14 : tie.Need-add-t14
-add-t14 c = search needs
 
 returns : tie.Need-returns
 returns c =
@@ -43,11 +25,11 @@ pub element-spec : {M : Type 1} → statement M
 element-spec =
     tie.close
     (tie.spec
-    cast-read-window
+    (λ c. search needs)
     read-window-requires
-    add-entries
-    mul-t8
-    cast-t12
-    mul-t13
-    add-t14
+    (λ c. search needs)
+    (λ c. search needs)
+    (λ c. search needs)
+    (λ c. search needs)
+    (λ c. search needs)
     returns)

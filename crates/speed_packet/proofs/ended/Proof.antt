@@ -16,9 +16,6 @@ Inv-loop s «open» train held end x figures lows₀ to₀ left₀ lows to left 
 abbrev μ-loop : tie.MeasureT-loop
 μ-loop s «open» train held end x figures lows₀ to₀ left₀ lows to left = left
 
-holds-requires : tie.Need-holds-requires Inv-loop μ-loop
-holds-requires c κs = search needs
-
 returns : tie.Need-returns Inv-loop μ-loop
 returns c = ended-not (Reads (now (c .before .before .before .args .s))) (sym (c .before .holds .ensures) ∙ not-true _ (c .if1 .taken))
 
@@ -40,12 +37,6 @@ add-to c =
     let g = entry-readable (Reads s) (c .before .before .loop-test .taken) (c .before .before .before .loop .inv .readable) in
     omega (arith, entry-whole s g, g .reads .before, g .reads .few)
 
-sub-left : tie.Need-sub-left Inv-loop μ-loop
-sub-left c = search needs
-
-loop-less : tie.Need-loop-less Inv-loop μ-loop
-loop-less c = search needs
-
 loop-again : tie.Need-loop-again Inv-loop μ-loop
 loop-again c = entered-next (Reads (now (c .before .before .before .before .before .before .before .before .args .s))) (c .before .before .loop-test .taken) (c .before .before .before .loop .inv) (c .entry .ensures)
 
@@ -63,15 +54,15 @@ ended-spec =
     (tie.spec
     Inv-loop
     μ-loop
-    holds-requires
+    (λ c κs. search needs)
     returns
     no-lows-requires
     loop-holds
     slice-aggregate-entry
     entry-requires
     add-to
-    sub-left
-    loop-less
+    (λ c. search needs)
+    (λ c. search needs)
     loop-again
     lowered-requires
     returns-2)

@@ -8,9 +8,6 @@ use borrow.Author.Needs.{needs}
 use Rattle.speed_packet.proofs.entry.Statement.{statement}
 use Rattle.speed_packet.proofs.entry.Tie as tie
 
-cast-read-window : tie.Need-cast-read-window
-cast-read-window c = search needs
-
 read-window-requires : tie.Need-read-window-requires
 read-window-requires c κs =
     let a = c .before .before .args in
@@ -22,9 +19,6 @@ class-number-requires c κs =
     let a = c .before .before .before .args in
     let h = c .before .before .before .pre in
     (h .0, entry-at (now (a .s)) (h .1) (c .read-window .ensures) .allowed)
-
-mul-with : tie.Need-mul-with
-mul-with c = search needs
 
 with-requires : tie.Need-with-requires
 with-requires c κs =
@@ -41,4 +35,4 @@ returns c =
 
 pub entry-spec : {M : Type 1} → statement M
 entry-spec =
-    tie.close (tie.spec cast-read-window read-window-requires class-number-requires mul-with with-requires returns)
+    tie.close (tie.spec (λ c. search needs) read-window-requires class-number-requires (λ c. search needs) with-requires returns)

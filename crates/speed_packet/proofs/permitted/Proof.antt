@@ -5,9 +5,6 @@ use borrow.Author.Needs.{needs}
 use Rattle.speed_packet.proofs.permitted.Statement.{statement}
 use Rattle.speed_packet.proofs.permitted.Tie as tie
 
-length-of-requires : tie.Need-length-of-requires
-length-of-requires c κs = search needs
-
 profile-requires : tie.Need-profile-requires
 profile-requires c κs = let a = c .before .before in profile-readable (now (a .args .packet)) (a .pre) (c .length-of .ensures)
 
@@ -15,4 +12,4 @@ returns : tie.Need-returns
 returns c = let a = c .before .before .before in speed-asked (now (a .args .packet)) (a .pre) (c .before .length-of .ensures) (c .profile .ensures)
 
 pub permitted-spec : {M : Type 1} → statement M
-permitted-spec = tie.close (tie.spec length-of-requires profile-requires returns)
+permitted-spec = tie.close (tie.spec (λ c κs. search needs) profile-requires returns)

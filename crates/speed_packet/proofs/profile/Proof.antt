@@ -14,9 +14,6 @@ use borrow.Author.Needs.{needs}
 use Rattle.speed_packet.proofs.profile.Statement.{statement}
 use Rattle.speed_packet.proofs.profile.Tie as tie
 
-element-requires : tie.Need-element-requires
-element-requires c κs = search needs
-
 read-window-requires : tie.Need-read-window-requires
 read-window-requires c κs =
     let b = c .before .before in
@@ -48,4 +45,4 @@ returns c =
     profile-read (Reads s) (a .lsp) (e .ensures .0) (e .ensures .1) r (c .changes .ensures)
 
 pub profile-spec : {M : Type 1} → statement M
-profile-spec = tie.close (tie.spec element-requires read-window-requires add-changes changes-requires returns)
+profile-spec = tie.close (tie.spec (λ c κs. search needs) read-window-requires add-changes changes-requires returns)

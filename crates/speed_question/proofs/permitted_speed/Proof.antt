@@ -7,20 +7,11 @@ use borrow.Author.Needs.{needs}
 use Rattle.speed_question.proofs.permitted_speed.Statement.{statement}
 use Rattle.speed_question.proofs.permitted_speed.Tie as tie
 
-from-packet-requires : tie.Need-from-packet-requires
-from-packet-requires c κs = search needs
-
 returns : tie.Need-returns
 returns c = let a = c .before .before .before .args in c .from-packet .ensures ∙ sym (asked (now (a .segment)) (a .train) (a .x) Brought.packet (c .before .if1 .taken))
 
-from-sheet-requires : tie.Need-from-sheet-requires
-from-sheet-requires c κs = search needs
-
 returns-2 : tie.Need-returns-2
 returns-2 c = let a = c .before .before .before .before .args in c .from-sheet .ensures ∙ sym (asked (now (a .segment)) (a .train) (a .x) Brought.sheet (c .before .if2 .taken))
-
-answer-requires : tie.Need-answer-requires
-answer-requires c κs = search needs
 
 returns-3 : tie.Need-returns-3
 returns-3 c =
@@ -28,4 +19,4 @@ returns-3 c =
     c .answer .ensures ∙ sym (neither-first (now (a .segment)) (a .train) (a .x) (c .before .before .if1 .left, c .before .if2 .left))
 
 pub permitted-speed-spec : {M : Type 1} → statement M
-permitted-speed-spec = tie.close (tie.spec from-packet-requires returns from-sheet-requires returns-2 answer-requires returns-3)
+permitted-speed-spec = tie.close (tie.spec (λ c κs. search needs) returns (λ c κs. search needs) returns-2 (λ c κs. search needs) returns-3)

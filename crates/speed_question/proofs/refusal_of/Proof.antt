@@ -6,9 +6,6 @@ use borrow.Author.Needs.{needs}
 use Rattle.speed_question.proofs.refusal_of.Statement.{statement}
 use Rattle.speed_question.proofs.refusal_of.Tie as tie
 
-valid-requires : tie.Need-valid-requires
-valid-requires c κs = search needs
-
 returns : tie.Need-returns
 returns c = let a = c .before .before .before .args in in-place (a .train) (a .x) (a .lsp) (sym (c .before .before .valid .ensures) ∙ c .before .if1 .taken) (c .if2 .taken)
 
@@ -19,4 +16,4 @@ returns-3 : tie.Need-returns-3
 returns-3 c = let a = c .before .before .args in invalid (a .train) (a .x) (a .lsp) (sym (c .before .valid .ensures) ∙ c .if1 .left)
 
 pub refusal-of-spec : {M : Type 1} → statement M
-refusal-of-spec = tie.close (tie.spec valid-requires returns returns-2 returns-3)
+refusal-of-spec = tie.close (tie.spec (λ c κs. search needs) returns returns-2 returns-3)

@@ -14,14 +14,8 @@ Inv-loop s at count train lsp x held₀ open₀ to₀ left₀ held «open» to l
 abbrev μ-loop : tie.MeasureT-loop
 μ-loop s at count train lsp x held₀ open₀ to₀ left₀ held «open» to left = left
 
-add-left : tie.Need-add-left Inv-loop μ-loop
-add-left c = search needs
-
 loop-holds : tie.Need-loop-holds Inv-loop μ-loop
 loop-holds c = ending-all (Reads (now (c .before .args .s))) (c .before .pre .0) (c .before .pre .1)
-
-sub-left : tie.Need-sub-left Inv-loop μ-loop
-sub-left c = search needs
 
 next-requires : tie.Need-next-requires Inv-loop μ-loop
 next-requires c κs = c .before .loop .inv .more (c .loop-test .taken) .readable
@@ -29,16 +23,10 @@ next-requires c κs = c .before .loop .inv .more (c .loop-test .taken) .readable
 ended-requires : tie.Need-ended-requires Inv-loop μ-loop
 ended-requires c κs = c .before .before .loop .inv .more (c .before .loop-test .taken) .opens
 
-loop-less : tie.Need-loop-less Inv-loop μ-loop
-loop-less c = search needs
-
 loop-again : tie.Need-loop-again Inv-loop μ-loop
 loop-again c =
     let s = now (c .before .before .before .before .before .before .args .s) in
     ending-next (Reads s) (c .before .before .before .before .loop .inv .more (c .before .before .before .loop-test .taken)) (c .before .before .next .ensures) (c .before .ended .ensures)
-
-permitted-requires : tie.Need-permitted-requires Inv-loop μ-loop
-permitted-requires c κs = search needs
 
 returns : tie.Need-returns Inv-loop μ-loop
 returns c = rw (c .permitted .ensures) (c .before .before .loop .inv .done (omega (arith, c .before .loop-test .left)))
@@ -49,12 +37,12 @@ changes-spec =
     (tie.spec
     Inv-loop
     μ-loop
-    add-left
+    (λ c. search needs)
     loop-holds
-    sub-left
+    (λ c. search needs)
     next-requires
     ended-requires
-    loop-less
+    (λ c. search needs)
     loop-again
-    permitted-requires
+    (λ c κs. search needs)
     returns)

@@ -12,23 +12,14 @@ use borrow.Author.Needs.{needs}
 use Rattle.speed_sheet.proofs.element.Statement.{statement}
 use Rattle.speed_sheet.proofs.element.Tie as tie
 
-number-requires : tie.Need-number-requires
-number-requires c κs = search needs
-
 shared-slice-read-wide : tie.Need-shared-slice-read-wide
 shared-slice-read-wide c = let b = c .before .before .before in front-inside (now (b .args .s)) (c .before .number .ensures) (b .pre)
-
-wide-requires : tie.Need-wide-requires
-wide-requires c κs = search needs
 
 add-wide : tie.Need-add-wide
 add-wide c = let b = c .before .before .before .before in omega (arith, front-inside (now (b .args .s)) (c .before .before .number .ensures) (b .pre))
 
 shared-slice-read-wide-2 : tie.Need-shared-slice-read-wide-2
 shared-slice-read-wide-2 c = let b = c .before .before .before .before .before in count-inside (now (b .args .s)) (c .before .before .before .number .ensures) (b .pre)
-
-wide-requires-2 : tie.Need-wide-requires-2
-wide-requires-2 c κs = search needs
 
 add-entries : tie.Need-add-entries
 add-entries c = let b = c .before .before .before .before .before .before in omega (arith, count-inside (now (b .args .s)) (c .before .before .before .before .number .ensures) (b .pre))
@@ -56,12 +47,12 @@ pub element-spec : {M : Type 1} → statement M
 element-spec =
     tie.close
     (tie.spec
-    number-requires
+    (λ c κs. search needs)
     shared-slice-read-wide
-    wide-requires
+    (λ c κs. search needs)
     add-wide
     shared-slice-read-wide-2
-    wide-requires-2
+    (λ c κs. search needs)
     add-entries
     entries-end-requires
     returns)

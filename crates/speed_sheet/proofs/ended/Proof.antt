@@ -16,9 +16,6 @@ Inv-loop s «open» train held end x lows₀ to₀ left₀ lows to left =
 abbrev μ-loop : tie.MeasureT-loop
 μ-loop s «open» train held end x lows₀ to₀ left₀ lows to left = left
 
-holds-requires : tie.Need-holds-requires Inv-loop μ-loop
-holds-requires c κs = search needs
-
 returns : tie.Need-returns Inv-loop μ-loop
 returns c = ended-not (Reads (now (c .before .before .before .args .s))) (sym (c .before .holds .ensures) ∙ not-true _ (c .if1 .taken))
 
@@ -30,12 +27,6 @@ loop-holds c = rw (c .no-lows .ensures) (let b = c .before .before .before .befo
 
 entry-requires : tie.Need-entry-requires Inv-loop μ-loop
 entry-requires c κs = entry-readable (Reads (now (c .before .before .before .before .before .before .args .s))) (c .loop-test .taken) (c .before .loop .inv .readable)
-
-sub-left : tie.Need-sub-left Inv-loop μ-loop
-sub-left c = search needs
-
-loop-less : tie.Need-loop-less Inv-loop μ-loop
-loop-less c = search needs
 
 loop-again : tie.Need-loop-again Inv-loop μ-loop
 loop-again c = entered-next (Reads (now (c .before .before .before .before .before .before .before .before .args .s))) (c .before .before .loop-test .taken) (c .before .before .before .loop .inv) (c .before .entry .ensures)
@@ -54,13 +45,13 @@ ended-spec =
     (tie.spec
     Inv-loop
     μ-loop
-    holds-requires
+    (λ c κs. search needs)
     returns
     no-lows-requires
     loop-holds
     entry-requires
-    sub-left
-    loop-less
+    (λ c. search needs)
+    (λ c. search needs)
     loop-again
     lowered-requires
     returns-2)

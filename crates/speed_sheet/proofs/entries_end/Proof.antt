@@ -35,12 +35,6 @@ short-end-requires-2 c κs =
     let s = now (c .before .before .before .before .args .s) in
     rw (c .short-end .ensures) (speed-inside s (entry-readable (Reads s) (c .before .loop-test .taken) (c .before .before .loop .inv .0)))
 
-sub-left : tie.Need-sub-left Inv-loop μ-loop
-sub-left c = search needs
-
-loop-less : tie.Need-loop-less Inv-loop μ-loop
-loop-less c = search needs
-
 loop-again : tie.Need-loop-again Inv-loop μ-loop
 loop-again c =
     let s = now (c .before .before .before .before .before .args .s) in
@@ -68,7 +62,7 @@ entries-end-spec =
     add-short-end
     short-end-requires
     short-end-requires-2
-    sub-left
-    loop-less
+    (λ c. search needs)
+    (λ c. search needs)
     loop-again
     returns)

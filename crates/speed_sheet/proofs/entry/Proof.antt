@@ -9,15 +9,6 @@ use borrow.Author.Needs.{needs}
 use Rattle.speed_sheet.proofs.entry.Statement.{statement}
 use Rattle.speed_sheet.proofs.entry.Tie as tie
 
-number-requires : tie.Need-number-requires
-number-requires c κs = search needs
-
-number-requires-2 : tie.Need-number-requires-2
-number-requires-2 c κs = search needs
-
-number-requires-3 : tie.Need-number-requires-3
-number-requires-3 c κs = search needs
-
 with-requires : tie.Need-with-requires
 with-requires c κs =
     let b = c .before .before .before .before in
@@ -33,8 +24,8 @@ pub entry-spec : {M : Type 1} → statement M
 entry-spec =
     tie.close
     (tie.spec
-    number-requires
-    number-requires-2
-    number-requires-3
+    (λ c κs. search needs)
+    (λ c κs. search needs)
+    (λ c κs. search needs)
     with-requires
     returns)

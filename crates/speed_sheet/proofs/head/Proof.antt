@@ -13,12 +13,6 @@ run-requires c κs =
     let ok = bytes-of s (λ i. c .shared-slice-known .given i .fits) in
     (lit≤ tt, head-readable s (c .before .pre) ok)
 
-number-requires : tie.Need-number-requires
-number-requires c κs = search needs
-
-add-run : tie.Need-add-run
-add-run c = search needs
-
 run-requires-2 : tie.Need-run-requires-2
 run-requires-2 c κs =
     let b = c .before .before .before in
@@ -34,4 +28,4 @@ returns c =
     head-read s (b .pre) ok (c .before .before .run .ensures) (c .before .number .ensures) (c .run2 .ensures)
 
 pub head-spec : {M : Type 1} → statement M
-head-spec = tie.close (tie.spec run-requires number-requires add-run run-requires-2 returns)
+head-spec = tie.close (tie.spec run-requires (λ c κs. search needs) (λ c. search needs) run-requires-2 returns)

@@ -10,12 +10,6 @@ use borrow.Author.Needs.{needs}
 use Rattle.speed_sheet.proofs.number.Statement.{statement}
 use Rattle.speed_sheet.proofs.number.Tie as tie
 
-found-at-requires : tie.Need-found-at-requires
-found-at-requires c κs = search needs
-
-cast-t4 : tie.Need-cast-t4
-cast-t4 c = search needs
-
 add-t5 : tie.Need-add-t5
 add-t5 c =
     let a = c .before .before .before .args in
@@ -31,4 +25,4 @@ returns c =
     record { next = omega (arith, e); value = omega (arith, e) }
 
 pub number-spec : {M : Type 1} → statement M
-number-spec = tie.close (tie.spec found-at-requires cast-t4 add-t5 returns)
+number-spec = tie.close (tie.spec (λ c κs. search needs) (λ c. search needs) add-t5 returns)

@@ -5,11 +5,8 @@ use borrow.Author.Needs.{needs}
 use Rattle.speed_sheet.proofs.permitted.Statement.{statement}
 use Rattle.speed_sheet.proofs.permitted.Tie as tie
 
-profile-requires : tie.Need-profile-requires
-profile-requires c κs = search needs
-
 returns : tie.Need-returns
 returns c = let a = c .before .before in speed-asked (now (a .args .sheet)) (a .pre) (c .profile .ensures)
 
 pub permitted-spec : {M : Type 1} → statement M
-permitted-spec = tie.close (tie.spec profile-requires returns)
+permitted-spec = tie.close (tie.spec (λ c κs. search needs) returns)

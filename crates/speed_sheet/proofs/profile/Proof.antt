@@ -9,12 +9,6 @@ use borrow.Author.Needs.{needs}
 use Rattle.speed_sheet.proofs.profile.Statement.{statement}
 use Rattle.speed_sheet.proofs.profile.Tie as tie
 
-element-requires : tie.Need-element-requires
-element-requires c κs = search needs
-
-number-requires : tie.Need-number-requires
-number-requires c κs = search needs
-
 changes-requires : tie.Need-changes-requires
 changes-requires c κs =
     let b = c .before .before .before in
@@ -30,4 +24,4 @@ returns c =
     profile-read (Reads s) (a .lsp) (e .0) (e .1) (same-read s (c .before .number .ensures) (nIter 31) (λ u. refl)) (c .changes .ensures)
 
 pub profile-spec : {M : Type 1} → statement M
-profile-spec = tie.close (tie.spec element-requires number-requires changes-requires returns)
+profile-spec = tie.close (tie.spec (λ c κs. search needs) (λ c κs. search needs) changes-requires returns)

@@ -15,12 +15,6 @@ use borrow.Author.Needs.{needs}
 use Rattle.text.proofs.listing.Statement.{statement}
 use Rattle.text.proofs.listing.Tie as tie
 
-altitude-of-packet-requires : tie.Need-altitude-of-packet-requires
-altitude-of-packet-requires c κs = search needs
-
-put-refusal-requires : tie.Need-put-refusal-requires
-put-refusal-requires c κs = search needs
-
 returns : tie.Need-returns
 returns c =
     let s = c .before .before .before .before .before in
@@ -50,8 +44,8 @@ pub listing-spec : {M : Type 1} → statement M
 listing-spec =
     tie.close
     (tie.spec
-    altitude-of-packet-requires
-    put-refusal-requires
+    (λ c κs. search needs)
+    (λ c κs. search needs)
     returns
     put-accepted-requires
     returns-2)

@@ -12,15 +12,6 @@ use borrow.Author.Needs.{needs}
 use Rattle.text.proofs.put_accepted.Statement.{statement}
 use Rattle.text.proofs.put_accepted.Tie as tie
 
-slice-aggregate-packet-to-sheet : tie.Need-slice-aggregate-packet-to-sheet
-slice-aggregate-packet-to-sheet c = search needs
-
-packet-to-sheet-requires : tie.Need-packet-to-sheet-requires
-packet-to-sheet-requires c κs = search needs
-
-cast-length : tie.Need-cast-length
-cast-length c = search needs
-
 made-here : (c : tie.After-packet-to-sheet) → Made (now (c .before .before .before .before .args .packet)) (c .packet-to-sheet .last .1 .0) (c .packet-to-sheet .result .length)
 made-here c =
     let s = c .before .before .before .before in
@@ -36,9 +27,6 @@ slice-aggregate-put-lines c = sym (length-take-le _ _ (made-here (c .before .bef
 put-lines-requires : tie.Need-put-lines-requires
 put-lines-requires c κs = (made-here (c .before .before .before .before) .few, c .before .before .before .before .before .before .before .before .pre .1)
 
-same-length : tie.Need-same-length
-same-length c = search needs
-
 returns : tie.Need-returns
 returns c =
     let s = c .before .before .before .before .before .before .before .before .before .before .before in
@@ -48,11 +36,11 @@ pub put-accepted-spec : {M : Type 1} → statement M
 put-accepted-spec =
     tie.close
     (tie.spec
-    slice-aggregate-packet-to-sheet
-    packet-to-sheet-requires
-    cast-length
+    (λ c. search needs)
+    (λ c κs. search needs)
+    (λ c. search needs)
     array-share-prefix-sheet
     slice-aggregate-put-lines
     put-lines-requires
-    same-length
+    (λ c. search needs)
     returns)

@@ -5,23 +5,14 @@ use borrow.Author.Needs.{needs}
 use Rattle.text.proofs.put_refusal.Statement.{statement}
 use Rattle.text.proofs.put_refusal.Tie as tie
 
-slice-aggregate-put-labelled : tie.Need-slice-aggregate-put-labelled
-slice-aggregate-put-labelled c = search needs
-
 put-labelled-requires : tie.Need-put-labelled-requires
 put-labelled-requires c κs = let s = c .before .before .before in omega (arith, s .pre, decimal-short (s .args .refusal))
-
-slice-aggregate-put-labelled-2 : tie.Need-slice-aggregate-put-labelled-2
-slice-aggregate-put-labelled-2 c = search needs
 
 put-labelled-requires-2 : tie.Need-put-labelled-requires-2
 put-labelled-requires-2 c κs =
     let s = c .before .before .before .before .before .before .before .before in
     let e = c .before .before .before .before .put-labelled .ensures in
     omega (arith, s .pre, e .place, laid-long e, decimal-short (s .args .refusal), decimal-short (s .args .place))
-
-slice-aggregate-put-word : tie.Need-slice-aggregate-put-word
-slice-aggregate-put-word c = search needs
 
 put-word-requires : tie.Need-put-word-requires
 put-word-requires c κs =
@@ -30,9 +21,6 @@ put-word-requires c κs =
     let f = c .before .before .before .before .put-labelled2 .ensures in
     omega (arith, s .pre, e .place, laid-long e, f .place, laid-long f, decimal-short (s .args .refusal), decimal-short (s .args .place))
 
-same-length : tie.Need-same-length
-same-length c = search needs
-
 returns : tie.Need-returns
 returns c = laid-on (laid-on (c .before .before .before .before .before .before .before .before .before .before .before .before .put-labelled .ensures) (c .before .before .before .before .before .before .before .put-labelled2 .ensures)) (c .before .before .put-word .ensures)
 
@@ -40,11 +28,11 @@ pub put-refusal-spec : {M : Type 1} → statement M
 put-refusal-spec =
     tie.close
     (tie.spec
-    slice-aggregate-put-labelled
+    (λ c. search needs)
     put-labelled-requires
-    slice-aggregate-put-labelled-2
+    (λ c. search needs)
     put-labelled-requires-2
-    slice-aggregate-put-word
+    (λ c. search needs)
     put-word-requires
-    same-length
+    (λ c. search needs)
     returns)

@@ -5,18 +5,6 @@ use borrow.Author.Needs.{needs}
 use Rattle.bits.proofs.write.store_eight.Statement.{statement}
 use Rattle.bits.proofs.write.store_eight.Tie as tie
 
-store-four-requires : tie.Need-store-four-requires
-store-four-requires c κs = search needs
-
-add-store-four : tie.Need-add-store-four
-add-store-four c = search needs
-
-store-four-requires-2 : tie.Need-store-four-requires-2
-store-four-requires-2 c κs = search needs
-
-same-length : tie.Need-same-length
-same-length c = search needs
-
 returns : tie.Need-returns
 returns c =
     let a = c .before .before .before .before .before .before .before .before .before .args in
@@ -24,4 +12,4 @@ returns c =
 
 pub store-eight-spec : {M : Type 1} → statement M
 store-eight-spec =
-    tie.close (tie.spec store-four-requires add-store-four store-four-requires-2 same-length returns)
+    tie.close (tie.spec (λ c κs. search needs) (λ c. search needs) (λ c κs. search needs) (λ c. search needs) returns)

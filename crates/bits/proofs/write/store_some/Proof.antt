@@ -27,12 +27,6 @@ loop-holds c =
 low-requires : tie.Need-low-requires Inv-loop μ-loop
 low-requires c κs = tt
 
-slice-write-s : tie.Need-slice-write-s Inv-loop μ-loop
-slice-write-s c = omega arith
-
-add-j : tie.Need-add-j Inv-loop μ-loop
-add-j c = omega arith
-
 loop-less : tie.Need-loop-less Inv-loop μ-loop
 loop-less c = simp length-set (omega arith)
 
@@ -64,8 +58,8 @@ store-some-spec =
     μ-loop
     loop-holds
     low-requires
-    slice-write-s
-    add-j
+    (λ c. omega arith)
+    (λ c. omega arith)
     loop-less
     loop-again
     same-length

@@ -10,12 +10,6 @@ use borrow.Author.Needs.{needs}
 use Rattle.fields.proofs.lower.cant_place.Statement.{statement}
 use Rattle.fields.proofs.lower.cant_place.Tie as tie
 
-wrapping-sub-u32-requires : tie.Need-wrapping-sub-u32-requires
-wrapping-sub-u32-requires c κs = search needs
-
-mul-if2 : tie.Need-mul-if2
-mul-if2 c = search needs
-
 element-copy-out-if2 : tie.Need-element-copy-out-if2
 element-copy-out-if2 c = ⊎-elim (λ w. omega arith) (λ w. omega arith) (c .before .if1 .came)
 
@@ -36,4 +30,4 @@ returns-2 c =
 
 pub cant-place-spec : {M : Type 1} → statement M
 cant-place-spec =
-    tie.close (tie.spec wrapping-sub-u32-requires mul-if2 element-copy-out-if2 returns returns-2)
+    tie.close (tie.spec (λ c κs. search needs) (λ c. search needs) element-copy-out-if2 returns returns-2)

@@ -5,12 +5,6 @@ use borrow.Author.Needs.{needs}
 use Rattle.fields.proofs.lower.class_place.Statement.{statement}
 use Rattle.fields.proofs.lower.class_place.Tie as tie
 
-cant-place-requires : tie.Need-cant-place-requires
-cant-place-requires c κs = search needs
-
-category-requires : tie.Need-category-requires
-category-requires c κs = search needs
-
 returns : tie.Need-returns
 returns c = rw (c .if1 .taken) (c .before .before .cant-place .ensures)
 
@@ -18,4 +12,4 @@ returns-2 : tie.Need-returns-2
 returns-2 c = let a = c .before .before .before .args in c .before .category .ensures ∙ class-other (a .q) (a .a) (c .if1 .left)
 
 pub class-place-spec : {M : Type 1} → statement M
-class-place-spec = tie.close (tie.spec cant-place-requires category-requires returns returns-2)
+class-place-spec = tie.close (tie.spec (λ c κs. search needs) (λ c κs. search needs) returns returns-2)

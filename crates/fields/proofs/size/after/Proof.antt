@@ -12,11 +12,8 @@ returns c = let a = c .before .args in bytes-none (dEndAfter (a .start)) (a .v) 
 returns-2 : tie.Need-returns-2
 returns-2 c = let a = c .before .before .args in bytes-none (dEndAfter (a .start)) (a .v) (after-high (a .start) 16777215 (a .v) (omega arith))
 
-groups-requires : tie.Need-groups-requires
-groups-requires c κs = search needs
-
 returns-3 : tie.Need-returns-3
 returns-3 c = let a = c .before .before .before .args in bytes-some (dEndAfter (a .start)) (a .v) (after-in (a .start) 16777215 (a .v) (omega arith) (omega arith)) (c .groups .ensures)
 
 pub after-spec : {M : Type 1} → statement M
-after-spec = tie.close (tie.spec returns returns-2 groups-requires returns-3)
+after-spec = tie.close (tie.spec returns returns-2 (λ c κs. search needs) returns-3)

@@ -3,60 +3,6 @@ use borrow.Author.Needs.{needs}
 use Rattle.fields.proofs.size.by.Statement.{statement}
 use Rattle.fields.proofs.size.by.Tie as tie
 
-enum-known-rule : tie.Need-enum-known-rule
-enum-known-rule c = search needs
-
-within-requires : tie.Need-within-requires
-within-requires c κs = search needs
-
-enum-known-rule-2 : tie.Need-enum-known-rule-2
-enum-known-rule-2 c = search needs
-
-location-requires : tie.Need-location-requires
-location-requires c κs = search needs
-
-enum-told : tie.Need-enum-told
-enum-told c = search needs
-
-operational-requires : tie.Need-operational-requires
-operational-requires c κs = search needs
-
-enum-told-2 : tie.Need-enum-told-2
-enum-told-2 c = search needs
-
-speed-requires : tie.Need-speed-requires
-speed-requires c κs = search needs
-
-enum-told-3 : tie.Need-enum-told-3
-enum-told-3 c = search needs
-
-current-requires : tie.Need-current-requires
-current-requires c κs = search needs
-
-enum-told-4 : tie.Need-enum-told-4
-enum-told-4 c = search needs
-
-cant-requires : tie.Need-cant-requires
-cant-requires c κs = search needs
-
-enum-told-5 : tie.Need-enum-told-5
-enum-told-5 c = search needs
-
-volts-requires : tie.Need-volts-requires
-volts-requires c κs = search needs
-
-enum-known-rule-3 : tie.Need-enum-known-rule-3
-enum-known-rule-3 c = search needs
-
-after-requires : tie.Need-after-requires
-after-requires c κs = search needs
-
-enum-told-6 : tie.Need-enum-told-6
-enum-told-6 c = search needs
-
-no-current-requires : tie.Need-no-current-requires
-no-current-requires c κs = search needs
-
 returns : tie.Need-returns
 returns c = rw (c .before .before .rule .given .1) (c .within .ensures 0 _)
 
@@ -88,24 +34,24 @@ pub by-spec : {M : Type 1} → statement M
 by-spec =
     tie.close
     (tie.spec
-    enum-known-rule
-    within-requires
-    enum-known-rule-2
-    location-requires
-    enum-told
-    operational-requires
-    enum-told-2
-    speed-requires
-    enum-told-3
-    current-requires
-    enum-told-4
-    cant-requires
-    enum-told-5
-    volts-requires
-    enum-known-rule-3
-    after-requires
-    enum-told-6
-    no-current-requires
+    (λ c. search needs)
+    (λ c κs. search needs)
+    (λ c. search needs)
+    (λ c κs. search needs)
+    (λ c. search needs)
+    (λ c κs. search needs)
+    (λ c. search needs)
+    (λ c κs. search needs)
+    (λ c. search needs)
+    (λ c κs. search needs)
+    (λ c. search needs)
+    (λ c κs. search needs)
+    (λ c. search needs)
+    (λ c κs. search needs)
+    (λ c. search needs)
+    (λ c κs. search needs)
+    (λ c. search needs)
+    (λ c κs. search needs)
     returns
     returns-2
     returns-3

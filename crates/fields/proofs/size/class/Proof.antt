@@ -6,17 +6,8 @@ use borrow.Author.Needs.{needs}
 use Rattle.fields.proofs.size.class.Statement.{statement}
 use Rattle.fields.proofs.size.class.Tie as tie
 
-most-class-requires : tie.Need-most-class-requires
-most-class-requires c κs = search needs
-
 returns : tie.Need-returns
 returns c = let a = c .before .before .args in class-out (a .q) (a .v) (omega (arith, c .if1 .taken, c .before .most-class .ensures))
-
-cast-result : tie.Need-cast-result
-cast-result c = search needs
-
-cast-result-2 : tie.Need-cast-result-2
-cast-result-2 c = search needs
 
 mul-result : tie.Need-mul-result
 mul-result c = omega (arith, both-small (eqb (c .before .before .args .q) 0) (leb 2 (c .before .before .args .v)))
@@ -31,10 +22,10 @@ pub class-spec : {M : Type 1} → statement M
 class-spec =
     tie.close
     (tie.spec
-    most-class-requires
+    (λ c κs. search needs)
     returns
-    cast-result
-    cast-result-2
+    (λ c. search needs)
+    (λ c. search needs)
     mul-result
     add-result
     returns-2)

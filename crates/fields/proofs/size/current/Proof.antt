@@ -11,18 +11,9 @@ returns c = current-none (c .before .args .v) (c .if1 .taken)
 returns-2 : tie.Need-returns-2
 returns-2 c = current-out (c .before .before .args .v) (c .before .if1 .left) (omega arith)
 
-mul-groups : tie.Need-mul-groups
-mul-groups c = search needs
-
-add-groups : tie.Need-add-groups
-add-groups c = search needs
-
-groups-requires : tie.Need-groups-requires
-groups-requires c κs = search needs
-
 returns-3 : tie.Need-returns-3
 returns-3 c = current-in (c .before .before .before .args .v) (c .before .before .if1 .left) (omega arith) (c .groups .ensures)
 
 pub current-spec : {M : Type 1} → statement M
 current-spec =
-    tie.close (tie.spec returns returns-2 mul-groups add-groups groups-requires returns-3)
+    tie.close (tie.spec returns returns-2 (λ c. search needs) (λ c. search needs) (λ c κs. search needs) returns-3)

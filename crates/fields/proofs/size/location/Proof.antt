@@ -12,11 +12,8 @@ returns c = let a = c .before .args in bytes-none (dLocation (a .last) (a .lsp))
 returns-2 : tie.Need-returns-2
 returns-2 c = let a = c .before .before .args in bytes-none (dLocation (a .last) (a .lsp)) (a .v) (location-high (a .last) (a .lsp) (a .v) (omega arith))
 
-groups-requires : tie.Need-groups-requires
-groups-requires c κs = search needs
-
 returns-3 : tie.Need-returns-3
 returns-3 c = let a = c .before .before .before .args in bytes-some (dLocation (a .last) (a .lsp)) (a .v) (location-in (a .last) (a .lsp) (a .v) (omega arith) (omega arith)) (c .groups .ensures)
 
 pub location-spec : {M : Type 1} → statement M
-location-spec = tie.close (tie.spec returns returns-2 groups-requires returns-3)
+location-spec = tie.close (tie.spec returns returns-2 (λ c κs. search needs) returns-3)

@@ -6,12 +6,6 @@ use borrow.Author.Needs.{needs}
 use Rattle.fields.proofs.size.operational.Statement.{statement}
 use Rattle.fields.proofs.size.operational.Tie as tie
 
-digits-good-requires : tie.Need-digits-good-requires
-digits-good-requires c κs = search needs
-
-groups-requires : tie.Need-groups-requires
-groups-requires c κs = search needs
-
 returns : tie.Need-returns
 returns c = bytes-some nidOperational (c .before .before .before .args .v) (sym (c .before .before .digits-good .ensures) ∙ c .before .if1 .taken) (c .groups .ensures)
 
@@ -19,4 +13,4 @@ returns-2 : tie.Need-returns-2
 returns-2 c = bytes-none nidOperational (c .before .before .args .v) (sym (c .before .digits-good .ensures) ∙ c .if1 .left)
 
 pub operational-spec : {M : Type 1} → statement M
-operational-spec = tie.close (tie.spec digits-good-requires groups-requires returns returns-2)
+operational-spec = tie.close (tie.spec (λ c κs. search needs) (λ c κs. search needs) returns returns-2)

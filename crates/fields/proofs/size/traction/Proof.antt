@@ -6,9 +6,6 @@ use borrow.Author.Needs.{needs}
 use Rattle.fields.proofs.size.traction.Statement.{statement}
 use Rattle.fields.proofs.size.traction.Tie as tie
 
-most-traction-requires : tie.Need-most-traction-requires
-most-traction-requires c κs = search needs
-
 returns : tie.Need-returns
 returns c =
     let a = c .before .before .args in
@@ -25,4 +22,4 @@ returns-2 c =
     bytes-some (nidCTraction (a .voltage)) (a .v) (both-in 0 (mostTraction (a .voltage)) (a .v) (omega arith) (omega (arith, m, c .before .if1 .left))) (c .short .ensures)
 
 pub traction-spec : {M : Type 1} → statement M
-traction-spec = tie.close (tie.spec most-traction-requires returns short-requires returns-2)
+traction-spec = tie.close (tie.spec (λ c κs. search needs) returns short-requires returns-2)

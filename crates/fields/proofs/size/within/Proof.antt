@@ -12,11 +12,8 @@ returns c = λ w x. let a = c .before .args in bytes-none (range w (a .least) (a
 returns-2 : tie.Need-returns-2
 returns-2 c = λ w x. let a = c .before .before .args in bytes-none (range w (a .least) (a .largest) x) (a .v) (high-out (a .least) (a .largest) (a .v) (omega arith))
 
-groups-requires : tie.Need-groups-requires
-groups-requires c κs = search needs
-
 returns-3 : tie.Need-returns-3
 returns-3 c = λ w x. let a = c .before .before .before .args in bytes-some (range w (a .least) (a .largest) x) (a .v) (both-in (a .least) (a .largest) (a .v) (omega arith) (omega arith)) (c .groups .ensures)
 
 pub within-spec : {M : Type 1} → statement M
-within-spec = tie.close (tie.spec returns returns-2 groups-requires returns-3)
+within-spec = tie.close (tie.spec returns returns-2 (λ c κs. search needs) returns-3)

@@ -5,12 +5,6 @@ use borrow.Author.Needs.{needs}
 use Rattle.kinds.proofs.body.class_at.Statement.{statement}
 use Rattle.kinds.proofs.body.class_at.Tie as tie
 
-rule-requires : tie.Need-rule-requires
-rule-requires c κs = search needs
-
-rule-requires-2 : tie.Need-rule-requires-2
-rule-requires-2 c κs = search needs
-
 returns : tie.Need-returns
 returns c = rw (c .before .if1 .taken) (c .rule .ensures .kind)
 
@@ -18,4 +12,4 @@ returns-2 : tie.Need-returns-2
 returns-2 c = c .rule2 .ensures .kind ∙ class-other (c .before .before .args .q-diff) (c .before .if1 .left)
 
 pub class-at-spec : {M : Type 1} → statement M
-class-at-spec = tie.close (tie.spec rule-requires rule-requires-2 returns returns-2)
+class-at-spec = tie.close (tie.spec (λ c κs. search needs) (λ c κs. search needs) returns returns-2)

@@ -5,14 +5,8 @@ use borrow.Author.Needs.{needs}
 use Rattle.kinds.proofs.journey.at_stop.Statement.{statement}
 use Rattle.kinds.proofs.journey.at_stop.Tie as tie
 
-most-at-requires : tie.Need-most-at-requires
-most-at-requires c κs = search needs
-
-up-to-requires : tie.Need-up-to-requires
-up-to-requires c κs = search needs
-
 returns : tie.Need-returns
 returns c = c .up-to .ensures ∙ ap (upTo (c .before .before .args .width)) (c .before .most-at .ensures)
 
 pub at-stop-spec : {M : Type 1} → statement M
-at-stop-spec = tie.close (tie.spec most-at-requires up-to-requires returns)
+at-stop-spec = tie.close (tie.spec (λ c κs. search needs) (λ c κs. search needs) returns)

@@ -20,7 +20,8 @@ wide-requires c κs = tt
 
 loop-holds : tie.Need-loop-holds Inv-loop μ-loop
 loop-holds c =
-    rest-start (c .before .before .before .args .s .now) (c .before .before .before .args .from) (c .before .before .before .pre .value) (c .wide .result) (c .before .before .before .pre .is) (c .wide .ensures) (omega (arith, c .wide .ensures, c .before .shared-slice-known2 .given (c .before .before .before .args .from)))
+    let b = c .before .before .before in
+    rest-start (b .args .s .now) (b .args .from) (b .pre .value) (c .wide .result) (b .pre .is) (c .wide .ensures) (omega (arith, c .wide .ensures, c .before .shared-slice-known2 .given (b .args .from)))
 
 mul-value : tie.Need-mul-value Inv-loop μ-loop
 mul-value c = omega (arith, rest-value (c .before .loop .inv) (c .loop-test .taken), c .before .loop .inv .small)

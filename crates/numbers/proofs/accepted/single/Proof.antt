@@ -8,9 +8,6 @@ use Rattle.numbers.proofs.accepted.single.Tie as tie
 shared-slice-read-wide : tie.Need-shared-slice-read-wide
 shared-slice-read-wide c = there-inside (c .before .before .pre .there)
 
-wide-requires : tie.Need-wide-requires
-wide-requires c κs = search needs
-
 add-t6 : tie.Need-add-t6
 add-t6 c = omega (arith, there-inside (c .before .before .before .pre .there))
 
@@ -20,4 +17,4 @@ returns c =
     single-reads (b .pre .there) (c .wide .ensures) (c .before .shared-slice-known2 .given (b .args .from) .fits) (b .pre .small)
 
 pub single-spec : {M : Type 1} → statement M
-single-spec = tie.close (tie.spec shared-slice-read-wide wide-requires add-t6 returns)
+single-spec = tie.close (tie.spec shared-slice-read-wide (λ c κs. search needs) add-t6 returns)

@@ -15,26 +15,11 @@ abbrev μ-loop : tie.MeasureT-loop
 loop-holds : tie.Need-loop-holds Inv-loop μ-loop
 loop-holds c = rest-start (now (c .args .s)) (c .args .at) (c .args .v) (omega arith)
 
-add-s : tie.Need-add-s Inv-loop μ-loop
-add-s c = omega arith
-
-cast-s : tie.Need-cast-s Inv-loop μ-loop
-cast-s c = omega arith
-
 slice-write-s : tie.Need-slice-write-s Inv-loop μ-loop
 slice-write-s c = rest-room (c .before .loop .inv) (c .before .before .pre)
 
-add-i : tie.Need-add-i Inv-loop μ-loop
-add-i c = omega arith
-
-loop-less : tie.Need-loop-less Inv-loop μ-loop
-loop-less c = omega arith
-
 loop-again : tie.Need-loop-again Inv-loop μ-loop
 loop-again c = rest-more (c .before .loop .inv) (c .loop-test .taken)
-
-cast-s-2 : tie.Need-cast-s-2 Inv-loop μ-loop
-cast-s-2 c = omega arith
 
 slice-write-s-2 : tie.Need-slice-write-s-2 Inv-loop μ-loop
 slice-write-s-2 c = rest-room (c .before .loop .inv) (c .before .before .pre)
@@ -55,13 +40,13 @@ put-number-spec =
     Inv-loop
     μ-loop
     loop-holds
-    add-s
-    cast-s
+    (λ c. omega arith)
+    (λ c. omega arith)
     slice-write-s
-    add-i
-    loop-less
+    (λ c. omega arith)
+    (λ c. omega arith)
     loop-again
-    cast-s-2
+    (λ c. omega arith)
     slice-write-s-2
     add-result
     same-length

@@ -8,12 +8,6 @@ use borrow.Author.Needs.{needs}
 use Rattle.numbers.proofs.write.put_short.Statement.{statement}
 use Rattle.numbers.proofs.write.put_short.Tie as tie
 
-cast-more : tie.Need-cast-more
-cast-more c = search needs
-
-cast-s : tie.Need-cast-s
-cast-s c = search needs
-
 cast-s-2 : tie.Need-cast-s-2
 cast-s-2 c = omega (arith, bit-small (leb 128 (c .args .v)))
 
@@ -35,17 +29,11 @@ cast-s-3 c = omega (arith, bit-small (leb 128 (c .args .v)))
 slice-write-s-2 : tie.Need-slice-write-s-2
 slice-write-s-2 c = rw length-set (omega (arith, short-next (now (c .args .s)) (c .args .at) (c .args .v) (c .pre .0), c .pre .1))
 
-add-result : tie.Need-add-result
-add-result c = search needs
-
 cast-result : tie.Need-cast-result
 cast-result c = omega (arith, bit-small (leb 128 (c .args .v)))
 
 add-result-2 : tie.Need-add-result-2
 add-result-2 c = omega (arith, short-next (now (c .args .s)) (c .args .at) (c .args .v) (c .pre .0), c .pre .1)
-
-same-length : tie.Need-same-length
-same-length c = search needs
 
 returns : tie.Need-returns
 returns c = short-put (now (c .args .s)) (c .args .at) (c .args .v) (c .pre .0)
@@ -54,8 +42,8 @@ pub put-short-spec : {M : Type 1} → statement M
 put-short-spec =
     tie.close
     (tie.spec
-    cast-more
-    cast-s
+    (λ c. search needs)
+    (λ c. search needs)
     cast-s-2
     add-s
     slice-write-s
@@ -63,8 +51,8 @@ put-short-spec =
     add-s-2
     cast-s-3
     slice-write-s-2
-    add-result
+    (λ c. search needs)
     cast-result
     add-result-2
-    same-length
+    (λ c. search needs)
     returns)

@@ -21,20 +21,8 @@ abbrev μ-loop : tie.MeasureT-loop
 loop-holds : tie.Need-loop-holds Inv-loop μ-loop
 loop-holds c = (left-all (c .before .before .before .pre .0), omega arith)
 
-mul-up-to : tie.Need-mul-up-to Inv-loop μ-loop
-mul-up-to c = search needs
-
-shared-slice-read-up-to : tie.Need-shared-slice-read-up-to Inv-loop μ-loop
-shared-slice-read-up-to c = search needs
-
-mul-up-to-2 : tie.Need-mul-up-to-2 Inv-loop μ-loop
-mul-up-to-2 c = search needs
-
 shared-slice-read-up-to-2 : tie.Need-shared-slice-read-up-to-2 Inv-loop μ-loop
 shared-slice-read-up-to-2 c = let b = c .before .before .before .before .before .before .before in omega (arith, fits-length (now (b .args .widths)) (now (b .args .most)) (b .pre .1))
-
-up-to-requires : tie.Need-up-to-requires Inv-loop μ-loop
-up-to-requires c κs = search needs
 
 plain-requires : tie.Need-plain-requires Inv-loop μ-loop
 plain-requires c κs =
@@ -43,24 +31,12 @@ plain-requires c κs =
     let w = fits-at (now (b .args .widths)) (now (b .args .most)) (l .i) (b .pre .1) (c .before .before .before .loop-test .taken) in
     (l .inv .0 .stands, rw (c .up-to .ensures) (record { some = w .some; most = w .most }))
 
-enum-known-r : tie.Need-enum-known-r Inv-loop μ-loop
-enum-known-r c = search needs
-
 returns : tie.Need-returns Inv-loop μ-loop
 returns c =
     let p = c .before .before .before in
     let l = p .before .before .before .before .before .loop in
     let b = p .before .before .before .before .before .before .before .before .before in
     row-off (now (b .args .widths)) (now (b .args .most)) (b .pre .1) (l .i) (l .inv .0) (p .before .before .before .before .loop-test .taken) (p .before .up-to .ensures) (rw (c .before .r .given .1) at (p .plain .ensures))
-
-enum-known-a : tie.Need-enum-known-a Inv-loop μ-loop
-enum-known-a c = search needs
-
-add-i : tie.Need-add-i Inv-loop μ-loop
-add-i c = omega arith
-
-loop-less : tie.Need-loop-less Inv-loop μ-loop
-loop-less c = omega arith
 
 loop-again : tie.Need-loop-again Inv-loop μ-loop
 loop-again c =
@@ -82,16 +58,16 @@ row-spec =
     Inv-loop
     μ-loop
     loop-holds
-    mul-up-to
-    shared-slice-read-up-to
-    mul-up-to-2
+    (λ c. search needs)
+    (λ c. search needs)
+    (λ c. search needs)
     shared-slice-read-up-to-2
-    up-to-requires
+    (λ c κs. search needs)
     plain-requires
-    enum-known-r
+    (λ c. search needs)
     returns
-    enum-known-a
-    add-i
-    loop-less
+    (λ c. search needs)
+    (λ c. omega arith)
+    (λ c. omega arith)
     loop-again
     returns-2)

@@ -9,12 +9,6 @@ use Rattle.packet_journey.proofs.constraint_bytes.both_bytes.Tie as tie
 returns : tie.Need-returns
 returns c = let a = c .before .args in both-none (a .start) (a .end) (c .if1 .taken)
 
-groups-requires : tie.Need-groups-requires
-groups-requires c κs = search needs
-
-groups-requires-2 : tie.Need-groups-requires-2
-groups-requires-2 c κs = search needs
-
 add-result : tie.Need-add-result
 add-result c = let a = c .before .before .before .args in omega (arith, c .before .groups .ensures, c .groups2 .ensures, count-five (a .start), count-five (a .end))
 
@@ -23,4 +17,4 @@ returns-2 c = let b = c .before .before .before in both-bytes (b .args .start) (
 
 pub both-bytes-spec : {M : Type 1} → statement M
 both-bytes-spec =
-    tie.close (tie.spec returns groups-requires groups-requires-2 add-result returns-2)
+    tie.close (tie.spec returns (λ c κs. search needs) (λ c κs. search needs) add-result returns-2)

@@ -7,14 +7,8 @@ use Rattle.packet_journey.proofs.constraint_bytes.restriction_bytes.Tie
 returns : tie.Need-returns
 returns c = let a = c .before .args in current-none (a .t) (a .of) (c .if1 .taken)
 
-speed-bytes-requires : tie.Need-speed-bytes-requires
-speed-bytes-requires c κs = search needs
-
 returns-2 : tie.Need-returns-2
 returns-2 c = rw (c .before .if2 .taken) (c .speed-bytes .ensures)
-
-most-requires : tie.Need-most-requires
-most-requires c κs = search needs
 
 returns-3 : tie.Need-returns-3
 returns-3 c = let b = c .before .before .before .before in other-none (b .args .t) (b .args .of) (c .before .before .if2 .left) (b .pre) (rw (c .before .most .ensures) at (c .if3 .taken))
@@ -24,4 +18,4 @@ returns-4 c = let a = c .before .before .before .before .args in other-some (a .
 
 pub restriction-bytes-spec : {M : Type 1} → statement M
 restriction-bytes-spec =
-    tie.close (tie.spec returns speed-bytes-requires returns-2 most-requires returns-3 returns-4)
+    tie.close (tie.spec returns (λ c κs. search needs) returns-2 (λ c κs. search needs) returns-3 returns-4)

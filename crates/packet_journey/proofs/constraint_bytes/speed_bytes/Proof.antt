@@ -10,9 +10,6 @@ use Rattle.packet_journey.proofs.constraint_bytes.speed_bytes.Tie as ti
 returns : tie.Need-returns
 returns c = adhesion-none (c .before .args .t) (c .if1 .taken)
 
-speed-requires : tie.Need-speed-requires
-speed-requires c κs = search needs
-
 returns-2 : tie.Need-returns-2
 returns-2 c = speed-none (c .before .before .before .args .t) (c .before .speed .ensures) (c .if2 .taken)
 
@@ -23,4 +20,4 @@ returns-3 : tie.Need-returns-3
 returns-3 c = speed-some (c .before .before .before .args .t) (c .before .speed .ensures) (c .before .before .before .pre) (c .before .before .if1 .left) (c .if2 .left)
 
 pub speed-bytes-spec : {M : Type 1} → statement M
-speed-bytes-spec = tie.close (tie.spec returns speed-requires returns-2 add-result returns-3)
+speed-bytes-spec = tie.close (tie.spec returns (λ c κs. search needs) returns-2 add-result returns-3)

@@ -4,18 +4,6 @@ use borrow.Author.Needs.{needs}
 use Rattle.packet_journey.proofs.point.arrival.Statement.{statement}
 use Rattle.packet_journey.proofs.point.arrival.Tie as tie
 
-arrival-widths-requires : tie.Need-arrival-widths-requires
-arrival-widths-requires c κs = search needs
-
-arrival-most-requires : tie.Need-arrival-most-requires
-arrival-most-requires c κs = search needs
-
-slice-aggregate-row : tie.Need-slice-aggregate-row
-slice-aggregate-row c = search needs
-
-slice-aggregate-row-2 : tie.Need-slice-aggregate-row-2
-slice-aggregate-row-2 c = search needs
-
 row-requires : tie.Need-row-requires
 row-requires c κs = (c .before .before .before .before .before .pre, rw (c .before .before .before .arrival-widths .ensures, c .before .before .arrival-most .ensures) arrival-fits)
 
@@ -26,9 +14,9 @@ pub arrival-spec : {M : Type 1} → statement M
 arrival-spec =
     tie.close
     (tie.spec
-    arrival-widths-requires
-    arrival-most-requires
-    slice-aggregate-row
-    slice-aggregate-row-2
+    (λ c κs. search needs)
+    (λ c κs. search needs)
+    (λ c. search needs)
+    (λ c. search needs)
     row-requires
     returns)

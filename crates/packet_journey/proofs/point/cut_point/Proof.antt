@@ -8,26 +8,8 @@ use borrow.Author.Needs.{needs}
 use Rattle.packet_journey.proofs.point.cut_point.Statement.{statement}
 use Rattle.packet_journey.proofs.point.cut_point.Tie as tie
 
-arrival-requires : tie.Need-arrival-requires
-arrival-requires c κs = search needs
-
-enum-known-r : tie.Need-enum-known-r
-enum-known-r c = search needs
-
-enum-known-at2 : tie.Need-enum-known-at2
-enum-known-at2 c = search needs
-
-rule-requires : tie.Need-rule-requires
-rule-requires c κs = search needs
-
 field-requires : tie.Need-field-requires
 field-requires c κs = ((rw (c .before .before .at2 .given .1) at (c .before .before .before .before .arrival .ensures)) .stands, rw (c .rule .ensures .kind) (record { some = lit≤ tt; most = lit≤ tt }))
-
-enum-known-r-2 : tie.Need-enum-known-r-2
-enum-known-r-2 c = search needs
-
-enum-known-kind : tie.Need-enum-known-kind
-enum-known-kind c = search needs
 
 stopping-requires : tie.Need-stopping-requires
 stopping-requires c κs = (rw (c .before .kind .given .1) at (c .before .before .before .field .ensures)) .stands
@@ -51,13 +33,13 @@ pub cut-point-spec : {M : Type 1} → statement M
 cut-point-spec =
     tie.close
     (tie.spec
-    arrival-requires
-    enum-known-r
-    enum-known-at2
-    rule-requires
+    (λ c κs. search needs)
+    (λ c. search needs)
+    (λ c. search needs)
+    (λ c κs. search needs)
     field-requires
-    enum-known-r-2
-    enum-known-kind
+    (λ c. search needs)
+    (λ c. search needs)
     stopping-requires
     returns
     returns-2

@@ -4,18 +4,6 @@ use borrow.Author.Needs.{needs}
 use Rattle.packet_journey.proofs.point.stopping.Statement.{statement}
 use Rattle.packet_journey.proofs.point.stopping.Tie as tie
 
-stopping-widths-requires : tie.Need-stopping-widths-requires
-stopping-widths-requires c κs = search needs
-
-stopping-most-requires : tie.Need-stopping-most-requires
-stopping-most-requires c κs = search needs
-
-slice-aggregate-row : tie.Need-slice-aggregate-row
-slice-aggregate-row c = search needs
-
-slice-aggregate-row-2 : tie.Need-slice-aggregate-row-2
-slice-aggregate-row-2 c = search needs
-
 row-requires : tie.Need-row-requires
 row-requires c κs = (c .before .before .before .before .before .pre, rw (c .before .before .before .stopping-widths .ensures, c .before .before .stopping-most .ensures) (stopping-fits (c .before .before .before .before .before .args .kind)))
 
@@ -26,9 +14,9 @@ pub stopping-spec : {M : Type 1} → statement M
 stopping-spec =
     tie.close
     (tie.spec
-    stopping-widths-requires
-    stopping-most-requires
-    slice-aggregate-row
-    slice-aggregate-row-2
+    (λ c κs. search needs)
+    (λ c κs. search needs)
+    (λ c. search needs)
+    (λ c. search needs)
     row-requires
     returns)

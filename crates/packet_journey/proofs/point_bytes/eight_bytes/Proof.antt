@@ -4,9 +4,6 @@ use borrow.Author.Needs.{needs}
 use Rattle.packet_journey.proofs.point_bytes.eight_bytes.Statement.{statement}
 use Rattle.packet_journey.proofs.point_bytes.eight_bytes.Tie as tie
 
-stop-bytes-requires : tie.Need-stop-bytes-requires
-stop-bytes-requires c κs = search needs
-
 returns : tie.Need-returns
 returns c = let a = c .before .before .args in stop-eight (a .doors) (a .leaving) (a .kind) (c .before .if1 .taken) (c .stop-bytes .ensures)
 
@@ -20,4 +17,4 @@ returns-4 : tie.Need-returns-4
 returns-4 c = rw (c .before .before .if1 .left, c .before .if2 .left, c .if3 .left) passing-some
 
 pub eight-bytes-spec : {M : Type 1} → statement M
-eight-bytes-spec = tie.close (tie.spec stop-bytes-requires returns returns-2 returns-3 returns-4)
+eight-bytes-spec = tie.close (tie.spec (λ c κs. search needs) returns returns-2 returns-3 returns-4)

@@ -10,12 +10,6 @@ use Rattle.packet_journey.proofs.point_bytes.latest_bytes.Tie as tie
 returns : tie.Need-returns
 returns c = latest-none (c .before .args .t) (c .if1 .taken)
 
-groups-requires : tie.Need-groups-requires
-groups-requires c κs = search needs
-
-groups-requires-2 : tie.Need-groups-requires-2
-groups-requires-2 c κs = search needs
-
 add-result : tie.Need-add-result
 add-result c = let t = c .before .before .before .args .t in omega (arith, c .before .groups .ensures, c .groups2 .ensures, count-five (t / 131072), count-five (t % 131072))
 
@@ -24,4 +18,4 @@ returns-2 c = latest-some (c .before .before .before .args .t) (search needs) (c
 
 pub latest-bytes-spec : {M : Type 1} → statement M
 latest-bytes-spec =
-    tie.close (tie.spec returns groups-requires groups-requires-2 add-result returns-2)
+    tie.close (tie.spec returns (λ c κs. search needs) (λ c κs. search needs) add-result returns-2)

@@ -16,9 +16,6 @@ returns-2 c = kind-none (c .before .before .args .t) (c .if2 .taken)
 returns-3 : tie.Need-returns-3
 returns-3 c = information-none (c .before .before .before .args .t) (c .if3 .taken)
 
-short-requires : tie.Need-short-requires
-short-requires c κs = search needs
-
 add-result : tie.Need-add-result
 add-result c = omega (arith, c .short .ensures, count-five (c .before .before .before .before .args .t / 128))
 
@@ -27,4 +24,4 @@ returns-4 c = marks-some (c .before .before .before .before .args .t) (c .before
 
 pub marks-bytes-spec : {M : Type 1} → statement M
 marks-bytes-spec =
-    tie.close (tie.spec returns returns-2 returns-3 short-requires add-result returns-4)
+    tie.close (tie.spec returns returns-2 returns-3 (λ c κs. search needs) add-result returns-4)

@@ -10,17 +10,8 @@ use Rattle.packet_journey.proofs.point_bytes.stop_bytes.Tie as tie
 returns : tie.Need-returns
 returns c = let a = c .before .args in leaving-none (a .doors) (a .leaving) (c .before .pre) (c .if1 .taken)
 
-groups-requires : tie.Need-groups-requires
-groups-requires c κs = search needs
-
-groups-requires-2 : tie.Need-groups-requires-2
-groups-requires-2 c κs = search needs
-
 add-result : tie.Need-add-result
 add-result c = let a = c .before .before .before .args in omega (arith, c .before .groups .ensures, c .groups2 .ensures, count-five (a .doors % 32768), count-five (a .leaving / 2048))
-
-short-requires : tie.Need-short-requires
-short-requires c κs = search needs
 
 add-result-2 : tie.Need-add-result-2
 add-result-2 c = let a = c .before .before .before .before .args in omega (arith, c .before .before .groups .ensures, c .before .groups2 .ensures, c .short .ensures, count-five (a .doors % 32768), count-five (a .leaving / 2048), count-five (a .leaving / 2 % 1024))
@@ -36,10 +27,10 @@ stop-bytes-spec =
     tie.close
     (tie.spec
     returns
-    groups-requires
-    groups-requires-2
+    (λ c κs. search needs)
+    (λ c κs. search needs)
     add-result
-    short-requires
+    (λ c κs. search needs)
     add-result-2
     add-result-3
     returns-2)

@@ -23,23 +23,11 @@ loop-holds c = left-all (c .before .pre)
 cut-entry-requires : tie.Need-cut-entry-requires Inv-loop μ-loop
 cut-entry-requires c κs = c .before .loop .inv .stands
 
-enum-known-r : tie.Need-enum-known-r Inv-loop μ-loop
-enum-known-r c = search needs
-
 returns : tie.Need-returns Inv-loop μ-loop
 returns c =
     let l = c .before .before .before .before .before .loop in
     let more = left-as (λ f. entry (entries (l .left - 1) f)) (entries-more (l .left) (omega arith)) (l .inv) in
     left-off entry (entries (l .left - 1)) more (rw (c .before .r .given .1) at (c .before .before .before .cut-entry .ensures))
-
-enum-known-a : tie.Need-enum-known-a Inv-loop μ-loop
-enum-known-a c = search needs
-
-sub-left : tie.Need-sub-left Inv-loop μ-loop
-sub-left c = omega arith
-
-loop-less : tie.Need-loop-less Inv-loop μ-loop
-loop-less c = omega arith
 
 loop-again : tie.Need-loop-again Inv-loop μ-loop
 loop-again c =
@@ -60,10 +48,10 @@ cut-entries-spec =
     μ-loop
     loop-holds
     cut-entry-requires
-    enum-known-r
+    (λ c. search needs)
     returns
-    enum-known-a
-    sub-left
-    loop-less
+    (λ c. search needs)
+    (λ c. omega arith)
+    (λ c. omega arith)
     loop-again
     returns-2)

@@ -7,20 +7,8 @@ use borrow.Author.Needs.{needs}
 use Rattle.packet_segment.proofs.element.cut_wire.Statement.{statement}
 use Rattle.packet_segment.proofs.element.cut_wire.Tie as tie
 
-rule-requires : tie.Need-rule-requires
-rule-requires c κs = search needs
-
 field-requires : tie.Need-field-requires
 field-requires c κs = (c .before .before .pre, rw (c .rule .ensures .kind) (record { some = lit≤ tt; most = lit≤ tt }))
-
-enum-known-r : tie.Need-enum-known-r
-enum-known-r c = search needs
-
-enum-known-u : tie.Need-enum-known-u
-enum-known-u c = search needs
-
-rule-requires-2 : tie.Need-rule-requires-2
-rule-requires-2 c κs = search needs
 
 plain-requires : tie.Need-plain-requires
 plain-requires c κs = ((rw (c .before .before .u .given .1) at (c .before .before .before .before .field .ensures)) .stands, rw (c .rule2 .ensures) (record { some = lit≤ tt; most = lit≤ tt }))
@@ -38,11 +26,11 @@ pub cut-wire-spec : {M : Type 1} → statement M
 cut-wire-spec =
     tie.close
     (tie.spec
-    rule-requires
+    (λ c κs. search needs)
     field-requires
-    enum-known-r
-    enum-known-u
-    rule-requires-2
+    (λ c. search needs)
+    (λ c. search needs)
+    (λ c κs. search needs)
     plain-requires
     returns
     returns-2)

@@ -5,15 +5,6 @@ use borrow.Author.Needs.{needs}
 use Rattle.packet_segment.proofs.element.profile.Statement.{statement}
 use Rattle.packet_segment.proofs.element.profile.Tie as tie
 
-profile-head-requires : tie.Need-profile-head-requires
-profile-head-requires c κs = search needs
-
-enum-known-r : tie.Need-enum-known-r
-enum-known-r c = search needs
-
-enum-known-count : tie.Need-enum-known-count
-enum-known-count c = search needs
-
 entries-requires : tie.Need-entries-requires
 entries-requires c κs = (rw (c .before .count .given .1) at (c .before .before .before .profile-head .ensures)) .stands
 
@@ -27,9 +18,9 @@ pub profile-spec : {M : Type 1} → statement M
 profile-spec =
     tie.close
     (tie.spec
-    profile-head-requires
-    enum-known-r
-    enum-known-count
+    (λ c κs. search needs)
+    (λ c. search needs)
+    (λ c. search needs)
     entries-requires
     returns
     returns-2)

@@ -49,12 +49,6 @@ add-m c =
     let o = entry-passed (now (a .s)) (a .stop) (c .before .whole-entry .ensures .0) h .stands in
     omega (arith, o .counted, o .before, o .few)
 
-sub-left : tie.Need-sub-left Inv-loop μ-loop
-sub-left c = search needs
-
-loop-less : tie.Need-loop-less Inv-loop μ-loop
-loop-less c = search needs
-
 loop-again : tie.Need-loop-again Inv-loop μ-loop
 loop-again c =
     let r = c .before .whole-entry .result in
@@ -82,7 +76,7 @@ whole-entries-spec =
     returns
     add-to
     add-m
-    sub-left
-    loop-less
+    (λ c. search needs)
+    (λ c. search needs)
     loop-again
     returns-2)

@@ -10,19 +10,10 @@ use borrow.Author.Needs.{needs}
 use Rattle.packet_segment.proofs.element.whole_entry.Statement.{statement}
 use Rattle.packet_segment.proofs.element.whole_entry.Tie as tie
 
-cast-read-window : tie.Need-cast-read-window
-cast-read-window c = search needs
-
-read-window-requires : tie.Need-read-window-requires
-read-window-requires c κs = search needs
-
 name-bytes-requires : tie.Need-name-bytes-requires
 name-bytes-requires c κs =
     let a = c .before .before .args in
     omega (arith, c .read-window .ensures, field-small (now (a .s)) (a .at) 13 13 (lit≤ tt))
-
-add-result : tie.Need-add-result
-add-result c = search needs
 
 returns : tie.Need-returns
 returns c =
@@ -36,48 +27,34 @@ returns-2 c =
     let a = b .args in
     (q-refused (now (a .s)) (a .stop) (b .pre .0) (b .pre .1) (c .before .before .before .read-window .ensures) (c .before .before .name-bytes .ensures) refl (omega (arith, c .if2 .left)), lit< tt)
 
-speed-requires : tie.Need-speed-requires
-speed-requires c κs = search needs
-
-add-result-2 : tie.Need-add-result-2
-add-result-2 c = search needs
-
 returns-3 : tie.Need-returns-3
 returns-3 c =
     let b = c .before .before .before .before .before .before in
     let a = b .args in
     (speed-refused (now (a .s)) (a .stop) (b .pre .0) (b .pre .1) (c .before .before .before .before .read-window .ensures) (c .before .before .before .name-bytes .ensures) (c .before .speed .ensures) (c .before .before .if1 .left) (c .if3 .taken), lit< tt)
 
-cast-result : tie.Need-cast-result
-cast-result c = search needs
-
-cast-result-2 : tie.Need-cast-result-2
-cast-result-2 c = search needs
-
-add-result-3 : tie.Need-add-result-3
-add-result-3 c = search needs
-
 returns-4 : tie.Need-returns-4
 returns-4 c =
-    let b = c .before .before .before .before .before .before in
+    let e = c .before .before .before in
+    let b = e .before .before .before in
     let a = b .args in
-    let w = c .before .before .before .before .read-window .result in
-    (entry-counted (now (a .s)) (a .stop) (b .pre .0) (b .pre .1) (c .before .before .before .before .read-window .ensures) (c .before .before .before .name-bytes .ensures) (c .before .speed .ensures) (c .before .before .if1 .left) (c .if3 .left), omega (arith, entry-few (w / 128 / 16) (w / 128 % 16) (w % 128) (c .before .before .before .name-bytes .ensures) (c .before .speed .ensures)))
+    let w = e .before .read-window .result in
+    (entry-counted (now (a .s)) (a .stop) (b .pre .0) (b .pre .1) (e .before .read-window .ensures) (e .name-bytes .ensures) (c .before .speed .ensures) (c .before .before .if1 .left) (c .if3 .left), omega (arith, entry-few (w / 128 / 16) (w / 128 % 16) (w % 128) (e .name-bytes .ensures) (c .before .speed .ensures)))
 
 pub whole-entry-spec : {M : Type 1} → statement M
 whole-entry-spec =
     tie.close
     (tie.spec
-    cast-read-window
-    read-window-requires
+    (λ c. search needs)
+    (λ c κs. search needs)
     name-bytes-requires
-    add-result
+    (λ c. search needs)
     returns
     returns-2
-    speed-requires
-    add-result-2
+    (λ c κs. search needs)
+    (λ c. search needs)
     returns-3
-    cast-result
-    cast-result-2
-    add-result-3
+    (λ c. search needs)
+    (λ c. search needs)
+    (λ c. search needs)
     returns-4)

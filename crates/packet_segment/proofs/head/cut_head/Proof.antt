@@ -6,35 +6,11 @@ use borrow.Author.Needs.{needs}
 use Rattle.packet_segment.proofs.head.cut_head.Statement.{statement}
 use Rattle.packet_segment.proofs.head.cut_head.Tie as tie
 
-run-requires : tie.Need-run-requires
-run-requires c κs = search needs
-
-enum-known-r : tie.Need-enum-known-r
-enum-known-r c = search needs
-
-enum-known-at2 : tie.Need-enum-known-at2
-enum-known-at2 c = search needs
-
-rule-requires : tie.Need-rule-requires
-rule-requires c κs = search needs
-
 field-requires : tie.Need-field-requires
 field-requires c κs = ((rw (c .before .before .at2 .given .1) at (c .before .before .before .before .run .ensures)) .stands, rw (c .rule .ensures .kind) (record { some = lit≤ tt; most = lit≤ tt }))
 
-enum-known-r-2 : tie.Need-enum-known-r-2
-enum-known-r-2 c = search needs
-
-enum-known-lsp : tie.Need-enum-known-lsp
-enum-known-lsp c = search needs
-
 run-requires-2 : tie.Need-run-requires-2
 run-requires-2 c κs = ((rw (c .before .lsp .given .1) at (c .before .before .before .field .ensures)) .stands, lit≤ tt, lit≤ tt)
-
-enum-known-r-3 : tie.Need-enum-known-r-3
-enum-known-r-3 c = search needs
-
-enum-known-at4 : tie.Need-enum-known-at4
-enum-known-at4 c = search needs
 
 returns : tie.Need-returns
 returns c = gave-off (rw (c .before .r .given .1) at (c .before .before .before .run .ensures))
@@ -46,28 +22,30 @@ returns-2 c =
 
 returns-3 : tie.Need-returns-3
 returns-3 c =
-    gave-on (rw (c .before .before .before .before .before .before .before .before .before .before .at2 .given .1) at (c .before .before .before .before .before .before .before .before .before .before .before .before .run .ensures))
-    (gave-stop (gave-took (rw (c .before .before .before .before .before .lsp .given .1, c .before .before .before .before .before .before .before .before .rule .ensures .kind) at (c .before .before .before .before .before .before .before .field .ensures))) (rw (c .before .r3 .given .1) at (c .before .before .before .run2 .ensures)))
+    let b = c .before .before .before .before .before .before .before in
+    gave-on (rw (b .before .before .before .at2 .given .1) at (b .before .before .before .before .before .run .ensures))
+    (gave-stop (gave-took (rw (c .before .before .before .before .before .lsp .given .1, b .before .rule .ensures .kind) at (b .field .ensures))) (rw (c .before .r3 .given .1) at (c .before .before .before .run2 .ensures)))
 
 returns-4 : tie.Need-returns-4
 returns-4 c =
-    gave-on (rw (c .before .before .before .before .before .before .before .before .before .before .at2 .given .1) at (c .before .before .before .before .before .before .before .before .before .before .before .before .run .ensures))
-    (gave-then (gave-took (rw (c .before .before .before .before .before .lsp .given .1, c .before .before .before .before .before .before .before .before .rule .ensures .kind) at (c .before .before .before .before .before .before .before .field .ensures))) (rw (c .before .at4 .given .1) at (c .before .before .before .run2 .ensures)))
+    let b = c .before .before .before .before .before .before .before in
+    gave-on (rw (b .before .before .before .at2 .given .1) at (b .before .before .before .before .before .run .ensures))
+    (gave-then (gave-took (rw (c .before .before .before .before .before .lsp .given .1, b .before .rule .ensures .kind) at (b .field .ensures))) (rw (c .before .at4 .given .1) at (c .before .before .before .run2 .ensures)))
 
 pub cut-head-spec : {M : Type 1} → statement M
 cut-head-spec =
     tie.close
     (tie.spec
-    run-requires
-    enum-known-r
-    enum-known-at2
-    rule-requires
+    (λ c κs. search needs)
+    (λ c. search needs)
+    (λ c. search needs)
+    (λ c κs. search needs)
     field-requires
-    enum-known-r-2
-    enum-known-lsp
+    (λ c. search needs)
+    (λ c. search needs)
     run-requires-2
-    enum-known-r-3
-    enum-known-at4
+    (λ c. search needs)
+    (λ c. search needs)
     returns
     returns-2
     returns-3

@@ -7,45 +7,6 @@ use borrow.Author.Needs.{needs}
 use Rattle.packet_segment.proofs.head.rule_of.Statement.{statement}
 use Rattle.packet_segment.proofs.head.rule_of.Tie as tie
 
-rule-requires : tie.Need-rule-requires
-rule-requires c κs = search needs
-
-rule-requires-2 : tie.Need-rule-requires-2
-rule-requires-2 c κs = search needs
-
-rule-requires-3 : tie.Need-rule-requires-3
-rule-requires-3 c κs = search needs
-
-rule-requires-4 : tie.Need-rule-requires-4
-rule-requires-4 c κs = search needs
-
-rule-requires-5 : tie.Need-rule-requires-5
-rule-requires-5 c κs = search needs
-
-rule-requires-6 : tie.Need-rule-requires-6
-rule-requires-6 c κs = search needs
-
-rule-requires-7 : tie.Need-rule-requires-7
-rule-requires-7 c κs = search needs
-
-rule-requires-8 : tie.Need-rule-requires-8
-rule-requires-8 c κs = search needs
-
-rule-requires-9 : tie.Need-rule-requires-9
-rule-requires-9 c κs = search needs
-
-rule-requires-10 : tie.Need-rule-requires-10
-rule-requires-10 c κs = search needs
-
-rule-requires-11 : tie.Need-rule-requires-11
-rule-requires-11 c κs = search needs
-
-rule-requires-12 : tie.Need-rule-requires-12
-rule-requires-12 c κs = search needs
-
-rule-requires-13 : tie.Need-rule-requires-13
-rule-requires-13 c κs = search needs
-
 returns : tie.Need-returns
 unfolding kindAt
 returns c = let e : c .before .before .args .i ≡ 0 = omega arith in rw e (c .rule .ensures .kind)
@@ -106,19 +67,19 @@ pub rule-of-spec : {M : Type 1} → statement M
 rule-of-spec =
     tie.close
     (tie.spec
-    rule-requires
-    rule-requires-2
-    rule-requires-3
-    rule-requires-4
-    rule-requires-5
-    rule-requires-6
-    rule-requires-7
-    rule-requires-8
-    rule-requires-9
-    rule-requires-10
-    rule-requires-11
-    rule-requires-12
-    rule-requires-13
+    (λ c κs. search needs)
+    (λ c κs. search needs)
+    (λ c κs. search needs)
+    (λ c κs. search needs)
+    (λ c κs. search needs)
+    (λ c κs. search needs)
+    (λ c κs. search needs)
+    (λ c κs. search needs)
+    (λ c κs. search needs)
+    (λ c κs. search needs)
+    (λ c κs. search needs)
+    (λ c κs. search needs)
+    (λ c κs. search needs)
     returns
     returns-2
     returns-3

@@ -29,34 +29,24 @@ rule-of-requires c κs = omega (arith, c .before .before .before .pre .2)
 plain-requires : tie.Need-plain-requires Inv-loop μ-loop
 plain-requires c κs = let l = c .before .before .loop in let w = kind-wide (l .i) (omega (arith, c .before .before .before .before .pre .2)) in (l .inv .0 .stands, rw (c .rule-of .ensures) (record { some = w .some; most = w .most }))
 
-enum-known-r : tie.Need-enum-known-r Inv-loop μ-loop
-enum-known-r c = search needs
-
 returns : tie.Need-returns Inv-loop μ-loop
 returns c =
-    let a = c .before .before .before .before .before .before .before .before .args in
-    let l = c .before .before .before .before .before .before .loop in
-    let k = meaning (c .before .before .before .before .rule-of .result) in
-    let more = left-as (λ f. then k (runs (l .i + 1) (a .end - l .i - 1) f)) (λ f. runs-more (l .i) (a .end - l .i) (omega arith) f ∙ ap (λ (j : Kind). then j (runs (l .i + 1) (a .end - l .i - 1) f)) (sym (c .before .before .before .before .rule-of .ensures))) (l .inv .0) in
-    left-off (then k) (runs (l .i + 1) (a .end - l .i - 1)) more (rw (c .before .r .given .1) at (c .before .before .before .plain .ensures))
-
-enum-known-a : tie.Need-enum-known-a Inv-loop μ-loop
-enum-known-a c = search needs
-
-add-i : tie.Need-add-i Inv-loop μ-loop
-add-i c = omega arith
-
-loop-less : tie.Need-loop-less Inv-loop μ-loop
-loop-less c = omega arith
+    let b = c .before .before .before in
+    let a = b .before .before .before .before .before .args in
+    let l = b .before .before .before .loop in
+    let k = meaning (b .before .rule-of .result) in
+    let more = left-as (λ f. then k (runs (l .i + 1) (a .end - l .i - 1) f)) (λ f. runs-more (l .i) (a .end - l .i) (omega arith) f ∙ ap (λ (j : Kind). then j (runs (l .i + 1) (a .end - l .i - 1) f)) (sym (b .before .rule-of .ensures))) (l .inv .0) in
+    left-off (then k) (runs (l .i + 1) (a .end - l .i - 1)) more (rw (c .before .r .given .1) at (b .plain .ensures))
 
 loop-again : tie.Need-loop-again Inv-loop μ-loop
 loop-again c =
-    let a = c .before .before .before .before .before .before .before .before .args in
-    let l = c .before .before .before .before .before .before .loop in
-    let k = meaning (c .before .before .before .before .rule-of .result) in
-    let more = left-as (λ f. then k (runs (l .i + 1) (a .end - l .i - 1) f)) (λ f. runs-more (l .i) (a .end - l .i) (omega arith) f ∙ ap (λ (j : Kind). then j (runs (l .i + 1) (a .end - l .i - 1) f)) (sym (c .before .before .before .before .rule-of .ensures))) (l .inv .0) in
+    let b = c .before .before .before in
+    let a = b .before .before .before .before .before .args in
+    let l = b .before .before .before .loop in
+    let k = meaning (b .before .rule-of .result) in
+    let more = left-as (λ f. then k (runs (l .i + 1) (a .end - l .i - 1) f)) (λ f. runs-more (l .i) (a .end - l .i) (omega arith) f ∙ ap (λ (j : Kind). then j (runs (l .i + 1) (a .end - l .i - 1) f)) (sym (b .before .rule-of .ensures))) (l .inv .0) in
     let e : a .end - (l .i + 1) ≡ a .end - l .i - 1 = omega arith in
-    (rw e (left-on (then k) (runs (l .i + 1) (a .end - l .i - 1)) more (rw (c .before .a .given .1) at (c .before .before .before .plain .ensures))), omega arith, omega arith)
+    (rw e (left-on (then k) (runs (l .i + 1) (a .end - l .i - 1)) more (rw (c .before .a .given .1) at (b .plain .ensures))), omega arith, omega arith)
 
 returns-2 : tie.Need-returns-2 Inv-loop μ-loop
 returns-2 c =
@@ -73,10 +63,10 @@ run-spec =
     loop-holds
     rule-of-requires
     plain-requires
-    enum-known-r
+    (λ c. search needs)
     returns
-    enum-known-a
-    add-i
-    loop-less
+    (λ c. search needs)
+    (λ c. omega arith)
+    (λ c. omega arith)
     loop-again
     returns-2)

@@ -4,14 +4,8 @@ use borrow.Author.Needs.{needs}
 use Rattle.packet_write_journey.proofs.constraint.constraint.Statement.{statement}
 use Rattle.packet_write_journey.proofs.constraint.constraint.Tie as tie
 
-location-requires : tie.Need-location-requires
-location-requires c κs = search needs
-
 restriction-requires : tie.Need-restriction-requires
 restriction-requires c κs = restriction-ready (c .before .before .before .before .before .before .before .before .pre) (c .before .before .before .before .location .ensures)
-
-same-length : tie.Need-same-length
-same-length c = search needs
 
 returns : tie.Need-returns
 returns c = constraint-wrote (c .before .before .before .before .before .before .before .before .before .before .before .pre) (c .before .before .before .before .before .before .before .location .ensures) (c .before .before .restriction .ensures)
@@ -20,7 +14,7 @@ pub constraint-spec : {M : Type 1} → statement M
 constraint-spec =
     tie.close
     (tie.spec
-    location-requires
+    (λ c κs. search needs)
     restriction-requires
-    same-length
+    (λ c. search needs)
     returns)

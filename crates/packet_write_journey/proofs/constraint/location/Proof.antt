@@ -56,29 +56,25 @@ add-at c = omega (arith, at-small (c .before .before .before .before .before .be
 
 put-requires-2 : tie.Need-put-requires-2
 put-requires-2 c κs =
-    let h = c .before .before .before .before .before .before .before .before .before .before .before .before .before .before .before .pre in
-    let t = c .before .before .before .before .before .before .before .before .before .before .before .before .number .ensures in
-    let g = c .before .before .before .before .before .before .before .before .before .before .before .number2 .ensures in
-    let a = c .before .before .before .before .before .before .before .before .before .before .number3 .ensures in
-    let e = c .before .before .before .before .before .before .before .before .before .number4 .ensures in
+    let b = c .before .before .before .before .before .before .before .before .before in
+    let h = b .before .before .before .before .before .before .pre in
+    let t = b .before .before .before .number .ensures in
+    let g = b .before .before .number2 .ensures in
+    let a = b .before .number3 .ensures in
+    let e = b .number4 .ensures in
     (lit< tt, lit≤ tt, end-small h t g a e)
-
-cast-t19 : tie.Need-cast-t19
-cast-t19 c = search needs
 
 add-t20 : tie.Need-add-t20
 add-t20 c = omega (arith, at-small (c .before .before .before .before .before .before .before .before .before .before .before .before .before .before .before .before .before .before .pre))
 
-same-length : tie.Need-same-length
-same-length c = search needs
-
 returns : tie.Need-returns
 returns c =
-    let h = c .before .before .before .before .before .before .before .before .before .before .before .before .before .before .before .before .before .before .pre in
-    let t = c .before .before .before .before .before .before .before .before .before .before .before .before .before .before .before .number .ensures in
-    let g = c .before .before .before .before .before .before .before .before .before .before .before .before .before .before .number2 .ensures in
-    let a = c .before .before .before .before .before .before .before .before .before .before .before .before .before .number3 .ensures in
-    let e = c .before .before .before .before .before .before .before .before .before .before .before .before .number4 .ensures in
+    let b = c .before .before .before .before .before .before .before .before .before .before .before .before in
+    let h = b .before .before .before .before .before .before .pre in
+    let t = b .before .before .before .number .ensures in
+    let g = b .before .before .number2 .ensures in
+    let a = b .before .number3 .ensures in
+    let e = b .number4 .ensures in
     begun h t g a e (c .before .before .before .before .before .before .before .put .ensures) (c .before .before .put2 .ensures)
 
 pub location-spec : {M : Type 1} → statement M
@@ -96,7 +92,7 @@ location-spec =
     put-requires
     add-at
     put-requires-2
-    cast-t19
+    (λ c. search needs)
     add-t20
-    same-length
+    (λ c. search needs)
     returns)

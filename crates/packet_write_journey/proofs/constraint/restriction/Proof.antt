@@ -33,9 +33,6 @@ number-requires-4 c κs =
     let a = c .number3 .ensures in
     current-there (c .before .before .before .before .before .args .of) h t v refl a
 
-speed-steps-requires : tie.Need-speed-steps-requires
-speed-steps-requires c κs = search needs
-
 -- the three numbers fit their widths
 small : (c : tie.After-speed-steps) → (c .before .before .before .before .number .result .value < 2) × (c .speed-steps .result < 128) × (c .before .before .number3 .result .value < 8)
 small c =
@@ -66,9 +63,6 @@ put-requires c κs = (lit< tt, lit≤ tt, omega (arith, small (c .before .before
 add-t20 : tie.Need-add-t20
 add-t20 c = omega (arith, at-small (c .before .before .before .before .before .before .before .before .before .before .before .before .before .before .pre))
 
-same-length : tie.Need-same-length
-same-length c = search needs
-
 returns : tie.Need-returns
 returns c =
     let d = c .before .before .before .before .before .before .before in
@@ -85,7 +79,7 @@ restriction-spec =
     number-requires-2
     number-requires-3
     number-requires-4
-    speed-steps-requires
+    (λ c κs. search needs)
     mul-bits
     mul-bits-2
     add-bits
@@ -94,5 +88,5 @@ restriction-spec =
     add-bits-3
     put-requires
     add-t20
-    same-length
+    (λ c. search needs)
     returns)

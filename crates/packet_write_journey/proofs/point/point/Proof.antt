@@ -14,11 +14,10 @@ number-requires c κs = (point-stop (c .before .before .before .before .before .
 stopping-requires : tie.Need-stopping-requires
 stopping-requires c κs = point-stopping (c .before .before .before .before .before .before .before .before .before .before .before .before .pre) (c .before .before .before .before .before .before .before .before .arrival .ensures) (c .before .before .before .before .number .ensures)
 
-same-length : tie.Need-same-length
-same-length c = search needs
-
 returns : tie.Need-returns
-returns c = point-wrote (c .before .before .before .before .before .before .before .before .before .before .before .before .before .before .before .pre) (c .before .before .before .before .before .before .before .before .before .before .before .arrival .ensures) (c .before .before .before .before .before .before .before .number .ensures) (c .before .before .stopping .ensures)
+returns c =
+    let b = c .before .before .before .before .before .before .before in
+    point-wrote (b .before .before .before .before .before .before .before .before .pre) (b .before .before .before .before .arrival .ensures) (b .number .ensures) (c .before .before .stopping .ensures)
 
 pub point-spec : {M : Type 1} → statement M
-point-spec = tie.close (tie.spec arrival-requires number-requires stopping-requires same-length returns)
+point-spec = tie.close (tie.spec arrival-requires number-requires stopping-requires (λ c. search needs) returns)

@@ -17,11 +17,8 @@ put-requires c κs =
 add-t11 : tie.Need-add-t11
 add-t11 c = omega (arith, at-small (c .before .before .before .before .before .before .before .before .pre .0 .ready))
 
-same-length : tie.Need-same-length
-same-length c = search needs
-
 returns : tie.Need-returns
 returns c = number-gives (c .before .before .before .before .before .before .before .before .pre .0) (c .before .before .before .before .before .number .ensures) (c .before .before .before .put .ensures)
 
 pub number-spec : {M : Type 1} → statement M
-number-spec = tie.close (tie.spec number-requires put-requires add-t11 same-length returns)
+number-spec = tie.close (tie.spec number-requires put-requires add-t11 (λ c. search needs) returns)

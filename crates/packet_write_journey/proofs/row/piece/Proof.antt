@@ -37,26 +37,14 @@ number-requires c κs = gathers-there (c .before .loop .inv) (c .loop-test .take
 mul-bits : tie.Need-mul-bits Inv-loop μ-loop
 mul-bits c = let p = c .before .before .before .before .before .before .before .before .pre .1 in omega (arith, p .inside)
 
-shared-slice-read-bits : tie.Need-shared-slice-read-bits Inv-loop μ-loop
-shared-slice-read-bits c = omega arith
-
 cast-bits : tie.Need-cast-bits Inv-loop μ-loop
 cast-bits c = omega (arith, gathers-narrow (c .before .before .before .loop .inv) (c .before .before .loop-test .taken))
 
 shl-bits : tie.Need-shl-bits Inv-loop μ-loop
 shl-bits c = omega (arith, gathers-narrow (c .before .before .before .loop .inv) (c .before .before .loop-test .taken))
 
-cast-bits-2 : tie.Need-cast-bits-2 Inv-loop μ-loop
-cast-bits-2 c = omega arith
-
 add-bits : tie.Need-add-bits Inv-loop μ-loop
 add-bits c = omega (arith, joined-small (c .before .before .before .before .loop .inv) (c .before .before .before .loop-test .taken) (c .before .before .number .ensures))
-
-add-i : tie.Need-add-i Inv-loop μ-loop
-add-i c = omega arith
-
-loop-less : tie.Need-loop-less Inv-loop μ-loop
-loop-less c = omega arith
 
 loop-again : tie.Need-loop-again Inv-loop μ-loop
 loop-again c = gathers-more (c .before .before .before .before .loop .inv) (c .before .before .before .loop-test .taken) (c .before .before .number .ensures)
@@ -91,13 +79,13 @@ piece-spec =
     loop-holds
     number-requires
     mul-bits
-    shared-slice-read-bits
+    (λ c. omega arith)
     cast-bits
     shl-bits
-    cast-bits-2
+    (λ c. omega arith)
     add-bits
-    add-i
-    loop-less
+    (λ c. omega arith)
+    (λ c. omega arith)
     loop-again
     cast-put
     put-requires

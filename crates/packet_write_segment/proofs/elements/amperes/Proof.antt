@@ -10,22 +10,13 @@ use Rattle.packet_write_segment.proofs.elements.amperes.Tie as tie
 number-requires : tie.Need-number-requires
 number-requires c κs = current-there (c .before .before .pre)
 
-current-steps-requires : tie.Need-current-steps-requires
-current-steps-requires c κs = search needs
-
 put-requires : tie.Need-put-requires
 put-requires c κs =
     (lit< tt, lit≤ tt, current-small (c .before .before .before .before .before .pre) (c .before .before .number .ensures) (c .current-steps .ensures))
 
-cast-t9 : tie.Need-cast-t9
-cast-t9 c = search needs
-
 add-t10 : tie.Need-add-t10
 add-t10 c =
     omega (arith, at-small (c .before .before .before .before .before .before .before .before .before .pre))
-
-same-length : tie.Need-same-length
-same-length c = search needs
 
 returns : tie.Need-returns
 returns c =
@@ -36,9 +27,9 @@ amperes-spec =
     tie.close
     (tie.spec
     number-requires
-    current-steps-requires
+    (λ c κs. search needs)
     put-requires
-    cast-t9
+    (λ c. search needs)
     add-t10
-    same-length
+    (λ c. search needs)
     returns)

@@ -24,12 +24,6 @@ entry-requires c κs =
     let more = along-as (λ f. entry (entries (l .left - 1) f)) (entries-more (l .left) (omega arith)) (l .inv) in
     (along-next entry (entries (l .left - 1)) more (c .before .before .before .before .before .before .pre), refl)
 
-sub-left : tie.Need-sub-left Inv-loop μ-loop
-sub-left c = omega arith
-
-loop-less : tie.Need-loop-less Inv-loop μ-loop
-loop-less c = omega arith
-
 loop-again : tie.Need-loop-again Inv-loop μ-loop
 loop-again c =
     let l = c .before .before .before .before .before .before .loop in
@@ -52,8 +46,8 @@ entries-spec =
     μ-loop
     loop-holds
     entry-requires
-    sub-left
-    loop-less
+    (λ c. omega arith)
+    (λ c. omega arith)
     loop-again
     same-length
     returns)

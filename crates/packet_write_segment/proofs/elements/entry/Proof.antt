@@ -18,9 +18,6 @@ number-requires c κs = entry-second (c .before .before .before .pre .0) (c .sin
 number-requires-2 : tie.Need-number-requires-2
 number-requires-2 c κs = entry-third (c .before .before .before .before .pre .0) (c .before .single .ensures) (c .number .ensures) refl
 
-class-place-requires : tie.Need-class-place-requires
-class-place-requires c κs = search needs
-
 -- the qualifier and the class fit their widths
 named : (c : tie.After-class-place) → (c .before .before .before .single .result .value < 4) × (c .class-place .result < 16)
 named c =
@@ -41,9 +38,6 @@ mul-bits-2 c = omega (arith, named (c .before))
 add-bits : tie.Need-add-bits
 add-bits c = omega (arith, named (c .before))
 
-speed-steps-requires : tie.Need-speed-steps-requires
-speed-steps-requires c κs = search needs
-
 add-bits-2 : tie.Need-add-bits-2
 add-bits-2 c = omega (arith, named (c .before .before), speed c)
 
@@ -54,12 +48,10 @@ add-t17 : tie.Need-add-t17
 add-t17 c =
     omega (arith, at-small (c .before .before .before .before .before .before .before .before .before .before .before .before .before .pre .0))
 
-same-length : tie.Need-same-length
-same-length c = search needs
-
 returns : tie.Need-returns
 returns c =
-    entry-wrote (c .before .before .before .before .before .before .before .before .before .before .before .before .before .pre .0) (c .before .before .before .before .before .before .before .before .before .before .single .ensures) (c .before .before .before .before .before .before .before .before .before .number .ensures) (c .before .before .before .before .before .before .before .class-place .ensures) (c .before .before .before .before .before .before .before .before .number2 .ensures) (c .before .before .before .before .before .speed-steps .ensures) (c .before .before .before .put .ensures)
+    let b = c .before .before .before .before .before .before .before in
+    entry-wrote (b .before .before .before .before .before .before .pre .0) (b .before .before .before .single .ensures) (b .before .before .number .ensures) (b .class-place .ensures) (b .before .number2 .ensures) (c .before .before .before .before .before .speed-steps .ensures) (c .before .before .before .put .ensures)
 
 pub entry-spec : {M : Type 1} → statement M
 entry-spec =
@@ -68,13 +60,13 @@ entry-spec =
     single-requires
     number-requires
     number-requires-2
-    class-place-requires
+    (λ c κs. search needs)
     mul-bits
     mul-bits-2
     add-bits
-    speed-steps-requires
+    (λ c κs. search needs)
     add-bits-2
     put-requires
     add-t17
-    same-length
+    (λ c. search needs)
     returns)

@@ -19,9 +19,6 @@ single-requires c κs = profile-second (c .before .before .before .pre) (c .numb
 single-requires-2 : tie.Need-single-requires-2
 single-requires-2 c κs = profile-third (c .before .before .before .before .pre) (c .before .number .ensures) refl (c .single .ensures)
 
-speed-steps-requires : tie.Need-speed-steps-requires
-speed-steps-requires c κs = search needs
-
 -- the three numbers fit their widths
 small : (c : tie.After-speed-steps) → (c .speed-steps .result < 128) × (c .before .before .single .result .value < 2) × (c .before .single2 .result .value < 32)
 small c =
@@ -52,16 +49,15 @@ add-t16 c =
 
 entries-requires : tie.Need-entries-requires
 entries-requires c κs =
-    let l = profile-along (c .before .before .before .before .before .before .before .before .before .before .before .before .before .before .pre) (c .before .before .before .before .before .before .before .before .before .before .before .number .ensures) (c .before .before .before .before .before .before .before .before .speed-steps .ensures) (c .before .before .before .before .before .before .before .before .before .before .single .ensures) (c .before .before .before .before .before .before .before .before .before .single2 .ensures) (c .before .before .before .before .put .ensures) in
-    along-next (entries (c .before .before .before .before .before .before .before .before .before .single2 .result .value)) (λ f. f) l (c .before .before .before .before .before .before .before .before .before .before .before .before .before .before .pre)
-
-same-length : tie.Need-same-length
-same-length c = search needs
+    let b = c .before .before .before .before .before .before .before .before in
+    let l = profile-along (b .before .before .before .before .before .before .pre) (b .before .before .before .number .ensures) (b .speed-steps .ensures) (b .before .before .single .ensures) (b .before .single2 .ensures) (c .before .before .before .before .put .ensures) in
+    along-next (entries (b .before .single2 .result .value)) (λ f. f) l (b .before .before .before .before .before .before .pre)
 
 returns : tie.Need-returns
 returns c =
-    let l = profile-along (c .before .before .before .before .before .before .before .before .before .before .before .before .before .before .before .before .before .pre) (c .before .before .before .before .before .before .before .before .before .before .before .before .before .before .number .ensures) (c .before .before .before .before .before .before .before .before .before .before .before .speed-steps .ensures) (c .before .before .before .before .before .before .before .before .before .before .before .before .before .single .ensures) (c .before .before .before .before .before .before .before .before .before .before .before .before .single2 .ensures) (c .before .before .before .before .before .before .before .put .ensures) in
-    along-none (along-on (entries (c .before .before .before .before .before .before .before .before .before .before .before .before .single2 .result .value)) (λ f. f) l (c .before .before .entries .ensures))
+    let b = c .before .before .before .before .before .before .before .before .before .before .before in
+    let l = profile-along (b .before .before .before .before .before .before .pre) (b .before .before .before .number .ensures) (b .speed-steps .ensures) (b .before .before .single .ensures) (b .before .single2 .ensures) (c .before .before .before .before .before .before .before .put .ensures) in
+    along-none (along-on (entries (b .before .single2 .result .value)) (λ f. f) l (c .before .before .entries .ensures))
 
 pub profile-spec : {M : Type 1} → statement M
 profile-spec =
@@ -70,7 +66,7 @@ profile-spec =
     number-requires
     single-requires
     single-requires-2
-    speed-steps-requires
+    (λ c κs. search needs)
     mul-bits
     mul-bits-2
     add-bits
@@ -78,5 +74,5 @@ profile-spec =
     put-requires
     add-t16
     entries-requires
-    same-length
+    (λ c. search needs)
     returns)

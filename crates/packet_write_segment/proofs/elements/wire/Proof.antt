@@ -14,9 +14,6 @@ number-requires c κs = wire-first (c .before .before .pre)
 number-requires-2 : tie.Need-number-requires-2
 number-requires-2 c κs = wire-second (c .before .before .before .pre) (c .number .ensures) refl
 
-volts-place-requires : tie.Need-volts-place-requires
-volts-place-requires c κs = search needs
-
 mul-bits : tie.Need-mul-bits
 mul-bits c =
     omega (arith, wire-volts (c .before .before .before .before .before .pre) (c .before .before .number .ensures) (c .volts-place .ensures))
@@ -27,18 +24,17 @@ add-bits c =
 
 put-requires : tie.Need-put-requires
 put-requires c κs =
-    (lit< tt, lit≤ tt, omega (arith, wire-volts (c .before .before .before .before .before .before .before .pre) (c .before .before .before .before .number .ensures) (c .before .before .volts-place .ensures), wire-traction (c .before .before .before .before .before .before .before .pre) (c .before .before .before .before .number .ensures) (c .before .before .volts-place .ensures) (c .before .before .before .number2 .ensures)))
+    let b = c .before .before in
+    (lit< tt, lit≤ tt, omega (arith, wire-volts (b .before .before .before .before .before .pre) (b .before .before .number .ensures) (b .volts-place .ensures), wire-traction (b .before .before .before .before .before .pre) (b .before .before .number .ensures) (b .volts-place .ensures) (b .before .number2 .ensures)))
 
 add-t12 : tie.Need-add-t12
 add-t12 c =
     omega (arith, at-small (c .before .before .before .before .before .before .before .before .before .before .before .pre))
 
-same-length : tie.Need-same-length
-same-length c = search needs
-
 returns : tie.Need-returns
 returns c =
-    wire-wrote (c .before .before .before .before .before .before .before .before .before .before .before .pre) (c .before .before .before .before .before .before .before .before .number .ensures) (c .before .before .before .before .before .before .volts-place .ensures) (c .before .before .before .before .before .before .before .number2 .ensures) (c .before .before .before .put .ensures)
+    let b = c .before .before .before .before .before .before in
+    wire-wrote (b .before .before .before .before .before .pre) (b .before .before .number .ensures) (b .volts-place .ensures) (b .before .number2 .ensures) (c .before .before .before .put .ensures)
 
 pub wire-spec : {M : Type 1} → statement M
 wire-spec =
@@ -46,10 +42,10 @@ wire-spec =
     (tie.spec
     number-requires
     number-requires-2
-    volts-place-requires
+    (λ c κs. search needs)
     mul-bits
     add-bits
     put-requires
     add-t12
-    same-length
+    (λ c. search needs)
     returns)

@@ -21,44 +21,22 @@ abbrev μ-loop : tie.MeasureT-loop
 loop-holds : tie.Need-loop-holds Inv-loop μ-loop
 loop-holds c = (left-all (c .before .before .before .pre .0), omega arith)
 
-mul-ranged : tie.Need-mul-ranged Inv-loop μ-loop
-mul-ranged c = omega arith
-
-shared-slice-read-ranged : tie.Need-shared-slice-read-ranged Inv-loop μ-loop
-shared-slice-read-ranged c = omega arith
-
-mul-ranged-2 : tie.Need-mul-ranged-2 Inv-loop μ-loop
-mul-ranged-2 c = omega arith
-
-shared-slice-read-ranged-2 : tie.Need-shared-slice-read-ranged-2 Inv-loop μ-loop
-shared-slice-read-ranged-2 c = omega arith
-
 ranged-requires : tie.Need-ranged-requires Inv-loop μ-loop
 ranged-requires c κs = c .before .before .before .loop .inv .0 .stands
 
-enum-known-r : tie.Need-enum-known-r Inv-loop μ-loop
-enum-known-r c = search needs
-
 returns : tie.Need-returns Inv-loop μ-loop
 returns c =
-    let a = c .before .before .before .before .before .before .before .before .before .before .before .args in
-    let l = c .before .before .before .before .before .before .before .loop in
-    row-off (now (a .widths)) (now (a .most)) (l .i) (l .inv .0) (c .before .before .before .before .before .before .loop-test .taken) (c .before .before .before .before .before .before .before .before .before .before .before .pre .1) (rw (c .before .r .given .1) at (c .before .before .before .ranged .ensures))
-
-enum-known-a : tie.Need-enum-known-a Inv-loop μ-loop
-enum-known-a c = search needs
-
-add-i : tie.Need-add-i Inv-loop μ-loop
-add-i c = omega arith
-
-loop-less : tie.Need-loop-less Inv-loop μ-loop
-loop-less c = omega arith
+    let b = c .before .before .before .before .before .before in
+    let a = b .before .before .before .before .before .args in
+    let l = b .before .loop in
+    row-off (now (a .widths)) (now (a .most)) (l .i) (l .inv .0) (b .loop-test .taken) (b .before .before .before .before .before .pre .1) (rw (c .before .r .given .1) at (c .before .before .before .ranged .ensures))
 
 loop-again : tie.Need-loop-again Inv-loop μ-loop
 loop-again c =
-    let a = c .before .before .before .before .before .before .before .before .before .before .before .args in
-    let l = c .before .before .before .before .before .before .before .loop in
-    (row-on (now (a .widths)) (now (a .most)) (l .i) (l .inv .0) (c .before .before .before .before .before .before .loop-test .taken) (c .before .before .before .before .before .before .before .before .before .before .before .pre .1) (rw (c .before .a .given .1) at (c .before .before .before .ranged .ensures)), omega arith)
+    let b = c .before .before .before .before .before .before in
+    let a = b .before .before .before .before .before .args in
+    let l = b .before .loop in
+    (row-on (now (a .widths)) (now (a .most)) (l .i) (l .inv .0) (b .loop-test .taken) (b .before .before .before .before .before .pre .1) (rw (c .before .a .given .1) at (c .before .before .before .ranged .ensures)), omega arith)
 
 returns-2 : tie.Need-returns-2 Inv-loop μ-loop
 returns-2 c =
@@ -69,4 +47,4 @@ returns-2 c =
 pub row-spec : {M : Type 1} → statement M
 row-spec =
     tie.close
-    (tie.spec Inv-loop μ-loop loop-holds mul-ranged shared-slice-read-ranged mul-ranged-2 shared-slice-read-ranged-2 ranged-requires enum-known-r returns enum-known-a add-i loop-less loop-again returns-2)
+    (tie.spec Inv-loop μ-loop loop-holds (λ c. omega arith) (λ c. omega arith) (λ c. omega arith) (λ c. omega arith) ranged-requires (λ c. search needs) returns (λ c. search needs) (λ c. omega arith) (λ c. omega arith) loop-again returns-2)

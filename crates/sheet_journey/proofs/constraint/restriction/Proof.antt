@@ -4,38 +4,11 @@ use borrow.Author.Needs.{needs}
 use Rattle.sheet_journey.proofs.constraint.restriction.Statement.{statement}
 use Rattle.sheet_journey.proofs.constraint.restriction.Tie as tie
 
-most-requires : tie.Need-most-requires
-most-requires c κs = search needs
-
-up-to-requires : tie.Need-up-to-requires
-up-to-requires c κs = search needs
-
-enum-known-r : tie.Need-enum-known-r
-enum-known-r c = search needs
-
-enum-known-at2 : tie.Need-enum-known-at2
-enum-known-at2 c = search needs
-
 level-requires : tie.Need-level-requires
 level-requires c κs = (rw (c .before .at2 .given .1) at (c .before .before .before .up-to .ensures)) .stands
 
-enum-known-r-2 : tie.Need-enum-known-r-2
-enum-known-r-2 c = search needs
-
-enum-known-at3 : tie.Need-enum-known-at3
-enum-known-at3 c = search needs
-
-most-requires-2 : tie.Need-most-requires-2
-most-requires-2 c κs = search needs
-
 up-to-requires-2 : tie.Need-up-to-requires-2
 up-to-requires-2 c κs = (rw (c .before .before .at3 .given .1) at (c .before .before .before .before .level .ensures)) .stands
-
-enum-known-r-3 : tie.Need-enum-known-r-3
-enum-known-r-3 c = search needs
-
-enum-known-at4 : tie.Need-enum-known-at4
-enum-known-at4 c = search needs
 
 no-current-requires : tie.Need-no-current-requires
 no-current-requires c κs = (rw (c .before .at4 .given .1) at (c .before .before .before .up-to2 .ensures)) .stands
@@ -44,34 +17,40 @@ returns : tie.Need-returns
 returns c = over-off (rw (c .before .before .before .before .most .ensures, c .before .r .given .1) at (c .before .before .before .up-to .ensures))
 
 returns-2 : tie.Need-returns-2
-returns-2 c = over-on (rw (c .before .before .before .before .before .before .before .before .most .ensures, c .before .before .before .before .before .at2 .given .1) at (c .before .before .before .before .before .before .before .up-to .ensures))
+returns-2 c =
+    let b = c .before .before .before .before .before in
+    over-on (rw (b .before .before .before .most .ensures, b .at2 .given .1) at (b .before .before .up-to .ensures))
     (over-off (rw (c .before .r2 .given .1) at (c .before .before .before .level .ensures)))
 
 returns-3 : tie.Need-returns-3
-returns-3 c = over-on (rw (c .before .before .before .before .before .before .before .before .before .before .before .before .before .most .ensures, c .before .before .before .before .before .before .before .before .before .before .at2 .given .1) at (c .before .before .before .before .before .before .before .before .before .before .before .before .up-to .ensures))
-    (over-on (rw (c .before .before .before .before .before .before .at3 .given .1) at (c .before .before .before .before .before .before .before .before .level .ensures))
+returns-3 c =
+    let b = c .before .before .before .before .before .before in
+    over-on (rw (b .before .before .before .before .before .before .before .most .ensures, b .before .before .before .before .at2 .given .1) at (b .before .before .before .before .before .before .up-to .ensures))
+    (over-on (rw (b .at3 .given .1) at (b .before .before .level .ensures))
     (over-off (rw (c .before .before .before .before .most2 .ensures, c .before .r3 .given .1) at (c .before .before .before .up-to2 .ensures))))
 
 returns-4 : tie.Need-returns-4
-returns-4 c = over-on (rw (c .before .before .before .before .before .before .before .before .before .before .before .before .before .before .most .ensures, c .before .before .before .before .before .before .before .before .before .before .before .at2 .given .1) at (c .before .before .before .before .before .before .before .before .before .before .before .before .before .up-to .ensures))
-    (over-on (rw (c .before .before .before .before .before .before .before .at3 .given .1) at (c .before .before .before .before .before .before .before .before .before .level .ensures))
+returns-4 c =
+    let b = c .before .before .before .before .before .before .before in
+    over-on (rw (b .before .before .before .before .before .before .before .most .ensures, b .before .before .before .before .at2 .given .1) at (b .before .before .before .before .before .before .up-to .ensures))
+    (over-on (rw (b .at3 .given .1) at (b .before .before .level .ensures))
     (over-on (rw (c .before .before .before .before .before .most2 .ensures, c .before .before .at4 .given .1) at (c .before .before .before .before .up-to2 .ensures)) (c .no-current .ensures)))
 
 pub restriction-spec : {M : Type 1} → statement M
 restriction-spec =
     tie.close
     (tie.spec
-    most-requires
-    up-to-requires
-    enum-known-r
-    enum-known-at2
+    (λ c κs. search needs)
+    (λ c κs. search needs)
+    (λ c. search needs)
+    (λ c. search needs)
     level-requires
-    enum-known-r-2
-    enum-known-at3
-    most-requires-2
+    (λ c. search needs)
+    (λ c. search needs)
+    (λ c κs. search needs)
     up-to-requires-2
-    enum-known-r-3
-    enum-known-at4
+    (λ c. search needs)
+    (λ c. search needs)
     no-current-requires
     returns
     returns-2

@@ -6,18 +6,6 @@ use borrow.Author.Needs.{needs}
 use Rattle.sheet_journey.proofs.constraint.stretch.Statement.{statement}
 use Rattle.sheet_journey.proofs.constraint.stretch.Tie as tie
 
-most-requires : tie.Need-most-requires
-most-requires c κs = search needs
-
-ranged-requires : tie.Need-ranged-requires
-ranged-requires c κs = search needs
-
-enum-known-r : tie.Need-enum-known-r
-enum-known-r c = search needs
-
-enum-known-start : tie.Need-enum-known-start
-enum-known-start c = search needs
-
 end-requires : tie.Need-end-requires
 end-requires c κs = (rw (c .before .start .given .1) at (c .before .before .before .ranged .ensures)) .stands
 
@@ -31,10 +19,10 @@ pub stretch-spec : {M : Type 1} → statement M
 stretch-spec =
     tie.close
     (tie.spec
-    most-requires
-    ranged-requires
-    enum-known-r
-    enum-known-start
+    (λ c κs. search needs)
+    (λ c κs. search needs)
+    (λ c. search needs)
+    (λ c. search needs)
     end-requires
     returns
     returns-2)

@@ -5,15 +5,6 @@ use borrow.Author.Needs.{needs}
 use Rattle.sheet_journey.proofs.constraint.up_to.Statement.{statement}
 use Rattle.sheet_journey.proofs.constraint.up_to.Tie as tie
 
-ranged-requires : tie.Need-ranged-requires
-ranged-requires c κs = search needs
-
-enum-known-r : tie.Need-enum-known-r
-enum-known-r c = search needs
-
-enum-known-to : tie.Need-enum-known-to
-enum-known-to c = search needs
-
 returns : tie.Need-returns
 returns c = plain-off (now (c .before .before .before .before .before .args .s)) (rw (c .before .r .given .1) at (c .before .before .before .ranged .ensures))
 
@@ -21,4 +12,4 @@ returns-2 : tie.Need-returns-2
 returns-2 c = plain-on (now (c .before .before .before .before .before .args .s)) (rw (c .before .to .given .1) at (c .before .before .before .ranged .ensures))
 
 pub up-to-spec : {M : Type 1} → statement M
-up-to-spec = tie.close (tie.spec ranged-requires enum-known-r enum-known-to returns returns-2)
+up-to-spec = tie.close (tie.spec (λ c κs. search needs) (λ c. search needs) (λ c. search needs) returns returns-2)

@@ -6,23 +6,8 @@ use borrow.Author.Needs.{needs}
 use Rattle.sheet_journey.proofs.point.point.Statement.{statement}
 use Rattle.sheet_journey.proofs.point.point.Tie as tie
 
-arrival-row-requires : tie.Need-arrival-row-requires
-arrival-row-requires c κs = search needs
-
-enum-known-r : tie.Need-enum-known-r
-enum-known-r c = search needs
-
-enum-known-at2 : tie.Need-enum-known-at2
-enum-known-at2 c = search needs
-
 ranged-requires : tie.Need-ranged-requires
 ranged-requires c κs = (rw (c .before .at2 .given .1) at (c .before .before .before .arrival-row .ensures)) .stands
-
-enum-known-r-2 : tie.Need-enum-known-r-2
-enum-known-r-2 c = search needs
-
-enum-known-stop : tie.Need-enum-known-stop
-enum-known-stop c = search needs
 
 stopping-row-requires : tie.Need-stopping-row-requires
 stopping-row-requires c κs = (rw (c .before .stop .given .1) at (c .before .before .before .ranged .ensures)) .stands
@@ -43,12 +28,12 @@ pub point-spec : {M : Type 1} → statement M
 point-spec =
     tie.close
     (tie.spec
-    arrival-row-requires
-    enum-known-r
-    enum-known-at2
+    (λ c κs. search needs)
+    (λ c. search needs)
+    (λ c. search needs)
     ranged-requires
-    enum-known-r-2
-    enum-known-stop
+    (λ c. search needs)
+    (λ c. search needs)
     stopping-row-requires
     returns
     returns-2

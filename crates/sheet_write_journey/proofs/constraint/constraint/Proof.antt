@@ -8,32 +8,25 @@ use Rattle.sheet_write_journey.proofs.constraint.constraint.Tie as tie
 start-requires : tie.Need-start-requires
 start-requires c κs = start-row _ _ (c .before .before .before .pre)
 
-add-number : tie.Need-add-number
-add-number c = search needs
-
 number-requires : tie.Need-number-requires
 number-requires c κs = (end-row _ _ (c .before .before .before .before .before .before .before .pre) (c .before .before .before .start .ensures), lit< tt, lit≤ tt)
-
-add-restriction : tie.Need-add-restriction
-add-restriction c = search needs
 
 restriction-requires : tie.Need-restriction-requires
 restriction-requires c κs = restriction-here _ _ (c .before .before .before .before .before .before .before .before .before .before .before .pre) (c .before .before .before .before .before .before .before .start .ensures) (c .before .before .before .number .ensures)
 
-same-length : tie.Need-same-length
-same-length c = search needs
-
 returns : tie.Need-returns
-returns c = constraint-wrote _ _ (c .before .before .before .before .before .before .before .before .before .before .before .before .before .before .pre) (c .before .before .before .before .before .before .before .before .before .before .start .ensures) (c .before .before .before .before .before .before .number .ensures) (c .before .before .restriction .ensures)
+returns c =
+    let b = c .before .before .before .before .before .before in
+    constraint-wrote _ _ (b .before .before .before .before .before .before .before .before .pre) (b .before .before .before .before .start .ensures) (b .number .ensures) (c .before .before .restriction .ensures)
 
 pub constraint-spec : {M : Type 1} → statement M
 constraint-spec =
     tie.close
     (tie.spec
     start-requires
-    add-number
+    (λ c. search needs)
     number-requires
-    add-restriction
+    (λ c. search needs)
     restriction-requires
-    same-length
+    (λ c. search needs)
     returns)

@@ -8,41 +8,37 @@ use borrow.Author.Needs.{needs}
 use Rattle.sheet_write_journey.proofs.constraint.restriction.Statement.{statement}
 use Rattle.sheet_write_journey.proofs.constraint.restriction.Tie as tie
 
-read-window-requires : tie.Need-read-window-requires
-read-window-requires c κs = search needs
-
 one-requires : tie.Need-one-requires
 one-requires c κs = (omega (arith, window-small _ _ 21 (c .before .read-window .ensures)), one-fits (restriction-fits _ _ _ (c .before .before .before .before .pre) (c .before .read-window .ensures)))
-
-mul-put-short : tie.Need-mul-put-short
-mul-put-short c = search needs
 
 put-short-requires : tie.Need-put-short-requires
 put-short-requires c κs = (omega arith, one-fits (more-fit (c .before .before .before .one .ensures) (restriction-fits _ _ _ (c .before .before .before .before .before .before .before .before .pre) (c .before .before .before .before .before .read-window .ensures))))
 
 one-requires-2 : tie.Need-one-requires-2
-one-requires-2 c κs = (omega arith, one-fits (more-fit (c .before .before .before .put-short .ensures) (more-fit (c .before .before .before .before .before .before .before .one .ensures) (restriction-fits _ _ _ (c .before .before .before .before .before .before .before .before .before .before .before .before .pre) (c .before .before .before .before .before .before .before .before .before .read-window .ensures)))))
+one-requires-2 c κs =
+    let b = c .before .before .before .before .before .before .before in
+    (omega arith, one-fits (more-fit (c .before .before .before .put-short .ensures) (more-fit (b .one .ensures) (restriction-fits _ _ _ (b .before .before .before .before .before .pre) (b .before .before .read-window .ensures)))))
 
 one-requires-3 : tie.Need-one-requires-3
-one-requires-3 c κs = (lit< tt, one-fits (more-fit (c .before .before .before .one2 .ensures) (more-fit (c .before .before .before .before .before .before .before .put-short .ensures) (more-fit (c .before .before .before .before .before .before .before .before .before .before .before .one .ensures) (restriction-fits _ _ _ (c .before .before .before .before .before .before .before .before .before .before .before .before .before .before .before .before .pre) (c .before .before .before .before .before .before .before .before .before .before .before .before .before .read-window .ensures))))))
-
-same-length : tie.Need-same-length
-same-length c = search needs
+one-requires-3 c κs =
+    let b = c .before .before .before .before .before .before .before .before .before .before .before in
+    (lit< tt, one-fits (more-fit (c .before .before .before .one2 .ensures) (more-fit (c .before .before .before .before .before .before .before .put-short .ensures) (more-fit (b .one .ensures) (restriction-fits _ _ _ (b .before .before .before .before .before .pre) (b .before .before .read-window .ensures))))))
 
 returns : tie.Need-returns
 returns c =
-    restriction-put _ _ _ (c .before .before .before .before .before .before .before .before .before .before .before .before .before .before .before .before .before .before .before .pre) (c .before .before .before .before .before .before .before .before .before .before .before .before .before .before .before .before .read-window .ensures)
-    (all-more _ _ _ (c .before .before .before .before .before .before .before .before .before .before .before .before .before .before .one .ensures) (all-more _ _ _ (c .before .before .before .before .before .before .before .before .before .before .put-short .ensures) (all-more _ _ _ (c .before .before .before .before .before .before .one2 .ensures) (all-one _ _ (c .before .before .one3 .ensures)))))
+    let b = c .before .before .before .before .before .before .before .before .before .before in
+    restriction-put _ _ _ (b .before .before .before .before .before .before .before .before .before .pre) (b .before .before .before .before .before .before .read-window .ensures)
+    (all-more _ _ _ (b .before .before .before .before .one .ensures) (all-more _ _ _ (b .put-short .ensures) (all-more _ _ _ (c .before .before .before .before .before .before .one2 .ensures) (all-one _ _ (c .before .before .one3 .ensures)))))
 
 pub restriction-spec : {M : Type 1} → statement M
 restriction-spec =
     tie.close
     (tie.spec
-    read-window-requires
+    (λ c κs. search needs)
     one-requires
-    mul-put-short
+    (λ c. search needs)
     put-short-requires
     one-requires-2
     one-requires-3
-    same-length
+    (λ c. search needs)
     returns)

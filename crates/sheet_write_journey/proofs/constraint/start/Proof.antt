@@ -7,9 +7,6 @@ use borrow.Author.Needs.{needs}
 use Rattle.sheet_write_journey.proofs.constraint.start.Statement.{statement}
 use Rattle.sheet_write_journey.proofs.constraint.start.Tie as tie
 
-read-window-requires : tie.Need-read-window-requires
-read-window-requires c κs = search needs
-
 one-requires : tie.Need-one-requires
 one-requires c κs = (omega (arith, window-small _ _ 28 (c .before .read-window .ensures)), one-fits (window-fits _ _ startWidths _ (c .before .before .before .before .pre) (c .before .read-window .ensures)))
 
@@ -17,23 +14,23 @@ one-requires-2 : tie.Need-one-requires-2
 one-requires-2 c κs = (omega arith, one-fits (more-fit (c .before .before .before .one .ensures) (window-fits _ _ startWidths _ (c .before .before .before .before .before .before .before .before .pre) (c .before .before .before .before .before .read-window .ensures))))
 
 put-number-requires : tie.Need-put-number-requires
-put-number-requires c κs = one-fits (more-fit (c .before .before .before .one2 .ensures) (more-fit (c .before .before .before .before .before .before .before .one .ensures) (window-fits _ _ startWidths _ (c .before .before .before .before .before .before .before .before .before .before .before .before .pre) (c .before .before .before .before .before .before .before .before .before .read-window .ensures))))
-
-same-length : tie.Need-same-length
-same-length c = search needs
+put-number-requires c κs =
+    let b = c .before .before .before .before .before .before .before in
+    one-fits (more-fit (c .before .before .before .one2 .ensures) (more-fit (b .one .ensures) (window-fits _ _ startWidths _ (b .before .before .before .before .before .pre) (b .before .before .read-window .ensures))))
 
 returns : tie.Need-returns
 returns c =
-    window-copied _ _ startWidths _ (c .before .before .before .before .before .before .before .before .before .before .before .before .before .before .before .pre) (c .before .before .before .before .before .before .before .before .before .before .before .before .read-window .ensures)
-    (all-more _ _ _ (c .before .before .before .before .before .before .before .before .before .before .one .ensures) (all-more _ _ _ (c .before .before .before .before .before .before .one2 .ensures) (all-one _ _ (c .before .before .put-number .ensures))))
+    let b = c .before .before .before .before .before .before .before .before .before .before in
+    window-copied _ _ startWidths _ (b .before .before .before .before .before .pre) (b .before .before .read-window .ensures)
+    (all-more _ _ _ (b .one .ensures) (all-more _ _ _ (c .before .before .before .before .before .before .one2 .ensures) (all-one _ _ (c .before .before .put-number .ensures))))
 
 pub start-spec : {M : Type 1} → statement M
 start-spec =
     tie.close
     (tie.spec
-    read-window-requires
+    (λ c κs. search needs)
     one-requires
     one-requires-2
     put-number-requires
-    same-length
+    (λ c. search needs)
     returns)

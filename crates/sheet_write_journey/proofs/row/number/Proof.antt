@@ -4,17 +4,11 @@ use Rattle.sheet_write_journey.proofs.row.Rows.{alone-fits, alone-copie
 use Rattle.sheet_write_journey.proofs.row.number.Statement.{statement}
 use Rattle.sheet_write_journey.proofs.row.number.Tie as tie
 
-read-window-requires : tie.Need-read-window-requires
-read-window-requires c κs = search needs
-
 put-number-requires : tie.Need-put-number-requires
 put-number-requires c κs = alone-fits _ _ _ _ (c .before .before .before .before .pre .0) (c .before .read-window .ensures)
-
-same-length : tie.Need-same-length
-same-length c = search needs
 
 returns : tie.Need-returns
 returns c = alone-copied _ _ _ _ (c .before .before .before .before .before .before .before .pre .0) (c .before .before .before .before .read-window .ensures) (c .before .before .put-number .ensures)
 
 pub number-spec : {M : Type 1} → statement M
-number-spec = tie.close (tie.spec read-window-requires put-number-requires same-length returns)
+number-spec = tie.close (tie.spec (λ c κs. search needs) put-number-requires (λ c. search needs) returns)

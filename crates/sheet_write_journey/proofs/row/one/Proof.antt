@@ -7,20 +7,11 @@ use borrow.Author.Needs.{needs}
 use Rattle.sheet_write_journey.proofs.row.one.Statement.{statement}
 use Rattle.sheet_write_journey.proofs.row.one.Tie as tie
 
-cast-room : tie.Need-cast-room
-cast-room c = search needs
-
 slice-write-room : tie.Need-slice-write-room
 slice-write-room c = omega (arith, ap length (single (c .args .v) (c .pre .0)), c .pre .1)
-
-add-result : tie.Need-add-result
-add-result c = search needs
-
-same-length : tie.Need-same-length
-same-length c = search needs
 
 returns : tie.Need-returns
 returns c = rw (single (c .args .v) (c .pre .0))
 
 pub one-spec : {M : Type 1} → statement M
-one-spec = tie.close (tie.spec cast-room slice-write-room add-result same-length returns)
+one-spec = tie.close (tie.spec (λ c. search needs) slice-write-room (λ c. search needs) (λ c. search needs) returns)

@@ -7,9 +7,6 @@ use borrow.Author.Needs.{needs}
 use Rattle.sheet_write_journey.proofs.rows.choices.Statement.{statement}
 use Rattle.sheet_write_journey.proofs.rows.choices.Tie as tie
 
-read-window-requires : tie.Need-read-window-requires
-read-window-requires c κs = search needs
-
 put-short-requires : tie.Need-put-short-requires
 put-short-requires c κs = (omega (arith, window-small _ _ 22 (c .before .read-window .ensures)), one-fits (window-fits _ _ choiceWidths _ (c .before .before .before .before .pre) (c .before .read-window .ensures)))
 
@@ -19,23 +16,22 @@ four-requires c κs =
 
 four-requires-2 : tie.Need-four-requires-2
 four-requires-2 c κs =
-    (omega arith, omega arith, omega arith, omega arith, fit-after _ _ _ (c .before .before .before .four .ensures) (more-fit (c .before .before .before .before .before .before .before .put-short .ensures) (window-fits _ _ choiceWidths _ (c .before .before .before .before .before .before .before .before .before .before .before .before .pre) (c .before .before .before .before .before .before .before .before .before .read-window .ensures))))
-
-same-length : tie.Need-same-length
-same-length c = search needs
+    let b = c .before .before .before .before .before .before .before in
+    (omega arith, omega arith, omega arith, omega arith, fit-after _ _ _ (c .before .before .before .four .ensures) (more-fit (b .put-short .ensures) (window-fits _ _ choiceWidths _ (b .before .before .before .before .before .pre) (b .before .before .read-window .ensures))))
 
 returns : tie.Need-returns
 returns c =
-    window-copied _ _ choiceWidths _ (c .before .before .before .before .before .before .before .before .before .before .before .before .before .before .before .pre) (c .before .before .before .before .before .before .before .before .before .before .before .before .read-window .ensures)
-    (all-more _ _ _ (c .before .before .before .before .before .before .before .before .before .before .put-short .ensures) (all-both _ _ _ (c .before .before .before .before .before .before .four .ensures) (c .before .before .four2 .ensures)))
+    let b = c .before .before .before .before .before .before .before .before .before .before in
+    window-copied _ _ choiceWidths _ (b .before .before .before .before .before .pre) (b .before .before .read-window .ensures)
+    (all-more _ _ _ (b .put-short .ensures) (all-both _ _ _ (c .before .before .before .before .before .before .four .ensures) (c .before .before .four2 .ensures)))
 
 pub choices-spec : {M : Type 1} → statement M
 choices-spec =
     tie.close
     (tie.spec
-    read-window-requires
+    (λ c κs. search needs)
     put-short-requires
     four-requires
     four-requires-2
-    same-length
+    (λ c. search needs)
     returns)

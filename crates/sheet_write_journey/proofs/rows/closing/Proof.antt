@@ -7,23 +7,18 @@ use borrow.Author.Needs.{needs}
 use Rattle.sheet_write_journey.proofs.rows.closing.Statement.{statement}
 use Rattle.sheet_write_journey.proofs.rows.closing.Tie as tie
 
-read-window-requires : tie.Need-read-window-requires
-read-window-requires c κs = search needs
-
 put-short-requires : tie.Need-put-short-requires
 put-short-requires c κs = (omega (arith, window-small _ _ 11 (c .before .read-window .ensures)), one-fits (window-fits _ _ closingWidths _ (c .before .before .before .before .pre) (c .before .read-window .ensures)))
 
 one-requires : tie.Need-one-requires
 one-requires c κs = (omega arith, one-fits (more-fit (c .before .before .before .put-short .ensures) (window-fits _ _ closingWidths _ (c .before .before .before .before .before .before .before .before .pre) (c .before .before .before .before .before .read-window .ensures))))
 
-same-length : tie.Need-same-length
-same-length c = search needs
-
 returns : tie.Need-returns
 returns c =
-    window-copied _ _ closingWidths _ (c .before .before .before .before .before .before .before .before .before .before .before .pre) (c .before .before .before .before .before .before .before .before .read-window .ensures)
-    (all-more _ _ _ (c .before .before .before .before .before .before .put-short .ensures) (all-one _ _ (c .before .before .one .ensures)))
+    let b = c .before .before .before .before .before .before in
+    window-copied _ _ closingWidths _ (b .before .before .before .before .before .pre) (b .before .before .read-window .ensures)
+    (all-more _ _ _ (b .put-short .ensures) (all-one _ _ (c .before .before .one .ensures)))
 
 pub closing-spec : {M : Type 1} → statement M
 closing-spec =
-    tie.close (tie.spec read-window-requires put-short-requires one-requires same-length returns)
+    tie.close (tie.spec (λ c κs. search needs) put-short-requires one-requires (λ c. search needs) returns)

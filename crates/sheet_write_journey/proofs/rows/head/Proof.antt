@@ -23,15 +23,15 @@ moment-requires c κs =
 
 counts-requires : tie.Need-counts-requires
 counts-requires c κs =
-    let r1 = row-after _ _ (32 ∷ []) _ _ (56) refl (c .before .before .before .before .before .before .before .before .before .before .before .number .ensures) (c .before .before .before .before .before .before .before .before .before .before .before .before .before .before .before .pre) in
-    let r2 = row-after _ _ (24 ∷ []) _ _ (80) refl (c .before .before .before .before .before .before .before .number2 .ensures) r1 in
+    let b = c .before .before .before .before .before .before .before in
+    let r1 = row-after _ _ (32 ∷ []) _ _ (56) refl (b .before .before .before .before .number .ensures) (b .before .before .before .before .before .before .before .before .pre) in
+    let r2 = row-after _ _ (24 ∷ []) _ _ (80) refl (b .number2 .ensures) r1 in
     row-after _ _ (15 ∷ 17 ∷ []) _ _ (112) refl (c .before .before .before .moment .ensures) r2
 
-same-length : tie.Need-same-length
-same-length c = search needs
-
 returns : tie.Need-returns
-returns c = (row-both _ _ (32 ∷ []) _ _ (56) refl (c .before .before .before .before .before .before .before .before .before .before .before .before .before .before .number .ensures) (row-both _ _ (24 ∷ []) _ _ (80) refl (c .before .before .before .before .before .before .before .before .before .before .number2 .ensures) (row-both _ _ (15 ∷ 17 ∷ []) _ _ (112) refl (c .before .before .before .before .before .before .moment .ensures) (c .before .before .counts .ensures .0))), c .before .before .counts .ensures .1)
+returns c =
+    let b = c .before .before .before .before .before .before in
+    (row-both _ _ (32 ∷ []) _ _ (56) refl (b .before .before .before .before .before .before .before .before .number .ensures) (row-both _ _ (24 ∷ []) _ _ (80) refl (b .before .before .before .before .number2 .ensures) (row-both _ _ (15 ∷ 17 ∷ []) _ _ (112) refl (b .moment .ensures) (c .before .before .counts .ensures .0))), c .before .before .counts .ensures .1)
 
 pub head-spec : {M : Type 1} → statement M
 head-spec =
@@ -41,5 +41,5 @@ head-spec =
     number-requires-2
     moment-requires
     counts-requires
-    same-length
+    (λ c. search needs)
     returns)

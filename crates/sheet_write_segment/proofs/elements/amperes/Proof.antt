@@ -18,22 +18,18 @@ current-figure-requires c κs = field-here (now (c .before .before .before .befo
 
 put-short-requires : tie.Need-put-short-requires
 put-short-requires c κs =
-    let f = field-here (now (c .before .before .before .before .before .args .packet)) (c .before .before .before .before .before .args .stop) mCurrent (λ v f. f) 10 refl (c .before .before .before .before .before .pre) _ (c .before .before .read-window .ensures) in
+    let b = c .before .before .before .before .before in
+    let f = field-here (now (b .args .packet)) (b .args .stop) mCurrent (λ v f. f) 10 refl (b .pre) _ (c .before .before .read-window .ensures) in
     rw (c .current-figure .ensures) (current-short (c .before .before .read-window .result) (f .allowed), f .fits)
-
-add-t11 : tie.Need-add-t11
-add-t11 c = search needs
-
-same-length : tie.Need-same-length
-same-length c = search needs
 
 returns : tie.Need-returns
 returns c =
-    let a = c .before .before .before .before .before .before .before .before .args in
+    let b = c .before .before .before .before .before in
+    let a = b .before .before .before .args in
     let s = now (a .packet) in
-    let h = c .before .before .before .before .before .before .before .before .pre in
+    let h = b .before .before .before .pre in
     along-none s (a .stop)
-    (along-put s (a .stop) mCurrent (λ v f. f) 10 refl (along-all s (a .stop) h) h _ (c .before .before .before .before .before .read-window .ensures) (a .at + 10) refl (c .before .before .put-short .ensures ∙ rw (c .before .before .before .current-figure .ensures)))
+    (along-put s (a .stop) mCurrent (λ v f. f) 10 refl (along-all s (a .stop) h) h _ (b .read-window .ensures) (a .at + 10) refl (c .before .before .put-short .ensures ∙ rw (c .before .before .before .current-figure .ensures)))
 
 pub amperes-spec : {M : Type 1} → statement M
 amperes-spec =
@@ -42,6 +38,6 @@ amperes-spec =
     read-window-requires
     current-figure-requires
     put-short-requires
-    add-t11
-    same-length
+    (λ c. search needs)
+    (λ c. search needs)
     returns)

@@ -5,9 +5,6 @@ use Rattle.sheet_write_segment.proofs.elements.Figures.{class-figures}
 use Rattle.sheet_write_segment.proofs.elements.class_figure.Statement.{statement}
 use Rattle.sheet_write_segment.proofs.elements.class_figure.Tie as tie
 
-cast-cant : tie.Need-cast-cant
-cast-cant c = search needs
-
 mul-result : tie.Need-mul-result
 mul-result c = omega (arith, class-figures (c .args .q) (c .args .v) (c .pre .1) .index)
 
@@ -41,7 +38,7 @@ pub class-figure-spec : {M : Type 1} → statement M
 class-figure-spec =
     tie.close
     (tie.spec
-    cast-cant
+    (λ c. search needs)
     mul-result
     cast-result
     mul-result-2

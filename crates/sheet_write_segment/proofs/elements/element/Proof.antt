@@ -3,38 +3,20 @@ use borrow.Author.Needs.{needs}
 use Rattle.sheet_write_segment.proofs.elements.element.Statement.{statement}
 use Rattle.sheet_write_segment.proofs.elements.element.Tie as tie
 
-enum-told : tie.Need-enum-told
-enum-told c = search needs
-
 speeds-requires : tie.Need-speeds-requires
 speeds-requires c κs = rw (c .before .enum-told .given .1) at (c .before .before .before .before .before .pre)
-
-enum-told-2 : tie.Need-enum-told-2
-enum-told-2 c = search needs
 
 wire-requires : tie.Need-wire-requires
 wire-requires c κs = rw (c .before .enum-told2 .given .1) at (c .before .before .before .before .before .pre)
 
-enum-told-3 : tie.Need-enum-told-3
-enum-told-3 c = search needs
-
 amperes-requires : tie.Need-amperes-requires
 amperes-requires c κs = rw (c .before .enum-told3 .given .1) at (c .before .before .before .before .before .pre)
-
-same-length : tie.Need-same-length
-same-length c = search needs
 
 returns : tie.Need-returns
 returns c = rw (c .before .before .before .before .enum-told .given .1) (c .before .before .speeds .ensures)
 
-same-length-2 : tie.Need-same-length-2
-same-length-2 c = search needs
-
 returns-2 : tie.Need-returns-2
 returns-2 c = rw (c .before .before .before .before .enum-told2 .given .1) (c .before .before .wire .ensures)
-
-same-length-3 : tie.Need-same-length-3
-same-length-3 c = search needs
 
 returns-3 : tie.Need-returns-3
 returns-3 c = rw (c .before .before .before .before .enum-told3 .given .1) (c .before .before .amperes .ensures)
@@ -43,15 +25,15 @@ pub element-spec : {M : Type 1} → statement M
 element-spec =
     tie.close
     (tie.spec
-    enum-told
+    (λ c. search needs)
     speeds-requires
-    enum-told-2
+    (λ c. search needs)
     wire-requires
-    enum-told-3
+    (λ c. search needs)
     amperes-requires
-    same-length
+    (λ c. search needs)
     returns
-    same-length-2
+    (λ c. search needs)
     returns-2
-    same-length-3
+    (λ c. search needs)
     returns-3)

@@ -10,56 +10,53 @@ use Rattle.sheet_write_segment.proofs.elements.Fields.{entry-read, entr
 use Rattle.sheet_write_segment.proofs.elements.entry.Statement.{statement}
 use Rattle.sheet_write_segment.proofs.elements.entry.Tie as tie
 
-cast-read-window : tie.Need-cast-read-window
-cast-read-window c = search needs
-
 read-window-requires : tie.Need-read-window-requires
 read-window-requires c κs = entry-read (now (c .before .before .before .args .packet)) (c .before .before .before .args .stop) (c .before .before .before .pre .1)
 
 put-short-requires : tie.Need-put-short-requires
 put-short-requires c κs =
-    let e = entry-puts (now (c .before .before .before .before .before .args .packet)) (c .before .before .before .before .before .args .stop) (c .before .before .before .before .before .pre .1) (c .before .read-window .ensures) in
+    let b = c .before .before .before .before .before in
+    let e = entry-puts (now (b .args .packet)) (b .args .stop) (b .pre .1) (c .before .read-window .ensures) in
     (omega (arith, e .small), e .first .fits)
 
 class-figure-requires : tie.Need-class-figure-requires
 class-figure-requires c κs =
-    let e = entry-puts (now (c .before .before .before .before .before .before .before .before .before .args .packet)) (c .before .before .before .before .before .before .before .before .before .args .stop) (c .before .before .before .before .before .before .before .before .before .pre .1) (c .before .before .before .before .before .read-window .ensures) in
-    (c .before .before .before .before .before .before .before .before .before .pre .0, e .second (c .before .before .before .put-short .ensures) .allowed)
+    let b = c .before .before .before .before .before .before .before .before .before in
+    let e = entry-puts (now (b .args .packet)) (b .args .stop) (b .pre .1) (c .before .before .before .before .before .read-window .ensures) in
+    (b .pre .0, e .second (c .before .before .before .put-short .ensures) .allowed)
 
 put-short-requires-2 : tie.Need-put-short-requires-2
 put-short-requires-2 c κs =
-    let e = entry-puts (now (c .before .before .before .before .before .before .before .before .before .before .args .packet)) (c .before .before .before .before .before .before .before .before .before .before .args .stop) (c .before .before .before .before .before .before .before .before .before .before .pre .1) (c .before .before .before .before .before .before .read-window .ensures) in
+    let b = c .before .before .before .before .before .before in
+    let e = entry-puts (now (b .before .before .before .before .args .packet)) (b .before .before .before .before .args .stop) (b .before .before .before .before .pre .1) (b .read-window .ensures) in
     let f = e .second (c .before .before .before .before .put-short .ensures) in
-    let t = c .before .before .before .before .before .before .read-window .result in
+    let t = b .read-window .result in
     rw (c .class-figure .ensures) (class-short (t / 2048) (t / 128 % 16) (f .allowed), f .fits)
-
-mul-put-short : tie.Need-mul-put-short
-mul-put-short c = search needs
 
 put-short-requires-3 : tie.Need-put-short-requires-3
 put-short-requires-3 c κs =
-    let e = entry-puts (now (c .before .before .before .before .before .before .before .before .before .before .before .before .before .before .args .packet)) (c .before .before .before .before .before .before .before .before .before .before .before .before .before .before .args .stop) (c .before .before .before .before .before .before .before .before .before .before .before .before .before .before .pre .1) (c .before .before .before .before .before .before .before .before .before .before .read-window .ensures) in
-    (omega arith, e .third (c .before .before .before .before .before .before .before .before .put-short .ensures) (c .before .before .before .put-short2 .ensures ∙ rw (c .before .before .before .before .class-figure .ensures)) .fits)
-
-same-length : tie.Need-same-length
-same-length c = search needs
+    let b = c .before .before .before .before .before .before .before .before in
+    let g = b .before .before .before .before .before .before in
+    let e = entry-puts (now (g .args .packet)) (g .args .stop) (g .pre .1) (b .before .before .read-window .ensures) in
+    (omega arith, e .third (b .put-short .ensures) (c .before .before .before .put-short2 .ensures ∙ rw (c .before .before .before .before .class-figure .ensures)) .fits)
 
 returns : tie.Need-returns
 returns c =
-    let a = c .before .before .before .before .before .before .before .before .before .before .before .before .before .before .before .before .before .args in
-    let e = entry-puts (now (a .packet)) (a .stop) (c .before .before .before .before .before .before .before .before .before .before .before .before .before .before .before .before .before .pre .1) (c .before .before .before .before .before .before .before .before .before .before .before .before .before .read-window .ensures) in
-    along-none (now (a .packet)) (a .stop) (e .put (c .before .before .before .before .before .before .before .before .before .before .before .put-short .ensures) (c .before .before .before .before .before .before .put-short2 .ensures ∙ rw (c .before .before .before .before .before .before .before .class-figure .ensures)) (c .before .before .put-short3 .ensures))
+    let b = c .before .before .before .before .before .before .before .before .before .before .before in
+    let a = b .before .before .before .before .before .before .args in
+    let e = entry-puts (now (a .packet)) (a .stop) (b .before .before .before .before .before .before .pre .1) (b .before .before .read-window .ensures) in
+    along-none (now (a .packet)) (a .stop) (e .put (b .put-short .ensures) (c .before .before .before .before .before .before .put-short2 .ensures ∙ rw (c .before .before .before .before .before .before .before .class-figure .ensures)) (c .before .before .put-short3 .ensures))
 
 pub entry-spec : {M : Type 1} → statement M
 entry-spec =
     tie.close
     (tie.spec
-    cast-read-window
+    (λ c. search needs)
     read-window-requires
     put-short-requires
     class-figure-requires
     put-short-requires-2
-    mul-put-short
+    (λ c. search needs)
     put-short-requires-3
-    same-length
+    (λ c. search needs)
     returns)

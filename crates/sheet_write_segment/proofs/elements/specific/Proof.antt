@@ -22,9 +22,6 @@ abbrev μ-loop : tie.MeasureT-loop
 loop-holds : tie.Need-loop-holds Inv-loop μ-loop
 loop-holds c = (along-all (now (c .before .before .args .packet)) (c .before .before .args .stop) (c .before .before .pre), omega arith)
 
-slice-aggregate-entry : tie.Need-slice-aggregate-entry Inv-loop μ-loop
-slice-aggregate-entry c = search needs
-
 entry-requires : tie.Need-entry-requires Inv-loop μ-loop
 entry-requires c κs =
     let a = c .before .before .before .before .before .before .args in
@@ -35,18 +32,13 @@ entry-requires c κs =
 add-to : tie.Need-add-to Inv-loop μ-loop
 add-to c = let h = c .before .before .entry .ensures .over .stands in omega (arith, h .before, h .few)
 
-sub-left : tie.Need-sub-left Inv-loop μ-loop
-sub-left c = omega arith
-
-loop-less : tie.Need-loop-less Inv-loop μ-loop
-loop-less c = omega arith
-
 loop-again : tie.Need-loop-again Inv-loop μ-loop
 loop-again c =
-    let a = c .before .before .before .before .before .before .before .before .before .args in
-    let l = c .before .before .before .before .before .before .loop in
+    let b = c .before .before .before .before .before in
+    let a = b .before .before .before .before .args in
+    let l = b .before .loop in
     let more = along-as (now (a .packet)) (a .stop) (λ f. entry (entries (l .left - 1) f)) (entries-more (l .left) (omega arith)) (l .inv .0) in
-    (along-on (now (a .packet)) (a .stop) entry (entries (l .left - 1)) more (c .before .before .entry .ensures), omega (arith, l .inv .1, c .before .before .before .before .before .loop-test .taken))
+    (along-on (now (a .packet)) (a .stop) entry (entries (l .left - 1)) more (c .before .before .entry .ensures), omega (arith, l .inv .1, b .loop-test .taken))
 
 same-length : tie.Need-same-length Inv-loop μ-loop
 same-length c = c .before .loop .inv .0 .long
@@ -65,11 +57,11 @@ specific-spec =
     Inv-loop
     μ-loop
     loop-holds
-    slice-aggregate-entry
+    (λ c. search needs)
     entry-requires
     add-to
-    sub-left
-    loop-less
+    (λ c. omega arith)
+    (λ c. omega arith)
     loop-again
     same-length
     returns)

@@ -9,9 +9,6 @@ use Rattle.sheet_write_segment.proofs.elements.Fields.{profile-read, pr
 use Rattle.sheet_write_segment.proofs.elements.speeds.Statement.{statement}
 use Rattle.sheet_write_segment.proofs.elements.speeds.Tie as tie
 
-cast-read-window : tie.Need-cast-read-window
-cast-read-window c = search needs
-
 read-window-requires : tie.Need-read-window-requires
 read-window-requires c κs = profile-read (now (c .before .before .args .packet)) (c .before .before .args .stop) (c .before .before .pre)
 
@@ -25,61 +22,50 @@ put-short-requires c κs =
 
 put-short-requires-2 : tie.Need-put-short-requires-2
 put-short-requires-2 c κs =
-    let e = profile-puts (now (c .before .before .before .before .before .before .before .before .args .packet)) (c .before .before .before .before .before .before .before .before .args .stop) (c .before .before .before .before .before .before .before .before .pre) (c .before .before .before .before .before .read-window .ensures) in
+    let b = c .before .before .before .before .before .before .before .before in
+    let e = profile-puts (now (b .args .packet)) (b .args .stop) (b .pre) (c .before .before .before .before .before .read-window .ensures) in
     (omega arith, e .second (c .before .before .before .put-short .ensures) .fits)
 
 put-short-requires-3 : tie.Need-put-short-requires-3
 put-short-requires-3 c κs =
-    let e = profile-puts (now (c .before .before .before .before .before .before .before .before .before .before .before .before .args .packet)) (c .before .before .before .before .before .before .before .before .before .before .before .before .args .stop) (c .before .before .before .before .before .before .before .before .before .before .before .before .pre) (c .before .before .before .before .before .before .before .before .before .read-window .ensures) in
-    (omega arith, e .third (c .before .before .before .before .before .before .before .put-short .ensures) (c .before .before .before .put-short2 .ensures) .fits)
-
-add-specific : tie.Need-add-specific
-add-specific c = search needs
+    let b = c .before .before .before .before .before .before .before in
+    let g = b .before .before .before .before .before in
+    let e = profile-puts (now (g .args .packet)) (g .args .stop) (g .pre) (b .before .before .read-window .ensures) in
+    (omega arith, e .third (b .put-short .ensures) (c .before .before .before .put-short2 .ensures) .fits)
 
 specific-requires : tie.Need-specific-requires
 specific-requires c κs =
-    let s = now (c .before .before .before .before .before .before .before .before .before .before .before .before .before .before .before .before .args .packet) in
-    let stop = c .before .before .before .before .before .before .before .before .before .before .before .before .before .before .before .before .args .stop in
-    let e = profile-puts s stop (c .before .before .before .before .before .before .before .before .before .before .before .before .before .before .before .before .pre) (c .before .before .before .before .before .before .before .before .before .before .before .before .before .read-window .ensures) in
-    along-here s stop (e .put (c .before .before .before .before .before .before .before .before .before .before .before .put-short .ensures) (c .before .before .before .before .before .before .before .put-short2 .ensures) (c .before .before .before .put-short3 .ensures)) (c .before .before .before .before .before .before .before .before .before .before .before .before .before .before .before .before .pre)
-
-add-t20 : tie.Need-add-t20
-add-t20 c = search needs
-
-cast-t23 : tie.Need-cast-t23
-cast-t23 c = search needs
-
-mul-t24 : tie.Need-mul-t24
-mul-t24 c = search needs
-
-add-t25 : tie.Need-add-t25
-add-t25 c = search needs
-
-same-length : tie.Need-same-length
-same-length c = search needs
+    let b = c .before .before .before .before .before .before .before .before .before .before .before in
+    let g = b .before .before .before .before .before in
+    let s = now (g .args .packet) in
+    let stop = g .args .stop in
+    let e = profile-puts s stop (g .pre) (b .before .before .read-window .ensures) in
+    along-here s stop (e .put (b .put-short .ensures) (c .before .before .before .before .before .before .before .put-short2 .ensures) (c .before .before .before .put-short3 .ensures)) (g .pre)
 
 returns : tie.Need-returns
 returns c =
-    let s = now (c .before .before .before .before .before .before .before .before .before .before .before .before .before .before .before .before .before .before .before .args .packet) in
-    let stop = c .before .before .before .before .before .before .before .before .before .before .before .before .before .before .before .before .before .before .before .args .stop in
-    let e = profile-puts s stop (c .before .before .before .before .before .before .before .before .before .before .before .before .before .before .before .before .before .before .before .pre) (c .before .before .before .before .before .before .before .before .before .before .before .before .before .before .before .before .read-window .ensures) in
-    along-none s stop (along-on s stop (entries (c .before .before .before .before .before .before .before .before .before .before .before .before .before .before .before .before .read-window .result % 32)) (λ f. f) (e .put (c .before .before .before .before .before .before .before .before .before .before .before .before .before .before .put-short .ensures) (c .before .before .before .before .before .before .before .before .before .before .put-short2 .ensures) (c .before .before .before .before .before .before .put-short3 .ensures)) (c .before .before .specific .ensures))
+    let b = c .before .before .before .before .before .before .before .before .before .before .before .before .before .before in
+    let g = b .before .before .before .before .before in
+    let s = now (g .args .packet) in
+    let stop = g .args .stop in
+    let e = profile-puts s stop (g .pre) (b .before .before .read-window .ensures) in
+    along-none s stop (along-on s stop (entries (b .before .before .read-window .result % 32)) (λ f. f) (e .put (b .put-short .ensures) (c .before .before .before .before .before .before .before .before .before .before .put-short2 .ensures) (c .before .before .before .before .before .before .put-short3 .ensures)) (c .before .before .specific .ensures))
 
 pub speeds-spec : {M : Type 1} → statement M
 speeds-spec =
     tie.close
     (tie.spec
-    cast-read-window
+    (λ c. search needs)
     read-window-requires
     mul-put-short
     put-short-requires
     put-short-requires-2
     put-short-requires-3
-    add-specific
+    (λ c. search needs)
     specific-requires
-    add-t20
-    cast-t23
-    mul-t24
-    add-t25
-    same-length
+    (λ c. search needs)
+    (λ c. search needs)
+    (λ c. search needs)
+    (λ c. search needs)
+    (λ c. search needs)
     returns)

@@ -5,9 +5,6 @@ use borrow.Author.Tests.{ltb-true}
 use Rattle.sheet_write_segment.proofs.elements.volts_figure.Statement.{statement}
 use Rattle.sheet_write_segment.proofs.elements.volts_figure.Tie as tie
 
-mul-result : tie.Need-mul-result
-mul-result c = search needs
-
 array-read-result : tie.Need-array-read-result
 array-read-result c = ltb-true (c .args .v) 6 (c .pre)
 
@@ -15,4 +12,4 @@ returns : tie.Need-returns
 returns c = refl
 
 pub volts-figure-spec : {M : Type 1} → statement M
-volts-figure-spec = tie.close (tie.spec mul-result array-read-result returns)
+volts-figure-spec = tie.close (tie.spec (λ c. search needs) array-read-result returns)

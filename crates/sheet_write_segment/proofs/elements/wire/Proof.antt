@@ -20,40 +20,36 @@ volts-figure-requires : tie.Need-volts-figure-requires
 volts-figure-requires c κs = field-here (now (c .before .before .before .before .args .packet)) (c .before .before .before .before .args .stop) mVoltage (λ u f. then (nidCTraction u) f) 4 refl (c .before .before .before .before .pre) _ (c .before .read-window .ensures) .allowed
 
 put-number-requires : tie.Need-put-number-requires
-put-number-requires c κs = rw (c .volts-figure .ensures) (field-here (now (c .before .before .before .before .before .args .packet)) (c .before .before .before .before .before .args .stop) mVoltage (λ u f. then (nidCTraction u) f) 4 refl (c .before .before .before .before .before .pre) _ (c .before .before .read-window .ensures) .fits)
-
-add-read-window : tie.Need-add-read-window
-add-read-window c = search needs
+put-number-requires c κs =
+    let b = c .before .before .before .before .before in
+    rw (c .volts-figure .ensures) (field-here (now (b .args .packet)) (b .args .stop) mVoltage (λ u f. then (nidCTraction u) f) 4 refl (b .pre) _ (c .before .before .read-window .ensures) .fits)
 
 read-window-requires-2 : tie.Need-read-window-requires-2
 read-window-requires-2 c κs =
-    let a = c .before .before .before .before .before .before .before .before .args in
+    let b = c .before .before .before .before .before in
+    let a = b .before .before .before .args in
     let s = now (a .packet) in
-    let h = c .before .before .before .before .before .before .before .before .pre in
-    let m = along-put s (a .stop) mVoltage (λ u f. then (nidCTraction u) f) 4 refl (along-all s (a .stop) h) h _ (c .before .before .before .before .before .read-window .ensures) (a .at + 4) refl (c .before .before .put-number .ensures ∙ rw (c .before .before .before .volts-figure .ensures)) in
-    field-read s (a .stop) (nidCTraction (c .before .before .before .before .before .read-window .result)) (λ v f. f) 10 refl (along-here s (a .stop) m h) (lit< tt) (lit≤ tt)
+    let h = b .before .before .before .pre in
+    let m = along-put s (a .stop) mVoltage (λ u f. then (nidCTraction u) f) 4 refl (along-all s (a .stop) h) h _ (b .read-window .ensures) (a .at + 4) refl (c .before .before .put-number .ensures ∙ rw (c .before .before .before .volts-figure .ensures)) in
+    field-read s (a .stop) (nidCTraction (b .read-window .result)) (λ v f. f) 10 refl (along-here s (a .stop) m h) (lit< tt) (lit≤ tt)
 
 put-short-requires : tie.Need-put-short-requires
 put-short-requires c κs =
-    let a = c .before .before .before .before .before .before .before .before .before .before .args in
+    let b = c .before .before .before .before .before .before .before in
+    let a = b .before .before .before .args in
     let s = now (a .packet) in
-    let h = c .before .before .before .before .before .before .before .before .before .before .pre in
-    let m = along-put s (a .stop) mVoltage (λ u f. then (nidCTraction u) f) 4 refl (along-all s (a .stop) h) h _ (c .before .before .before .before .before .before .before .read-window .ensures) (a .at + 4) refl (c .before .before .before .before .put-number .ensures ∙ rw (c .before .before .before .before .before .volts-figure .ensures)) in
-    (omega (arith, c .before .read-window2 .ensures, field-small s (a .at + 4) 10 10 (le-refl _)), field-here s (a .stop) (nidCTraction (c .before .before .before .before .before .before .before .read-window .result)) (λ v f. f) 10 refl (along-here s (a .stop) m h) _ (c .before .read-window2 .ensures) .fits)
-
-add-t13 : tie.Need-add-t13
-add-t13 c = search needs
-
-same-length : tie.Need-same-length
-same-length c = search needs
+    let h = b .before .before .before .pre in
+    let m = along-put s (a .stop) mVoltage (λ u f. then (nidCTraction u) f) 4 refl (along-all s (a .stop) h) h _ (b .read-window .ensures) (a .at + 4) refl (c .before .before .before .before .put-number .ensures ∙ rw (c .before .before .before .before .before .volts-figure .ensures)) in
+    (omega (arith, c .before .read-window2 .ensures, field-small s (a .at + 4) 10 10 (le-refl _)), field-here s (a .stop) (nidCTraction (b .read-window .result)) (λ v f. f) 10 refl (along-here s (a .stop) m h) _ (c .before .read-window2 .ensures) .fits)
 
 returns : tie.Need-returns
 returns c =
-    let a = c .before .before .before .before .before .before .before .before .before .before .before .before .before .args in
+    let b = c .before .before .before .before .before .before .before in
+    let a = b .before .before .before .before .before .before .args in
     let s = now (a .packet) in
-    let h = c .before .before .before .before .before .before .before .before .before .before .before .before .before .pre in
-    let m = along-put s (a .stop) mVoltage (λ u f. then (nidCTraction u) f) 4 refl (along-all s (a .stop) h) h _ (c .before .before .before .before .before .before .before .before .before .before .read-window .ensures) (a .at + 4) refl (c .before .before .before .before .before .before .before .put-number .ensures ∙ rw (c .before .before .before .before .before .before .before .before .volts-figure .ensures)) in
-    along-none s (a .stop) (along-put s (a .stop) (nidCTraction (c .before .before .before .before .before .before .before .before .before .before .read-window .result)) (λ v f. f) 10 refl m h _ (c .before .before .before .before .read-window2 .ensures) (a .at + 14) (omega arith) (c .before .before .put-short .ensures))
+    let h = b .before .before .before .before .before .before .pre in
+    let m = along-put s (a .stop) mVoltage (λ u f. then (nidCTraction u) f) 4 refl (along-all s (a .stop) h) h _ (b .before .before .before .read-window .ensures) (a .at + 4) refl (b .put-number .ensures ∙ rw (b .before .volts-figure .ensures)) in
+    along-none s (a .stop) (along-put s (a .stop) (nidCTraction (b .before .before .before .read-window .result)) (λ v f. f) 10 refl m h _ (c .before .before .before .before .read-window2 .ensures) (a .at + 14) (omega arith) (c .before .before .put-short .ensures))
 
 pub wire-spec : {M : Type 1} → statement M
 wire-spec =
@@ -62,9 +58,9 @@ wire-spec =
     read-window-requires
     volts-figure-requires
     put-number-requires
-    add-read-window
+    (λ c. search needs)
     read-window-requires-2
     put-short-requires
-    add-t13
-    same-length
+    (λ c. search needs)
+    (λ c. search needs)
     returns)

@@ -36,11 +36,10 @@ copy-requires-5 c κs =
     let h3 = runs-next 2 2 (c .before .before .before .before .before .before .before .copy3 .ensures) h2 in
     (runs-first 4 0 (runs-next 3 1 (c .before .before .before .copy4 .ensures) h3), refl, lit< tt)
 
-same-length : tie.Need-same-length
-same-length c = search needs
-
 returns : tie.Need-returns
-returns c = runs-wrote 0 4 (c .before .before .before .before .before .before .before .before .before .before .before .before .before .before .before .before .before .before .copy .ensures) (runs-wrote 1 3 (c .before .before .before .before .before .before .before .before .before .before .before .before .before .before .copy2 .ensures) (runs-wrote 2 2 (c .before .before .before .before .before .before .before .before .before .before .copy3 .ensures) (runs-wrote 3 1 (c .before .before .before .before .before .before .copy4 .ensures) (runs-last 4 (c .before .before .copy5 .ensures)))))
+returns c =
+    let b = c .before .before .before .before .before .before .before .before .before .before in
+    runs-wrote 0 4 (b .before .before .before .before .before .before .before .before .copy .ensures) (runs-wrote 1 3 (b .before .before .before .before .copy2 .ensures) (runs-wrote 2 2 (b .copy3 .ensures) (runs-wrote 3 1 (c .before .before .before .before .before .before .copy4 .ensures) (runs-last 4 (c .before .before .copy5 .ensures)))))
 
 pub header-spec : {M : Type 1} → statement M
 header-spec =
@@ -51,5 +50,5 @@ header-spec =
     copy-requires-3
     copy-requires-4
     copy-requires-5
-    same-length
+    (λ c. search needs)
     returns)

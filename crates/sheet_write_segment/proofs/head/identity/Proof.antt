@@ -28,11 +28,10 @@ copy-requires-4 c κs =
     let h2 = runs-next 6 2 (c .before .before .before .before .before .before .before .copy2 .ensures) h1 in
     (runs-first 8 0 (runs-next 7 1 (c .before .before .before .copy3 .ensures) h2), refl, lit< tt)
 
-same-length : tie.Need-same-length
-same-length c = search needs
-
 returns : tie.Need-returns
-returns c = runs-wrote 5 3 (c .before .before .before .before .before .before .before .before .before .before .before .before .before .before .copy .ensures) (runs-wrote 6 2 (c .before .before .before .before .before .before .before .before .before .before .copy2 .ensures) (runs-wrote 7 1 (c .before .before .before .before .before .before .copy3 .ensures) (runs-last 8 (c .before .before .copy4 .ensures))))
+returns c =
+    let b = c .before .before .before .before .before .before in
+    runs-wrote 5 3 (b .before .before .before .before .before .before .before .before .copy .ensures) (runs-wrote 6 2 (b .before .before .before .before .copy2 .ensures) (runs-wrote 7 1 (b .copy3 .ensures) (runs-last 8 (c .before .before .copy4 .ensures))))
 
 pub identity-spec : {M : Type 1} → statement M
 identity-spec =
@@ -42,5 +41,5 @@ identity-spec =
     copy-requires-2
     copy-requires-3
     copy-requires-4
-    same-length
+    (λ c. search needs)
     returns)

@@ -21,9 +21,6 @@ copy-requires-3 c κs =
     let h1 = runs-next 10 2 (c .before .before .before .before .before .before .before .copy .ensures) (c .before .before .before .before .before .before .before .before .before .before .before .pre) in
     (runs-first 12 0 (runs-next 11 1 (c .before .before .before .copy2 .ensures) h1), refl, lit< tt)
 
-same-length : tie.Need-same-length
-same-length c = search needs
-
 returns : tie.Need-returns
 returns c = runs-wrote 10 2 (c .before .before .before .before .before .before .before .before .before .before .copy .ensures) (runs-wrote 11 1 (c .before .before .before .before .before .before .copy2 .ensures) (runs-last 12 (c .before .before .copy3 .ensures)))
 
@@ -34,5 +31,5 @@ offsets-spec =
     copy-requires
     copy-requires-2
     copy-requires-3
-    same-length
+    (λ c. search needs)
     returns)

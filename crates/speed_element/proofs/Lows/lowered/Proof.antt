@@ -4,18 +4,6 @@ use borrow.Author.Needs.{needs}
 use Rattle.speed_element.proofs.Lows.lowered.Statement.{statement}
 use Rattle.speed_element.proofs.Lows.lowered.Tie as tie
 
-by-cant-requires : tie.Need-by-cant-requires
-by-cant-requires c κs = search needs
-
-instead-requires : tie.Need-instead-requires
-instead-requires c κs = search needs
-
-lower-requires : tie.Need-lower-requires
-lower-requires c κs = search needs
-
-lower-requires-2 : tie.Need-lower-requires-2
-lower-requires-2 c κs = search needs
-
 returns : tie.Need-returns
 returns c =
     let b = c .before .before .before .before in
@@ -24,4 +12,4 @@ returns c =
 
 pub lowered-spec : {M : Type 1} → statement M
 lowered-spec =
-    tie.close (tie.spec by-cant-requires instead-requires lower-requires lower-requires-2 returns)
+    tie.close (tie.spec (λ c κs. search needs) (λ c κs. search needs) (λ c κs. search needs) (λ c κs. search needs) returns)

@@ -7,24 +7,6 @@ use borrow.Author.Needs.{needs}
 use Rattle.text.proofs.lines.after_element.Statement.{statement}
 use Rattle.text.proofs.lines.after_element.Tie as tie
 
-past-requires : tie.Need-past-requires
-past-requires c κs = search needs
-
-number-requires : tie.Need-number-requires
-number-requires c κs = search needs
-
-cast-past : tie.Need-cast-past
-cast-past c = search needs
-
-mul-past : tie.Need-mul-past
-mul-past c = search needs
-
-add-past : tie.Need-add-past
-add-past c = search needs
-
-past-requires-2 : tie.Need-past-requires-2
-past-requires-2 c κs = search needs
-
 returns : tie.Need-returns
 returns c =
     let a = c .before .before .before .before .args in
@@ -34,4 +16,4 @@ returns c =
 pub after-element-spec : {M : Type 1} → statement M
 after-element-spec =
     tie.close
-    (tie.spec past-requires number-requires cast-past mul-past add-past past-requires-2 returns)
+    (tie.spec (λ c κs. search needs) (λ c κs. search needs) (λ c. search needs) (λ c. search needs) (λ c. search needs) (λ c κs. search needs) returns)

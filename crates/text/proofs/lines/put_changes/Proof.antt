@@ -40,10 +40,11 @@ loop-less c = omega (arith, c .before .before .before .before .before .before .b
 
 loop-again : tie.Need-loop-again Inv-loop μ-loop
 loop-again c =
-    let t = c .before .before .before .before .before .before .before .loop-test .taken in
-    let l = c .before .before .before .before .before .before .before .before .loop in
+    let b = c .before .before .before .before .before in
+    let t = b .before .before .loop-test .taken in
+    let l = b .before .before .before .loop in
     let e = c .before .before .before .put-element in (
-      changing-on (l .inv .0) (λ z. omega arith) (c .before .before .before .before .before .before .number .ensures) (c .before .before .before .before .before .past .ensures) (e .ensures) (c .after-element .ensures),
+      changing-on (l .inv .0) (λ z. omega arith) (b .before .number .ensures) (b .past .ensures) (e .ensures) (c .after-element .ensures),
       e .kept .1 .1 .1 .0 ∙ l .inv .1,
     )
 

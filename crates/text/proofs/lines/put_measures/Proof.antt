@@ -11,20 +11,8 @@ use borrow.Author.Needs.{needs}
 use Rattle.text.proofs.lines.put_measures.Statement.{statement}
 use Rattle.text.proofs.lines.put_measures.Tie as tie
 
-past-requires : tie.Need-past-requires
-past-requires c κs = search needs
-
-number-requires : tie.Need-number-requires
-number-requires c κs = search needs
-
-slice-aggregate-put-labelled : tie.Need-slice-aggregate-put-labelled
-slice-aggregate-put-labelled c = search needs
-
 put-labelled-requires : tie.Need-put-labelled-requires
 put-labelled-requires c κs = omega (arith, c .before .before .before .before .before .before .pre, decimal-short (c .before .before .number .result))
-
-slice-aggregate-put-word : tie.Need-slice-aggregate-put-word
-slice-aggregate-put-word c = search needs
 
 put-word-requires : tie.Need-put-word-requires
 put-word-requires c κs =
@@ -33,45 +21,42 @@ put-word-requires c κs =
 
 put-signed-requires : tie.Need-put-signed-requires
 put-signed-requires c κs =
-    let s = c .before .before .before .before .before .before .before .before .before .before .before .before .before .before .before in
-    let e = c .before .before .before .before .before .before .before .before .put-labelled .ensures in
+    let b = c .before .before .before .before .before .before .before .before in
+    let s = b .before .before .before .before .before .before .before in
+    let e = b .put-labelled .ensures in
     let f = c .before .before .before .put-word .ensures in
-    omega (arith, s .pre, e .place, laid-long e, f .place, laid-long f, decimal-short (c .before .before .before .before .before .before .before .before .before .before .before .number .result), signed-short (toZ w32 (ofZ w32 (s .args .altitude))))
-
-slice-aggregate-put-word-2 : tie.Need-slice-aggregate-put-word-2
-slice-aggregate-put-word-2 c = search needs
+    omega (arith, s .pre, e .place, laid-long e, f .place, laid-long f, decimal-short (b .before .before .before .number .result), signed-short (toZ w32 (ofZ w32 (s .args .altitude))))
 
 put-word-requires-2 : tie.Need-put-word-requires-2
 put-word-requires-2 c κs =
-    let s = c .before .before .before .before .before .before .before .before .before .before .before .before .before .before .before .before .before .before .before .before in
-    let e = c .before .before .before .before .before .before .before .before .before .before .before .before .before .put-labelled .ensures in
+    let b = c .before .before .before .before .before .before .before .before .before .before .before .before .before in
+    let s = b .before .before .before .before .before .before .before in
+    let e = b .put-labelled .ensures in
     let f = c .before .before .before .before .before .before .before .before .put-word .ensures in
     let g = c .before .before .before .before .put-signed .ensures in
-    omega (arith, s .pre, e .place, laid-long e, f .place, laid-long f, g .place, laid-long g, decimal-short (c .before .before .before .before .before .before .before .before .before .before .before .before .before .before .before .before .number .result), signed-short (toZ w32 (ofZ w32 (s .args .altitude))))
-
-same-length : tie.Need-same-length
-same-length c = search needs
+    omega (arith, s .pre, e .place, laid-long e, f .place, laid-long f, g .place, laid-long g, decimal-short (b .before .before .before .number .result), signed-short (toZ w32 (ofZ w32 (s .args .altitude))))
 
 returns : tie.Need-returns
 returns c =
-    let s = c .before .before .before .before .before .before .before .before .before .before .before .before .before .before .before .before .before .before .before .before .before .before .before in
+    let b = c .before .before .before .before .before .before .before .before .before .before .before .before .before .before .before .before in
+    let s = b .before .before .before .before .before .before .before in
     let ns = numbersIn (now (s .args .sheet)) in
     let z = s .args .altitude in
-    measures-laid _ (toZ w32 (ofZ w32 z)) z ns (c .before .before .before .before .before .before .before .before .before .before .before .before .before .before .before .before .put-labelled .ensures) (c .before .before .before .before .before .before .before .before .before .before .before .put-word .ensures) (c .before .before .before .before .before .before .before .put-signed .ensures) (c .before .before .put-word2 .ensures)
-    (value-at 10 ns (c .before .before .before .before .before .before .before .before .before .before .before .before .before .before .before .before .before .before .before .before .past .ensures) (c .before .before .before .before .before .before .before .before .before .before .before .before .before .before .before .before .before .before .before .number .ensures)) (same z (s .fits .altitude))
+    measures-laid _ (toZ w32 (ofZ w32 z)) z ns (b .put-labelled .ensures) (c .before .before .before .before .before .before .before .before .before .before .before .put-word .ensures) (c .before .before .before .before .before .before .before .put-signed .ensures) (c .before .before .put-word2 .ensures)
+    (value-at 10 ns (b .before .before .before .before .past .ensures) (b .before .before .before .number .ensures)) (same z (s .fits .altitude))
 
 pub put-measures-spec : {M : Type 1} → statement M
 put-measures-spec =
     tie.close
     (tie.spec
-    past-requires
-    number-requires
-    slice-aggregate-put-labelled
+    (λ c κs. search needs)
+    (λ c κs. search needs)
+    (λ c. search needs)
     put-labelled-requires
-    slice-aggregate-put-word
+    (λ c. search needs)
     put-word-requires
     put-signed-requires
-    slice-aggregate-put-word-2
+    (λ c. search needs)
     put-word-requires-2
-    same-length
+    (λ c. search needs)
     returns)

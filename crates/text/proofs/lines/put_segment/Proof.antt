@@ -11,17 +11,11 @@ use borrow.Author.Needs.{needs}
 use Rattle.text.proofs.lines.put_segment.Statement.{statement}
 use Rattle.text.proofs.lines.put_segment.Tie as tie
 
-put-names-requires : tie.Need-put-names-requires
-put-names-requires c κs = search needs
-
 put-measures-requires : tie.Need-put-measures-requires
 put-measures-requires c κs =
     let s = c .before .before .before .before .before .before .before in
     let e = c .before .before .before .put-names .ensures in
     omega (arith, s .pre, e .place, laid-long e, names-short (numbersIn (now (s .args .sheet))))
-
-same-length : tie.Need-same-length
-same-length c = search needs
 
 returns : tie.Need-returns
 returns c =
@@ -31,4 +25,4 @@ returns c =
 
 pub put-segment-spec : {M : Type 1} → statement M
 put-segment-spec =
-    tie.close (tie.spec put-names-requires put-measures-requires same-length returns)
+    tie.close (tie.spec (λ c κs. search needs) put-measures-requires (λ c. search needs) returns)

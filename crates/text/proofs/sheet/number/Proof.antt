@@ -6,15 +6,6 @@ use borrow.Author.Needs.{needs}
 use Rattle.text.proofs.sheet.number.Statement.{statement}
 use Rattle.text.proofs.sheet.number.Tie as tie
 
-number-at-requires : tie.Need-number-at-requires
-number-at-requires c κs = search needs
-
-enum-known-v : tie.Need-enum-known-v
-enum-known-v c = search needs
-
-enum-told : tie.Need-enum-told
-enum-told c = search needs
-
 returns : tie.Need-returns
 returns c =
     let a = c .before .before .before .before .before .args in
@@ -26,4 +17,4 @@ returns-2 c =
     no-number (now (a .sheet)) (a .at) (sym (c .before .before .number-at .ensures) ∙ c .enum-told .given .1)
 
 pub number-spec : {M : Type 1} → statement M
-number-spec = tie.close (tie.spec number-at-requires enum-known-v enum-told returns returns-2)
+number-spec = tie.close (tie.spec (λ c κs. search needs) (λ c. search needs) (λ c. search needs) returns returns-2)

@@ -23,14 +23,8 @@ loop-holds c = (omega arith, refl)
 number-at-requires : tie.Need-number-at-requires Inv-loop μ-loop
 number-at-requires c κs = tt
 
-enum-known-v : tie.Need-enum-known-v Inv-loop μ-loop
-enum-known-v c = search needs
-
 groups-requires : tie.Need-groups-requires Inv-loop μ-loop
 groups-requires c κs = tt
-
-cast-place : tie.Need-cast-place Inv-loop μ-loop
-cast-place c = omega arith
 
 -- the number's groups are inside the sheet
 inside : (c : tie.After-groups Inv-loop μ-loop) → c .before .before .before .before .before .before .loop .place + c .groups .result ≤ length (now (c .before .before .before .before .before .before .before .before .args .sheet))
@@ -44,22 +38,14 @@ inside c =
 add-place : tie.Need-add-place Inv-loop μ-loop
 add-place c = omega (arith, inside c)
 
-sub-left : tie.Need-sub-left Inv-loop μ-loop
-sub-left c = omega arith
-
-loop-less : tie.Need-loop-less Inv-loop μ-loop
-loop-less c = omega arith
-
 loop-again : tie.Need-loop-again Inv-loop μ-loop
 loop-again c =
-    let s = now (c .before .before .before .before .before .before .before .before .args .sheet) in
-    let l = c .before .before .before .before .before .before .loop in
-    let ok = bytes-of s (λ i. c .before .before .before .before .before .before .before .shared-slice-known .given i .fits) in
-    let e = sym (c .before .before .before .before .number-at .ensures) ∙ c .before .before .v .given .1 in
+    let b = c .before .before .before .before in
+    let s = now (b .before .before .before .before .args .sheet) in
+    let l = b .before .before .loop in
+    let ok = bytes-of s (λ i. b .before .before .before .shared-slice-known .given i .fits) in
+    let e = sym (b .number-at .ensures) ∙ c .before .before .v .given .1 in
     (inside c, rw (c .groups .ensures) (past-more s (l .place) ok _ e (l .left) _ (λ z. omega arith) (l .inv .1)))
-
-enum-told : tie.Need-enum-told Inv-loop μ-loop
-enum-told c = search needs
 
 returns : tie.Need-returns Inv-loop μ-loop
 returns c =
@@ -84,13 +70,13 @@ past-spec =
     μ-loop
     loop-holds
     number-at-requires
-    enum-known-v
+    (λ c. search needs)
     groups-requires
-    cast-place
+    (λ c. omega arith)
     add-place
-    sub-left
-    loop-less
+    (λ c. omega arith)
+    (λ c. omega arith)
     loop-again
-    enum-told
+    (λ c. search needs)
     returns
     returns-2)

@@ -19,11 +19,8 @@ put-decimal-requires c κs =
     let e = c .before .before .before .put-word .ensures in
     omega (arith, s .pre, length-append (now (s .args .word)) (decimal (s .args .v)), e .place, laid-long e)
 
-same-length : tie.Need-same-length
-same-length c = search needs
-
 returns : tie.Need-returns
 returns c = laid-on (c .before .before .before .before .before .before .put-word .ensures) (c .before .before .put-decimal .ensures)
 
 pub put-labelled-spec : {M : Type 1} → statement M
-put-labelled-spec = tie.close (tie.spec put-word-requires put-decimal-requires same-length returns)
+put-labelled-spec = tie.close (tie.spec put-word-requires put-decimal-requires (λ c. search needs) returns)

@@ -8,12 +8,6 @@ use borrow.Author.Needs.{needs}
 use Rattle.text.proofs.words.put_signed.Statement.{statement}
 use Rattle.text.proofs.words.put_signed.Tie as tie
 
-magnitude-requires : tie.Need-magnitude-requires
-magnitude-requires c κs = search needs
-
-slice-aggregate-put-word : tie.Need-slice-aggregate-put-word
-slice-aggregate-put-word c = search needs
-
 put-word-requires : tie.Need-put-word-requires
 put-word-requires c κs =
     let s = c .before .before .before .before .before in
@@ -21,27 +15,23 @@ put-word-requires c κs =
 
 put-decimal-requires : tie.Need-put-decimal-requires
 put-decimal-requires c κs =
-    let s = c .before .before .before .before .before .before .before .before .before in
+    let b = c .before .before .before .before .before .before in
+    let s = b .before .before .before in
     let e = c .before .before .before .put-word .ensures in
-    let t = text-below (s .args .z) (s .fits .z) _ (c .before .before .before .before .before .before .before .magnitude .ensures) (c .before .before .before .before .before .before .if1 .taken) in
+    let t = text-below (s .args .z) (s .fits .z) _ (b .before .magnitude .ensures) (b .if1 .taken) in
     omega (arith, s .pre, ap length t, e .place, laid-long e)
-
-same-length : tie.Need-same-length
-same-length c = search needs
 
 returns : tie.Need-returns
 returns c =
-    let s = c .before .before .before .before .before .before .before .before .before .before .before .before in
-    let t = text-below (s .args .z) (s .fits .z) _ (c .before .before .before .before .before .before .before .before .before .before .magnitude .ensures) (c .before .before .before .before .before .before .before .before .before .if1 .taken) in
-    rw (← t) (laid-on (c .before .before .before .before .before .before .put-word .ensures) (c .before .before .put-decimal .ensures))
+    let b = c .before .before .before .before .before .before in
+    let s = b .before .before .before .before .before .before in
+    let t = text-below (s .args .z) (s .fits .z) _ (b .before .before .before .before .magnitude .ensures) (b .before .before .before .if1 .taken) in
+    rw (← t) (laid-on (b .put-word .ensures) (c .before .before .put-decimal .ensures))
 
 put-decimal-requires-2 : tie.Need-put-decimal-requires-2
 put-decimal-requires-2 c κs =
     let s = c .before .before .before .before in
     omega (arith, s .pre, ap length (text-not-below (s .args .z) (s .fits .z) _ (c .before .before .magnitude .ensures) (c .before .if1 .left)))
-
-same-length-2 : tie.Need-same-length-2
-same-length-2 c = search needs
 
 returns-2 : tie.Need-returns-2
 returns-2 c =
@@ -53,12 +43,12 @@ pub put-signed-spec : {M : Type 1} → statement M
 put-signed-spec =
     tie.close
     (tie.spec
-    magnitude-requires
-    slice-aggregate-put-word
+    (λ c κs. search needs)
+    (λ c. search needs)
     put-word-requires
     put-decimal-requires
-    same-length
+    (λ c. search needs)
     returns
     put-decimal-requires-2
-    same-length-2
+    (λ c. search needs)
     returns-2)

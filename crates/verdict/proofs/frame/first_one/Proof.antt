@@ -15,26 +15,8 @@ use Rattle.verdict.proofs.frame.first_one.Reads as reads
 use Rattle.verdict.proofs.frame.first_one.Lts as lts
 use Rattle.bits.proofs.read_field.Reads as read-field-reads
 
-mul-read-field : tie.Need-mul-read-field
-mul-read-field c = search needs
-
-sub-read-field : tie.Need-sub-read-field
-sub-read-field c = search needs
-
-cast-read-field : tie.Need-cast-read-field
-cast-read-field c = search needs
-
-read-field-requires : tie.Need-read-field-requires
-read-field-requires c κs = search needs
-
-mul-result : tie.Need-mul-result
-mul-result c = search needs
-
 sub-result : tie.Need-sub-result
 sub-result c = omega (arith, leading-le 32 (c .read-field .result))
-
-cast-result : tie.Need-cast-result
-cast-result c = search needs
 
 -- the first 1, and the bits from it on
 place : (c : lts.After-read-field (read-field-reads.Asked, read-field-reads.Learnt) reads.Pre reads.Post)
@@ -52,12 +34,12 @@ pub first-one-spec : {M : Type 1} → statement M
 first-one-spec =
     tie.close
     (tie.spec
-    mul-read-field
-    sub-read-field
-    cast-read-field
-    read-field-requires
-    mul-result
+    (λ c. search needs)
+    (λ c. search needs)
+    (λ c. search needs)
+    (λ c κs. search needs)
+    (λ c. search needs)
     sub-result
-    cast-result
+    (λ c. search needs)
     sub-result-2
     returns)

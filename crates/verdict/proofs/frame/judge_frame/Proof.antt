@@ -11,29 +11,8 @@ use Rattle.verdict.proofs.frame.judge_frame.Tie as tie
 returns : tie.Need-returns
 returns c = frame-short (c .before .before .args .number) (now (c .before .before .args .s)) (c .if1 .taken)
 
-read-field-requires : tie.Need-read-field-requires
-read-field-requires c κs = search needs
-
 returns-2 : tie.Need-returns-2
 returns-2 c = frame-number (c .before .before .before .before .args .number) (now (c .before .before .before .before .args .s)) (omega arith) (λ e. c .if2 .taken (c .before .read-field .ensures ∙ e))
-
-read-field-requires-2 : tie.Need-read-field-requires-2
-read-field-requires-2 c κs = search needs
-
-cast-body : tie.Need-cast-body
-cast-body c = search needs
-
-add-if3 : tie.Need-add-if3
-add-if3 c = search needs
-
-add-if3-2 : tie.Need-add-if3-2
-add-if3-2 c = search needs
-
-mul-t11 : tie.Need-mul-t11
-mul-t11 c = search needs
-
-add-t12 : tie.Need-add-t12
-add-t12 c = search needs
 
 returns-3 : tie.Need-returns-3
 returns-3 c =
@@ -56,13 +35,13 @@ judge-frame-spec =
     tie.close
     (tie.spec
     returns
-    read-field-requires
+    (λ c κs. search needs)
     returns-2
-    read-field-requires-2
-    cast-body
-    add-if3
-    add-if3-2
-    mul-t11
-    add-t12
+    (λ c κs. search needs)
+    (λ c. search needs)
+    (λ c. search needs)
+    (λ c. search needs)
+    (λ c. search needs)
+    (λ c. search needs)
     returns-3
     returns-4)

@@ -6,12 +6,6 @@ use borrow.Author.Needs.{needs}
 use Rattle.kinds.proofs.body.NidCTraction.rule.Statement.{statement}
 use Rattle.kinds.proofs.body.NidCTraction.rule.Tie as tie
 
-up-to-requires : tie.Need-up-to-requires
-up-to-requires c κs = search needs
-
-up-to-requires-2 : tie.Need-up-to-requires-2
-up-to-requires-2 c κs = search needs
-
 returns : tie.Need-returns
 returns c = rw (c .before .if1 .taken) (c .up-to .ensures)
 
@@ -19,4 +13,4 @@ returns-2 : tie.Need-returns-2
 returns-2 c = c .up-to2 .ensures ∙ ap (upTo 10) (traction-other (c .before .before .args .voltage) (c .before .if1 .left))
 
 pub rule-spec : {M : Type 1} → statement M
-rule-spec = tie.close (tie.spec up-to-requires up-to-requires-2 returns returns-2)
+rule-spec = tie.close (tie.spec (λ c κs. search needs) (λ c κs. search needs) returns returns-2)

@@ -9,14 +9,8 @@ use Rattle.kinds.proofs.journey.DTcEndLocation.rule.Tie as tie
 returns : tie.Need-returns
 returns c = rw (c .if1 .taken)
 
-most-requires : tie.Need-most-requires
-most-requires c κs = search needs
-
-up-to-requires : tie.Need-up-to-requires
-up-to-requires c κs = search needs
-
 returns-2 : tie.Need-returns-2
 returns-2 c = rw (ne-eqb (c .before .before .before .args .range) 2 (c .before .before .if1 .left)) (c .up-to .ensures ∙ ap (upTo 24) (c .before .most .ensures))
 
 pub rule-spec : {M : Type 1} → statement M
-rule-spec = tie.close (tie.spec returns most-requires up-to-requires returns-2)
+rule-spec = tie.close (tie.spec returns (λ c κs. search needs) (λ c κs. search needs) returns-2)

@@ -7,11 +7,8 @@ use Rattle.kinds.proofs.journey.VSpeedLevel.rule.Tie as tie
 returns : tie.Need-returns
 returns c = rw (c .if1 .taken)
 
-up-to-requires : tie.Need-up-to-requires
-up-to-requires c κs = search needs
-
 returns-2 : tie.Need-returns-2
 returns-2 c = rw (ne-eqb (c .before .before .args .of) 0 (c .before .if1 .left)) (c .up-to .ensures)
 
 pub rule-spec : {M : Type 1} → statement M
-rule-spec = tie.close (tie.spec returns up-to-requires returns-2)
+rule-spec = tie.close (tie.spec returns (λ c κs. search needs) returns-2)
