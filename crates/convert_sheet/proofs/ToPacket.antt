@@ -38,7 +38,7 @@ use Rattle.grammar.specs.link.Trees.{treeSheetFields, treeSheet, treeOfSheet}
 use Rattle.grammar.proofs.link.Values.{tree-packet, count-accepted}
 use Rattle.grammar.proofs.link.Ends.{bits-is, tree-bits}
 use Rattle.grammar.proofs.link.Sheets as link
-use Rattle.packet_write_segment.specs.declared.elements.Spot.{Spot}
+use Rattle.packet_write_segment.specs.declared.elements.PacketSpot.{PacketSpot}
 use Rattle.packet_write_segment.specs.elements.Writing.{writer, Ready, Wrote}
 use Rattle.packet_write_segment.proofs.elements.Writing.{run-told}
 use Rattle.verdict.specs.declared.SheetVerdict.the-variants.{PacketBits, Refused}
@@ -159,7 +159,7 @@ module _ (t : Tree) (s : List ℕ) (ok : Bytes s) (a : SheetAccepted t s) where
     pub header-may : Ready headerPart s h2 (record { from = length (groupsIn (treeNumber t)); at = 24; wait = wait })
     header-may = header-ready h2 (bitsOf 8 (treeNumber t) ++ bitsOf 16 n) wait begun
 
-    pub header-done : {h3 : List ℕ} {q : Spot} → Wrote headerPart s h2 (record { from = length (groupsIn (treeNumber t)); at = 24; wait = wait }) h3 q → q .at ≡ 120 → Headed t s h3 (q .from)
+    pub header-done : {h3 : List ℕ} {q : PacketSpot} → Wrote headerPart s h2 (record { from = length (groupsIn (treeNumber t)); at = 24; wait = wait }) h3 q → q .at ≡ 120 → Headed t s h3 (q .from)
     header-done {h3} {q} w e =
         let b = w .bits in
         let g = apart b (q .from) (w .over [] .stands) (sym (all-told []) ∙ w .over [] .goes (treeBodyPart t end)) in
@@ -199,7 +199,7 @@ module _ (t : Tree) (s : List ℕ) (ok : Bytes s) (at : ℕ) (h : BodyAt t s at)
   body-bits bits to [] e = cc
   body-bits bits to (b ∷ u) e = absurd (let z : _≡_ {A = ℕ} 0 1 = cc in omega arith)
 
-  pub body-done : {room after : List ℕ} {q : Spot} → length room ≡ (length (bodyBitsOf t s at) + 7) / 8 → Wrote (treeBodyPart t) s room (record { from = at; at = 0; wait = 0 }) after q
+  pub body-done : {room after : List ℕ} {q : PacketSpot} → length room ≡ (length (bodyBitsOf t s at) + 7) / 8 → Wrote (treeBodyPart t) s room (record { from = at; at = 0; wait = 0 }) after q
       → after ≡ bytesOfBits (bodyBitsOf t s at)
   body-done {room} {after} {q} l w =
       let e : w .bits ≡ bodyBitsOf t s at = body-bits (w .bits) (q .from) (drop (q .from) s) (sym (body-told []) ∙ w .over [] .goes end) in

@@ -18,7 +18,7 @@ use convert::refused;
 use grammar::link::Tree;
 use kinds::header;
 use numbers::Number;
-use packet_write_segment::elements::Spot;
+use packet_write_segment::elements::PacketSpot;
 use verdict::SheetVerdict;
 use verdict::frame::FIRST_FIELD;
 use verdict::frame::HEADER;
@@ -33,7 +33,7 @@ fn write_header(tree: Tree, nid: u32, sheet: &[u8], header: &mut [u8], bits: u32
 {
     let number = bits::write::put(header, 0, 0, header::NidPacketAto::WIDTH, nid);
     let wait = bits::write::put(header, 8, number, header::LPacketAto::WIDTH, bits);
-    let first = Spot {
+    let first = PacketSpot {
         from: numbers::write::groups(nid) as usize,
         at: FIRST_FIELD,
         wait,
@@ -51,7 +51,7 @@ fn tree_header(tree: Tree, sheet: &[u8], header: &mut [u8], bits: u32) -> usize
 }
 
 // The fields of the body, by its tree.
-fn tree_body(tree: Tree, sheet: &[u8], room: &mut [u8], p: Spot) -> Spot
+fn tree_body(tree: Tree, sheet: &[u8], room: &mut [u8], p: PacketSpot) -> PacketSpot
     requires { ⌜ Ready (treeBodyPart tree) (now sheet) (now room) p ⌝ }
     ensures { λ r. ⌜ Wrote (treeBodyPart tree) (now (sheet .entry)) (now (room .entry)) p (now (room .exit)) r ⌝ }
 {
@@ -66,7 +66,7 @@ fn write_body(tree: Tree, sheet: &[u8], start: usize, body: &mut [u8], bytes: us
     requires { ⌜ BodyAt tree (now sheet) start × (bytes ≡ (length (bodyBitsOf tree (now sheet) start) + 7) / 8) × (bytes ≤ length (now body)) × (length (bodyBitsOf tree (now sheet) start) < 2 ^ 31) ⌝ }
     ensures { λ _. ⌜ now (body .exit) ≡ bytesOfBits (bodyBitsOf tree (now (sheet .entry)) start) ++ drop ((length (bodyBitsOf tree (now (sheet .entry)) start) + 7) / 8) (now (body .entry)) ⌝ }
 {
-    let first = Spot {
+    let first = PacketSpot {
         from: start,
         at: 0,
         wait: 0,

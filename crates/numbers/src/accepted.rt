@@ -3,7 +3,7 @@ ghost use mathlib.Core.Path.{_≡_};
 ghost use Rattle.numbers.specs.accepted.Accepted.{There, Single, Reads};
 
 // A number, and the place after it.
-pub struct Taken {
+pub struct ReadNumber {
     pub value: u32,
     pub next: usize,
 }
@@ -15,18 +15,18 @@ fn wide(x: u8) -> u32
 }
 
 // The number at the byte from, of one group: the place after it waits for no byte.
-pub fn single(s: &[u8], from: usize) -> Taken
+pub fn single(s: &[u8], from: usize) -> ReadNumber
     requires { ⌜ Single (now s) from ⌝ }
     ensures { λ r. ⌜ Reads (now (s .entry)) from r ⌝ }
 {
-    Taken {
+    ReadNumber {
         value: wide(s[from]),
         next: from + 1,
     }
 }
 
 // The number at the byte from, group by group.
-fn longer(s: &[u8], from: usize) -> Taken
+fn longer(s: &[u8], from: usize) -> ReadNumber
     requires { ⌜ There (now s) from ⌝ }
     ensures { λ r. ⌜ Reads (now (s .entry)) from r ⌝ }
 {
@@ -40,14 +40,14 @@ fn longer(s: &[u8], from: usize) -> Taken
         at += 1;
         b = wide(s[at]);
     }
-    Taken {
+    ReadNumber {
         value: value + b * scale,
         next: at + 1,
     }
 }
 
 // The number at the byte from: mostly of one group or two, which no branch tells apart.
-pub fn number(s: &[u8], from: usize) -> Taken
+pub fn number(s: &[u8], from: usize) -> ReadNumber
     requires { ⌜ There (now s) from ⌝ }
     ensures { λ r. ⌜ Reads (now (s .entry)) from r ⌝ }
 {
@@ -55,7 +55,7 @@ pub fn number(s: &[u8], from: usize) -> Taken
     let more = b / 128;
     let last = wide(s[from + more as usize]);
     if last < 128 {
-        return Taken {
+        return ReadNumber {
             value: b % 128 + last * (more * 128),
             next: from + 1 + more as usize,
         };

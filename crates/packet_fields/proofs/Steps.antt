@@ -17,8 +17,8 @@ use Rattle.format.specs.Places.{Taken, Placed, takenAt, bitsTaken}
 use Rattle.format.proofs.Places.{bits-short, bits-whole}
 use Rattle.format.proofs.Passing.{packet-seen}
 use Rattle.format.proofs.Ways.{value-on, value-off, over-none, took-is, took-off}
-use Rattle.packet_fields.specs.declared.Step.the-variants.{On, Refused}
-use Rattle.packet_fields.specs.declared.Next.the-variants as Next
+use Rattle.packet_fields.specs.declared.PacketStep.the-variants.{On, Refused}
+use Rattle.packet_fields.specs.declared.PacketValue.the-variants as PacketValue
 use Rattle.packet_fields.specs.Judging.{judging, Standing, Over, Took}
 
 module _ (s : List ℕ) (stop : ℕ) where
@@ -28,23 +28,23 @@ module _ (s : List ℕ) (stop : ℕ) where
   -- ---- a field of w bits: they are not all there, or its value is v, of r bytes in the sheet, none where it is refused
 
   module _ (k : Kind) (w : ℕ) (e : k .width ≡ w) {at n : ℕ} (h : Standing s stop at n) where
-    refused : {r : ℕ} → Taken.Refused r ≡ bitsTaken k s at stop → Took k s stop at n (Next.Refused r at)
+    refused : {r : ℕ} → Taken.Refused r ≡ bitsTaken k s at stop → Took k s stop at n (PacketValue.Refused r at)
     refused q = took-off (packet-seen s stop) judging (Standing s stop) k (placed h) q
 
-    pub took-short : stop - at < w → Took k s stop at n (Next.Refused 6 at)
+    pub took-short : stop - at < w → Took k s stop at n (PacketValue.Refused 6 at)
     took-short l = refused (bits-short k s at stop (rw e l))
 
     module _ (some : 1 ≤ w) (room : w ≤ stop - at) {v r : ℕ} (ev : v ≡ fieldAt s at w) (er : r ≡ bytesOf (valueInPacket k v)) where
       there : takenAt (valueInPacket k v) (at + w) ≡ bitsTaken k s at stop
       there = rw (ev, ← e) (bits-whole k s at stop (rw e room))
 
-      pub took-none : r ≡ 0 → Took k s stop at n (Next.Refused (k .refusal v) at)
+      pub took-none : r ≡ 0 → Took k s stop at n (PacketValue.Refused (k .refusal v) at)
       took-none z =
           by-cases (k .allowed v)
           (λ a. absurd (let f : bytesOf (valueInPacket k v) ≡ length (groupsIn (k .raise v)) = rw a in omega (arith, count-some (k .raise v))))
           (λ a. refused (rw a at there))
 
-      pub took-some : (r ≡ 0 → ⊥) → Took k s stop at n (Next.Is v (at + w) (n + r))
+      pub took-some : (r ≡ 0 → ⊥) → Took k s stop at n (PacketValue.Is v (at + w) (n + r))
       took-some z =
           by-cases (k .allowed v)
           (λ a. let f : r ≡ length (groupsIn (k .raise v)) = er ∙ rw a in
@@ -59,8 +59,8 @@ module _ (s : List ℕ) (stop : ℕ) where
 
   -- the same of a field on whose value nothing depends
 
-  pub past : {k : Kind} {at n v to m : ℕ} → Took k s stop at n (Next.Is v to m) → Over (then k) s stop at n (On to m)
+  pub past : {k : Kind} {at n v to m : ℕ} → Took k s stop at n (PacketValue.Is v to m) → Over (then k) s stop at n (On to m)
   past t = value-on (λ v f. f) t (over-none (t .stands))
 
-  pub past-off : {k : Kind} {at n r place : ℕ} → Took k s stop at n (Next.Refused r place) → Over (then k) s stop at n (Refused r place)
+  pub past-off : {k : Kind} {at n r place : ℕ} → Took k s stop at n (PacketValue.Refused r place) → Over (then k) s stop at n (Refused r place)
   past-off t = value-off (λ v f. f) t

@@ -9,10 +9,10 @@ use Rattle.format.specs.Media.{packet, sheet}
 use Rattle.format.specs.Places.{bitsBetween}
 use Rattle.verdict.specs.declared.PacketVerdict.{PacketVerdict}
 use Rattle.verdict.specs.declared.PacketVerdict.the-variants as PacketVerdict
-use Rattle.packet_fields.specs.declared.Step.{Step}
-use Rattle.packet_fields.specs.declared.Step.the-variants.{On, Refused}
-use Rattle.packet_fields.specs.declared.Next.{Next}
-use Rattle.packet_fields.specs.declared.Next.the-variants as Next
+use Rattle.packet_fields.specs.declared.PacketStep.{PacketStep}
+use Rattle.packet_fields.specs.declared.PacketStep.the-variants.{On, Refused}
+use Rattle.packet_fields.specs.declared.PacketValue.{PacketValue}
+use Rattle.packet_fields.specs.declared.PacketValue.the-variants as PacketValue
 use Rattle.format.specs.Pass.{Task, pass}
 use Rattle.format.specs.Tasks.{counting}
 use Rattle.format.specs.Ways as ways
@@ -38,24 +38,24 @@ pub record Standing (s : List ℕ) (stop at n : ℕ) : Type 0 where
 abbrev pub judge : List ℕ → ℕ → Way ℕ PacketVerdict
 judge s stop = passing packet judging (λ at. bitsBetween s at stop) (Standing s stop)
 
-abbrev pub went : Step → Went ℕ
+abbrev pub went : PacketStep → Went ℕ
 went (On at n) = Went.on at n
 went (Refused r at) = Went.off r at
 
-abbrev pub got : Next → Got ℕ
-got (Next.Is v at n) = Got.is v at n
-got (Next.Refused r at) = Got.off r at
+abbrev pub got : PacketValue → Got ℕ
+got (PacketValue.Is v at n) = Got.is v at n
+got (PacketValue.Refused r at) = Got.off r at
 
 -- A step over a part of the tree: whatever follows the part, the verdict is the verdict from the step on.
-abbrev pub Over : (Format → Format) → List ℕ → ℕ → ℕ → ℕ → Step → Type 0
+abbrev pub Over : (Format → Format) → List ℕ → ℕ → ℕ → ℕ → PacketStep → Type 0
 Over part s stop at n r = ways.Over (judge s stop) part at n (went r)
 
 -- the same of one field, on whose value what follows may depend
-abbrev pub Took : Kind → List ℕ → ℕ → ℕ → ℕ → Next → Type 0
+abbrev pub Took : Kind → List ℕ → ℕ → ℕ → ℕ → PacketValue → Type 0
 Took k s stop at n r = ways.Took (judge s stop) k at n (got r)
 
 -- the same of a part with a field on whose value what follows may depend
-abbrev pub Gave : ((ℕ → Format) → Format) → List ℕ → ℕ → ℕ → ℕ → Next → Type 0
+abbrev pub Gave : ((ℕ → Format) → Format) → List ℕ → ℕ → ℕ → ℕ → PacketValue → Type 0
 Gave part s stop at n r = ways.Gave (judge s stop) part at n (got r)
 
 -- a width that a field can have

@@ -13,42 +13,42 @@ use kinds::Rule;
 use kinds::body;
 
 // The place after a part with the bytes counted so far, or a refusal and its place.
-pub enum Step {
+pub enum PacketStep {
     On(usize, usize),
     Refused(u32, u32),
 }
 
 // The same after a field, with its value.
-pub enum Next {
+pub enum PacketValue {
     Is(u32, usize, usize),
     Refused(u32, u32),
 }
 
 // A field at the bit at, n bytes counted before it.
-pub fn field(s: &[u8], stop: usize, at: usize, n: usize, rule: Rule) -> Next
+pub fn field(s: &[u8], stop: usize, at: usize, n: usize, rule: Rule) -> PacketValue
     requires { ⌜ Standing (now s) stop at n × Wide (meaning rule) ⌝ }
     ensures { λ r. ⌜ Took (meaning rule) (now (s .entry)) stop at n r ⌝ }
 {
     let width = fields::width(rule);
     if stop - at < width as usize {
-        return Next::Refused(verdict::UNFIT, at as u32);
+        return PacketValue::Refused(verdict::UNFIT, at as u32);
     }
     let v = bits::read_window(s, at, width);
     let bytes = fields::size::by(rule, v);
     if bytes == 0 {
-        return Next::Refused(fields::size::refusal(rule, v), at as u32);
+        return PacketValue::Refused(fields::size::refusal(rule, v), at as u32);
     }
-    Next::Is(v, at + width as usize, n + bytes as usize)
+    PacketValue::Is(v, at + width as usize, n + bytes as usize)
 }
 
 // The same of a field on whose value nothing depends.
-pub fn plain(s: &[u8], stop: usize, at: usize, n: usize, rule: Rule) -> Step
+pub fn plain(s: &[u8], stop: usize, at: usize, n: usize, rule: Rule) -> PacketStep
     requires { ⌜ Standing (now s) stop at n × Wide (meaning rule) ⌝ }
     ensures { λ r. ⌜ Over (then (meaning rule)) (now (s .entry)) stop at n r ⌝ }
 {
     match field(s, stop, at, n, rule) {
-        Next::Refused(r, place) => Step::Refused(r, place),
-        Next::Is(_, to, m) => Step::On(to, m),
+        PacketValue::Refused(r, place) => PacketStep::Refused(r, place),
+        PacketValue::Is(_, to, m) => PacketStep::On(to, m),
     }
 }
 
@@ -57,52 +57,52 @@ pub fn plain(s: &[u8], stop: usize, at: usize, n: usize, rule: Rule) -> Step
 const COUNT: usize = body::NIter::WIDTH as usize;
 
 // N_ITER up to a limit.
-pub fn count(s: &[u8], stop: usize, at: usize, n: usize, limit: u32) -> Next
+pub fn count(s: &[u8], stop: usize, at: usize, n: usize, limit: u32) -> PacketValue
     requires { ⌜ Standing (now s) stop at n × (limit < 128) ⌝ }
     ensures { λ r. ⌜ Took (nIter limit) (now (s .entry)) stop at n r ⌝ }
 {
     if stop - at < COUNT {
-        return Next::Refused(verdict::UNFIT, at as u32);
+        return PacketValue::Refused(verdict::UNFIT, at as u32);
     }
     let v = bits::read_window(s, at, body::NIter::WIDTH);
     let bytes = fields::size::one(limit, v);
     if bytes == 0 {
-        return Next::Refused(OUT_OF_RANGE, at as u32);
+        return PacketValue::Refused(OUT_OF_RANGE, at as u32);
     }
-    Next::Is(v, at + COUNT, n + bytes as usize)
+    PacketValue::Is(v, at + COUNT, n + bytes as usize)
 }
 
 const PLACE: usize = body::DLocation::WIDTH as usize;
 
 // D_LOCATION after the last one and before L_SP.
-pub fn location(s: &[u8], stop: usize, at: usize, n: usize, last: u32, lsp: u32) -> Next
+pub fn location(s: &[u8], stop: usize, at: usize, n: usize, last: u32, lsp: u32) -> PacketValue
     requires { ⌜ Standing (now s) stop at n ⌝ }
     ensures { λ r. ⌜ Took (dLocation last lsp) (now (s .entry)) stop at n r ⌝ }
 {
     if stop - at < PLACE {
-        return Next::Refused(verdict::UNFIT, at as u32);
+        return PacketValue::Refused(verdict::UNFIT, at as u32);
     }
     let v = bits::read_window(s, at, body::DLocation::WIDTH);
     let bytes = fields::size::location(last, lsp, v);
     if bytes == 0 {
-        return Next::Refused(LOCATION, at as u32);
+        return PacketValue::Refused(LOCATION, at as u32);
     }
-    Next::Is(v, at + PLACE, n + bytes as usize)
+    PacketValue::Is(v, at + PLACE, n + bytes as usize)
 }
 
 const CURRENT: usize = body::MCurrent::WIDTH as usize;
 
 // M_CURRENT.
-pub fn current(s: &[u8], stop: usize, at: usize, n: usize) -> Step
+pub fn current(s: &[u8], stop: usize, at: usize, n: usize) -> PacketStep
     requires { ⌜ Standing (now s) stop at n ⌝ }
     ensures { λ r. ⌜ Over segment.current (now (s .entry)) stop at n r ⌝ }
 {
     if stop - at < CURRENT {
-        return Step::Refused(verdict::UNFIT, at as u32);
+        return PacketStep::Refused(verdict::UNFIT, at as u32);
     }
     let bytes = fields::size::current(bits::read_window(s, at, body::MCurrent::WIDTH));
     if bytes == 0 {
-        return Step::Refused(OUT_OF_RANGE, at as u32);
+        return PacketStep::Refused(OUT_OF_RANGE, at as u32);
     }
-    Step::On(at + CURRENT, n + bytes as usize)
+    PacketStep::On(at + CURRENT, n + bytes as usize)
 }

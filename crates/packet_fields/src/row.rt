@@ -4,10 +4,10 @@ ghost use mathlib.Core.Bool.{true};
 ghost use Rattle.grammar.specs.rows.Rows as rows;
 ghost use Rattle.grammar.specs.rows.Rows.{fits};
 ghost use Rattle.packet_fields.specs.Judging.{Standing, Over};
-use crate::Step;
+use crate::PacketStep;
 
 // The fields field by field, each from 0 to its largest value.
-pub fn row(s: &[u8], stop: usize, at: usize, n: usize, widths: &[u32], most: &[u32]) -> Step
+pub fn row(s: &[u8], stop: usize, at: usize, n: usize, widths: &[u32], most: &[u32]) -> PacketStep
     requires { ⌜ Standing (now s) stop at n × (fits (now widths) (now most) ≡ true) ⌝ }
     ensures { λ r. ⌜ Over (rows.row (now (widths .entry)) (now (most .entry))) (now (s .entry)) stop at n r ⌝ }
 {
@@ -16,15 +16,15 @@ pub fn row(s: &[u8], stop: usize, at: usize, n: usize, widths: &[u32], most: &[u
     let mut i = 0;
     while i < widths.len() {
         match crate::plain(s, stop, to, m, kinds::up_to(widths[i], most[i])) {
-            Step::Refused(r, place) => {
-                return Step::Refused(r, place);
+            PacketStep::Refused(r, place) => {
+                return PacketStep::Refused(r, place);
             }
-            Step::On(a, b) => {
+            PacketStep::On(a, b) => {
                 to = a;
                 m = b;
                 i += 1;
             }
         }
     }
-    Step::On(to, m)
+    PacketStep::On(to, m)
 }

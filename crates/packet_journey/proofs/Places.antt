@@ -17,8 +17,8 @@ use Rattle.format.proofs.Ways.{gave-on, gave-took}
 use Rattle.grammar.specs.rows.Rows.{row}
 use Rattle.grammar.specs.journey.Parts.{segmentWidths, segmentMost}
 use Rattle.grammar.proofs.journey.Parts.{segment-fits}
-use Rattle.packet_fields.specs.declared.Step.the-variants.{On}
-use Rattle.packet_fields.specs.declared.Next.the-variants as Next
+use Rattle.packet_fields.specs.declared.PacketStep.the-variants.{On}
+use Rattle.packet_fields.specs.declared.PacketValue.the-variants as PacketValue
 use Rattle.packet_fields.specs.Judging.{Standing, Over, Took, Gave}
 use Rattle.packet_fields.proofs.Steps.{took-some}
 use Rattle.packet_fields.specs.row.Values.{fieldsAt, rowBytes}
@@ -55,12 +55,12 @@ module _ (s : List ℕ) (stop : ℕ) {at n : ℕ} (h : Standing s stop at n) (ro
   head-over : Over (row segmentWidths segmentMost) s stop at n (On (at + 59) (n + (a + b + c + d + 1)))
   head-over = bytes-some s stop 10 1023 (32 ∷ 8 ∷ 8 ∷ 1 ∷ []) (4294967295 ∷ 255 ∷ 255 ∷ 1 ∷ []) segment-fits h (omega arith) head-bytes (λ z. omega (arith, z))
 
-  count-took : Took (nIter 31) s stop (at + 59) (n + (a + b + c + d + 1)) (Next.Is (t % 32) (at + 59 + 5) (n + (a + b + c + d + 1) + 1))
+  count-took : Took (nIter 31) s stop (at + 59) (n + (a + b + c + d + 1)) (PacketValue.Is (t % 32) (at + 59 + 5) (n + (a + b + c + d + 1) + 1))
   count-took =
       took-some s stop (nIter 31) 5 refl (head-over .stands) (lit≤ tt) (omega arith) count
       (counts.bytes-some (nIter 31) (t % 32) (counts.both-in 0 31 (t % 32) (omega arith) (omega arith)) (counts.one-byte (t % 32) (omega arith))) (λ u. omega arith)
 
-  pub head-on : Gave segmentHead s stop at n (Next.Is (t % 32) (at + 64) (n + (a + b + c + d + 2)))
+  pub head-on : Gave segmentHead s stop at n (PacketValue.Is (t % 32) (at + 64) (n + (a + b + c + d + 2)))
   head-on =
       let p : at + 59 + 5 ≡ at + 64 = omega arith in
       let q : n + (a + b + c + d + 1) + 1 ≡ n + (a + b + c + d + 2) = omega arith in

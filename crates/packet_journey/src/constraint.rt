@@ -12,35 +12,47 @@ use kinds::journey::QTcFront;
 use kinds::journey::QTcRange;
 use kinds::journey::QTcType;
 use kinds::journey::VSpeedLevel;
-use packet_fields::Next;
-use packet_fields::Step;
+use packet_fields::PacketStep;
+use packet_fields::PacketValue;
 
 // The start and the end, by the range.
-fn stretch(s: &[u8], stop: usize, at: usize, n: usize, range: u32) -> Step
+fn stretch(s: &[u8], stop: usize, at: usize, n: usize, range: u32) -> PacketStep
     requires { ⌜ Standing (now s) stop at n ⌝ }
     ensures { λ r. ⌜ Over (journey.stretch range) (now (s .entry)) stop at n r ⌝ }
 {
     match packet_fields::field(s, stop, at, n, DTcStartLocation::rule(range)) {
-        Next::Refused(r, place) => Step::Refused(r, place),
-        Next::Is(start, at2, n2) => {
+        PacketValue::Refused(r, place) => PacketStep::Refused(r, place),
+        PacketValue::Is(start, at2, n2) => {
             packet_fields::plain(s, stop, at2, n2, DTcEndLocation::rule(range, start))
         }
     }
 }
 
 // Q_FRONT to the current, by the type.
-fn restriction(s: &[u8], stop: usize, at: usize, n: usize, of: u32) -> Step
+fn restriction(s: &[u8], stop: usize, at: usize, n: usize, of: u32) -> PacketStep
     requires { ⌜ Standing (now s) stop at n ⌝ }
     ensures { λ r. ⌜ Over (journey.restriction of) (now (s .entry)) stop at n r ⌝ }
 {
     match packet_fields::plain(s, stop, at, n, QTcFront::rule(of)) {
-        Step::Refused(r, place) => Step::Refused(r, place),
-        Step::On(at2, n2) => match packet_fields::plain(s, stop, at2, n2, VSpeedLevel::rule(of)) {
-            Step::Refused(r, place) => Step::Refused(r, place),
-            Step::On(at3, n3) => {
+        PacketStep::Refused(r, place) => PacketStep::Refused(r, place),
+        PacketStep::On(at2, n2) => match packet_fields::plain(
+            s,
+            stop,
+            at2,
+            n2,
+            VSpeedLevel::rule(of),
+        ) {
+            PacketStep::Refused(r, place) => PacketStep::Refused(r, place),
+            PacketStep::On(at3, n3) => {
                 match packet_fields::plain(s, stop, at3, n3, QLowAdhesionRate::rule(of)) {
-                    Step::Refused(r, place) => Step::Refused(r, place),
-                    Step::On(at4, n4) => packet_fields::plain(s, stop, at4, n4, Rule::NoCurrent),
+                    PacketStep::Refused(r, place) => PacketStep::Refused(r, place),
+                    PacketStep::On(at4, n4) => packet_fields::plain(
+                        s,
+                        stop,
+                        at4,
+                        n4,
+                        Rule::NoCurrent,
+                    ),
                 }
             }
         },
@@ -48,17 +60,23 @@ fn restriction(s: &[u8], stop: usize, at: usize, n: usize, of: u32) -> Step
 }
 
 // A constraint field by field.
-fn cut_constraint(s: &[u8], stop: usize, at: usize, n: usize) -> Step
+fn cut_constraint(s: &[u8], stop: usize, at: usize, n: usize) -> PacketStep
     requires { ⌜ Standing (now s) stop at n ⌝ }
     ensures { λ r. ⌜ Over temporaryConstraint (now (s .entry)) stop at n r ⌝ }
 {
     match packet_fields::field(s, stop, at, n, QTcType::rule()) {
-        Next::Refused(r, place) => Step::Refused(r, place),
-        Next::Is(of, at2, n2) => match packet_fields::field(s, stop, at2, n2, QTcRange::rule()) {
-            Next::Refused(r, place) => Step::Refused(r, place),
-            Next::Is(range, at3, n3) => match stretch(s, stop, at3, n3, range) {
-                Step::Refused(r, place) => Step::Refused(r, place),
-                Step::On(at4, n4) => restriction(s, stop, at4, n4, of),
+        PacketValue::Refused(r, place) => PacketStep::Refused(r, place),
+        PacketValue::Is(of, at2, n2) => match packet_fields::field(
+            s,
+            stop,
+            at2,
+            n2,
+            QTcRange::rule(),
+        ) {
+            PacketValue::Refused(r, place) => PacketStep::Refused(r, place),
+            PacketValue::Is(range, at3, n3) => match stretch(s, stop, at3, n3, range) {
+                PacketStep::Refused(r, place) => PacketStep::Refused(r, place),
+                PacketStep::On(at4, n4) => restriction(s, stop, at4, n4, of),
             },
         },
     }
@@ -72,7 +90,7 @@ const FRONT: usize = 52;
 const CONSTRAINT: usize = 73;
 
 // The same where its bits are all there: they are read at once, and a refusal is told field by field.
-fn whole_constraint(s: &[u8], stop: usize, at: usize, n: usize) -> Step
+fn whole_constraint(s: &[u8], stop: usize, at: usize, n: usize) -> PacketStep
     requires { ⌜ Standing (now s) stop at n × (73 ≤ stop - at) ⌝ }
     ensures { λ r. ⌜ Over temporaryConstraint (now (s .entry)) stop at n r ⌝ }
 {
@@ -87,11 +105,11 @@ fn whole_constraint(s: &[u8], stop: usize, at: usize, n: usize) -> Step
     if restriction == 0 {
         return cut_constraint(s, stop, at, n);
     }
-    Step::On(at + CONSTRAINT, n + (stretch + restriction + 2) as usize)
+    PacketStep::On(at + CONSTRAINT, n + (stretch + restriction + 2) as usize)
 }
 
 // A temporary constraint.
-fn constraint(s: &[u8], stop: usize, at: usize, n: usize) -> Step
+fn constraint(s: &[u8], stop: usize, at: usize, n: usize) -> PacketStep
     requires { ⌜ Standing (now s) stop at n ⌝ }
     ensures { λ r. ⌜ Over temporaryConstraint (now (s .entry)) stop at n r ⌝ }
 {
@@ -102,7 +120,7 @@ fn constraint(s: &[u8], stop: usize, at: usize, n: usize) -> Step
 }
 
 // The temporary constraints of a segment.
-pub fn constraints(s: &[u8], stop: usize, at: usize, n: usize, count: u32) -> Step
+pub fn constraints(s: &[u8], stop: usize, at: usize, n: usize, count: u32) -> PacketStep
     requires { ⌜ Standing (now s) stop at n ⌝ }
     ensures { λ r. ⌜ Over (times temporaryConstraint count) (now (s .entry)) stop at n r ⌝ }
 {
@@ -111,15 +129,15 @@ pub fn constraints(s: &[u8], stop: usize, at: usize, n: usize, count: u32) -> St
     let mut left = count;
     while 0 < left {
         match constraint(s, stop, to, m) {
-            Step::Refused(r, place) => {
-                return Step::Refused(r, place);
+            PacketStep::Refused(r, place) => {
+                return PacketStep::Refused(r, place);
             }
-            Step::On(a, b) => {
+            PacketStep::On(a, b) => {
                 to = a;
                 m = b;
                 left -= 1;
             }
         }
     }
-    Step::On(to, m)
+    PacketStep::On(to, m)
 }

@@ -14,19 +14,19 @@ use grammar::journey::CONSTRAINTS;
 use kinds::body;
 use kinds::journey::NIterSp;
 use kinds::journey::QJpStatus;
-use packet_fields::Next;
-use packet_fields::Step;
+use packet_fields::PacketStep;
+use packet_fields::PacketValue;
 
 // NID_C to Q_SP_DIR field by field, and the count of the timing points.
-fn cut_head(s: &[u8], stop: usize, at: usize, n: usize) -> Next
+fn cut_head(s: &[u8], stop: usize, at: usize, n: usize) -> PacketValue
     requires { ⌜ Standing (now s) stop at n ⌝ }
     ensures { λ r. ⌜ Gave segmentHead (now (s .entry)) stop at n r ⌝ }
 {
     let widths = grammar::journey::segment_widths();
     let most = grammar::journey::segment_most();
     match packet_fields::row::row(s, stop, at, n, &widths, &most) {
-        Step::Refused(r, place) => Next::Refused(r, place),
-        Step::On(at2, n2) => packet_fields::count(s, stop, at2, n2, body::NIter::LARGEST),
+        PacketStep::Refused(r, place) => PacketValue::Refused(r, place),
+        PacketStep::On(at2, n2) => packet_fields::count(s, stop, at2, n2, body::NIter::LARGEST),
     }
 }
 
@@ -38,7 +38,7 @@ const VERSIONS: usize = 42;
 const HEAD: usize = 64;
 
 // The same where their bits are all there: none can be refused.
-fn whole_head(s: &[u8], stop: usize, at: usize, n: usize) -> Next
+fn whole_head(s: &[u8], stop: usize, at: usize, n: usize) -> PacketValue
     requires { ⌜ Standing (now s) stop at n × (64 ≤ stop - at) ⌝ }
     ensures { λ r. ⌜ Gave segmentHead (now (s .entry)) stop at n r ⌝ }
 {
@@ -48,11 +48,11 @@ fn whole_head(s: &[u8], stop: usize, at: usize, n: usize) -> Next
     let major = fields::size::short(t / 16384);
     let minor = fields::size::short(t / 64 % 256);
     let bytes = country + identity + major + minor + 2;
-    Next::Is(t % 32, at + HEAD, n + bytes as usize)
+    PacketValue::Is(t % 32, at + HEAD, n + bytes as usize)
 }
 
 // NID_C to Q_SP_DIR, and the count of the timing points.
-fn segment_head(s: &[u8], stop: usize, at: usize, n: usize) -> Next
+fn segment_head(s: &[u8], stop: usize, at: usize, n: usize) -> PacketValue
     requires { ⌜ Standing (now s) stop at n ⌝ }
     ensures { λ r. ⌜ Gave segmentHead (now (s .entry)) stop at n r ⌝ }
 {
@@ -63,32 +63,32 @@ fn segment_head(s: &[u8], stop: usize, at: usize, n: usize) -> Next
 }
 
 // The count of the temporary constraints, and the constraints.
-fn constraint_list(s: &[u8], stop: usize, at: usize, n: usize) -> Step
+fn constraint_list(s: &[u8], stop: usize, at: usize, n: usize) -> PacketStep
     requires { ⌜ Standing (now s) stop at n ⌝ }
     ensures { λ r. ⌜ Over (constraintList constraints) (now (s .entry)) stop at n r ⌝ }
 {
     match packet_fields::count(s, stop, at, n, CONSTRAINTS) {
-        Next::Refused(r, place) => Step::Refused(r, place),
-        Next::Is(count, at2, n2) => crate::constraint::constraints(s, stop, at2, n2, count),
+        PacketValue::Refused(r, place) => PacketStep::Refused(r, place),
+        PacketValue::Is(count, at2, n2) => crate::constraint::constraints(s, stop, at2, n2, count),
     }
 }
 
 // A segment: its head, its timing points, and its temporary constraints.
-fn segment(s: &[u8], stop: usize, at: usize, n: usize) -> Step
+fn segment(s: &[u8], stop: usize, at: usize, n: usize) -> PacketStep
     requires { ⌜ Standing (now s) stop at n ⌝ }
     ensures { λ r. ⌜ Over (journeySegment constraints) (now (s .entry)) stop at n r ⌝ }
 {
     match segment_head(s, stop, at, n) {
-        Next::Refused(r, place) => Step::Refused(r, place),
-        Next::Is(count, at2, n2) => match crate::point::points(s, stop, at2, n2, count) {
-            Step::Refused(r, place) => Step::Refused(r, place),
-            Step::On(at3, n3) => constraint_list(s, stop, at3, n3),
+        PacketValue::Refused(r, place) => PacketStep::Refused(r, place),
+        PacketValue::Is(count, at2, n2) => match crate::point::points(s, stop, at2, n2, count) {
+            PacketStep::Refused(r, place) => PacketStep::Refused(r, place),
+            PacketStep::On(at3, n3) => constraint_list(s, stop, at3, n3),
         },
     }
 }
 
 // The segments of a journey.
-fn segments(s: &[u8], stop: usize, at: usize, n: usize, count: u32) -> Step
+fn segments(s: &[u8], stop: usize, at: usize, n: usize, count: u32) -> PacketStep
     requires { ⌜ Standing (now s) stop at n ⌝ }
     ensures { λ r. ⌜ Over (times (journeySegment constraints) count) (now (s .entry)) stop at n r ⌝ }
 {
@@ -97,40 +97,40 @@ fn segments(s: &[u8], stop: usize, at: usize, n: usize, count: u32) -> Step
     let mut left = count;
     while 0 < left {
         match segment(s, stop, to, m) {
-            Step::Refused(r, place) => {
-                return Step::Refused(r, place);
+            PacketStep::Refused(r, place) => {
+                return PacketStep::Refused(r, place);
             }
-            Step::On(a, b) => {
+            PacketStep::On(a, b) => {
                 to = a;
                 m = b;
                 left -= 1;
             }
         }
     }
-    Step::On(to, m)
+    PacketStep::On(to, m)
 }
 
 // Q_JP_Status, and the count of the segments with the segments.
-fn body(s: &[u8], stop: usize, at: usize, n: usize) -> Step
+fn body(s: &[u8], stop: usize, at: usize, n: usize) -> PacketStep
     requires { ⌜ Standing (now s) stop at n ⌝ }
     ensures { λ r. ⌜ Over journeyBodyPart (now (s .entry)) stop at n r ⌝ }
 {
     match packet_fields::plain(s, stop, at, n, QJpStatus::rule()) {
-        Step::Refused(r, place) => Step::Refused(r, place),
-        Step::On(at2, n2) => match packet_fields::field(s, stop, at2, n2, NIterSp::rule()) {
-            Next::Refused(r, place) => Step::Refused(r, place),
-            Next::Is(count, at3, n3) => segments(s, stop, at3, n3, count),
+        PacketStep::Refused(r, place) => PacketStep::Refused(r, place),
+        PacketStep::On(at2, n2) => match packet_fields::field(s, stop, at2, n2, NIterSp::rule()) {
+            PacketValue::Refused(r, place) => PacketStep::Refused(r, place),
+            PacketValue::Is(count, at3, n3) => segments(s, stop, at3, n3, count),
         },
     }
 }
 
 // Every field of a journey after L_PACKET_ATO.
-pub fn fields(s: &[u8], stop: usize) -> Step
+pub fn fields(s: &[u8], stop: usize) -> PacketStep
     requires { ⌜ Standing (now s) stop 24 1 ⌝ }
     ensures { λ r. ⌜ Over journeyPart (now (s .entry)) stop 24 1 r ⌝ }
 {
     match packet_segment::head::header_fields(s, stop) {
-        Step::Refused(r, place) => Step::Refused(r, place),
-        Step::On(at, n) => body(s, stop, at, n),
+        PacketStep::Refused(r, place) => PacketStep::Refused(r, place),
+        PacketStep::On(at, n) => body(s, stop, at, n),
     }
 }

@@ -7,11 +7,11 @@ ghost use Rattle.grammar.specs.journey.Parts.{arrivalWidths, arrivalMost, stopp
 ghost use Rattle.packet_fields.specs.Judging.{Standing, Over};
 use kinds::journey::NidTp;
 use kinds::journey::QStopSkipPasses;
-use packet_fields::Next;
-use packet_fields::Step;
+use packet_fields::PacketStep;
+use packet_fields::PacketValue;
 
 // NID_TP to Q_TP_Alignment.
-fn arrival(s: &[u8], stop: usize, at: usize, n: usize) -> Step
+fn arrival(s: &[u8], stop: usize, at: usize, n: usize) -> PacketStep
     requires { ⌜ Standing (now s) stop at n ⌝ }
     ensures { λ r. ⌜ Over (row arrivalWidths arrivalMost) (now (s .entry)) stop at n r ⌝ }
 {
@@ -21,7 +21,7 @@ fn arrival(s: &[u8], stop: usize, at: usize, n: usize) -> Step
 }
 
 // Q_TP_Information to Q_Automatic_Closing, by the kind of the stop.
-fn stopping(s: &[u8], stop: usize, at: usize, n: usize, kind: u32) -> Step
+fn stopping(s: &[u8], stop: usize, at: usize, n: usize, kind: u32) -> PacketStep
     requires { ⌜ Standing (now s) stop at n ⌝ }
     ensures { λ r. ⌜ Over (row stoppingWidths (stoppingMost kind)) (now (s .entry)) stop at n r ⌝ }
 {
@@ -31,16 +31,16 @@ fn stopping(s: &[u8], stop: usize, at: usize, n: usize, kind: u32) -> Step
 }
 
 // A timing point field by field.
-fn cut_point(s: &[u8], stop: usize, at: usize, n: usize) -> Step
+fn cut_point(s: &[u8], stop: usize, at: usize, n: usize) -> PacketStep
     requires { ⌜ Standing (now s) stop at n ⌝ }
     ensures { λ r. ⌜ Over timingPoint (now (s .entry)) stop at n r ⌝ }
 {
     match arrival(s, stop, at, n) {
-        Step::Refused(r, place) => Step::Refused(r, place),
-        Step::On(at2, n2) => {
+        PacketStep::Refused(r, place) => PacketStep::Refused(r, place),
+        PacketStep::On(at2, n2) => {
             match packet_fields::field(s, stop, at2, n2, QStopSkipPasses::rule()) {
-                Next::Refused(r, place) => Step::Refused(r, place),
-                Next::Is(kind, at3, n3) => stopping(s, stop, at3, n3, kind),
+                PacketValue::Refused(r, place) => PacketStep::Refused(r, place),
+                PacketValue::Is(kind, at3, n3) => stopping(s, stop, at3, n3, kind),
             }
         }
     }
@@ -58,7 +58,7 @@ const LEAVING: usize = 101;
 const POINT: usize = 129;
 
 // The same where its bits are all there: they are read at once, and a refusal is told field by field.
-fn whole_point(s: &[u8], stop: usize, at: usize, n: usize) -> Step
+fn whole_point(s: &[u8], stop: usize, at: usize, n: usize) -> PacketStep
     requires { ⌜ Standing (now s) stop at n × (129 ≤ stop - at) ⌝ }
     ensures { λ r. ⌜ Over timingPoint (now (s .entry)) stop at n r ⌝ }
 {
@@ -78,11 +78,11 @@ fn whole_point(s: &[u8], stop: usize, at: usize, n: usize) -> Step
         return cut_point(s, stop, at, n);
     }
     let name = numbers::write::groups(bits::read_window(s, at, NidTp::WIDTH));
-    Step::On(at + POINT, n + (name + latest + marks + eight) as usize)
+    PacketStep::On(at + POINT, n + (name + latest + marks + eight) as usize)
 }
 
 // A timing point.
-fn point(s: &[u8], stop: usize, at: usize, n: usize) -> Step
+fn point(s: &[u8], stop: usize, at: usize, n: usize) -> PacketStep
     requires { ⌜ Standing (now s) stop at n ⌝ }
     ensures { λ r. ⌜ Over timingPoint (now (s .entry)) stop at n r ⌝ }
 {
@@ -93,7 +93,7 @@ fn point(s: &[u8], stop: usize, at: usize, n: usize) -> Step
 }
 
 // The timing points of a segment.
-pub fn points(s: &[u8], stop: usize, at: usize, n: usize, count: u32) -> Step
+pub fn points(s: &[u8], stop: usize, at: usize, n: usize, count: u32) -> PacketStep
     requires { ⌜ Standing (now s) stop at n ⌝ }
     ensures { λ r. ⌜ Over (times timingPoint count) (now (s .entry)) stop at n r ⌝ }
 {
@@ -102,15 +102,15 @@ pub fn points(s: &[u8], stop: usize, at: usize, n: usize, count: u32) -> Step
     let mut left = count;
     while 0 < left {
         match point(s, stop, to, m) {
-            Step::Refused(r, place) => {
-                return Step::Refused(r, place);
+            PacketStep::Refused(r, place) => {
+                return PacketStep::Refused(r, place);
             }
-            Step::On(a, b) => {
+            PacketStep::On(a, b) => {
                 to = a;
                 m = b;
                 left -= 1;
             }
         }
     }
-    Step::On(to, m)
+    PacketStep::On(to, m)
 }

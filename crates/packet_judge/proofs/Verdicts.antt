@@ -20,7 +20,7 @@ use Rattle.verdict.specs.declared.PacketVerdict.{PacketVerdict}
 use Rattle.verdict.specs.declared.PacketVerdict.the-variants as PacketVerdict
 use Rattle.verdict.specs.Verdict.{fieldsVerdict}
 use Rattle.verdict.proofs.Sizes.{size-first}
-use Rattle.packet_fields.specs.declared.Step.the-variants.{On, Refused}
+use Rattle.packet_fields.specs.declared.PacketStep.the-variants.{On, Refused}
 use Rattle.packet_fields.specs.Judging.{judging, verdictAt, Standing, Over}
 use Rattle.grammar.specs.journey.Journey.{journeyBody}
 use Rattle.grammar.specs.declared.link.Tree.{Tree}

@@ -15,13 +15,21 @@ use grammar::link::Tree;
 use grammar::segment::Part;
 use grammar::segment::WIRE_CHANGES;
 use kinds::body;
-use packet_fields::Next;
-use packet_fields::Step;
+use packet_fields::PacketStep;
+use packet_fields::PacketValue;
 use verdict::PacketVerdict;
 use verdict::frame::Frame;
 
 // The changes of a part: each a location that rises, and an element.
-fn changes(part: Part, s: &[u8], stop: usize, at: usize, n: usize, lsp: u32, count: u32) -> Step
+fn changes(
+    part: Part,
+    s: &[u8],
+    stop: usize,
+    at: usize,
+    n: usize,
+    lsp: u32,
+    count: u32,
+) -> PacketStep
     requires { ⌜ Standing (now s) stop at n ⌝ }
     ensures { λ r. ⌜ Over (segment.changes (startOf part) lsp 0 count) (now (s .entry)) stop at n r ⌝ }
 {
@@ -31,14 +39,20 @@ fn changes(part: Part, s: &[u8], stop: usize, at: usize, n: usize, lsp: u32, cou
     let mut left = count;
     while 0 < left {
         match packet_fields::location(s, stop, to, m, last, lsp) {
-            Next::Refused(r, place) => {
-                return Step::Refused(r, place);
+            PacketValue::Refused(r, place) => {
+                return PacketStep::Refused(r, place);
             }
-            Next::Is(x, at2, n2) => match packet_segment::element::element(part, s, stop, at2, n2) {
-                Step::Refused(r, place) => {
-                    return Step::Refused(r, place);
+            PacketValue::Is(x, at2, n2) => match packet_segment::element::element(
+                part,
+                s,
+                stop,
+                at2,
+                n2,
+            ) {
+                PacketStep::Refused(r, place) => {
+                    return PacketStep::Refused(r, place);
                 }
-                Step::On(at3, n3) => {
+                PacketStep::On(at3, n3) => {
                     to = at3;
                     m = n3;
                     last = x;
@@ -47,50 +61,50 @@ fn changes(part: Part, s: &[u8], stop: usize, at: usize, n: usize, lsp: u32, cou
             },
         }
     }
-    Step::On(to, m)
+    PacketStep::On(to, m)
 }
 
 // A part: its first element, the count of its changes, and the changes.
-fn list(part: Part, s: &[u8], stop: usize, at: usize, n: usize, lsp: u32, limit: u32) -> Step
+fn list(part: Part, s: &[u8], stop: usize, at: usize, n: usize, lsp: u32, limit: u32) -> PacketStep
     requires { ⌜ Standing (now s) stop at n × (limit < 128) ⌝ }
     ensures { λ r. ⌜ Over (segment.part (startOf part) limit lsp) (now (s .entry)) stop at n r ⌝ }
 {
     match packet_segment::element::element(part, s, stop, at, n) {
-        Step::Refused(r, place) => Step::Refused(r, place),
-        Step::On(at2, n2) => match packet_fields::count(s, stop, at2, n2, limit) {
-            Next::Refused(r, place) => Step::Refused(r, place),
-            Next::Is(count, at3, n3) => changes(part, s, stop, at3, n3, lsp, count),
+        PacketStep::Refused(r, place) => PacketStep::Refused(r, place),
+        PacketStep::On(at2, n2) => match packet_fields::count(s, stop, at2, n2, limit) {
+            PacketValue::Refused(r, place) => PacketStep::Refused(r, place),
+            PacketValue::Is(count, at3, n3) => changes(part, s, stop, at3, n3, lsp, count),
         },
     }
 }
 
 // The three parts that have changes.
-fn lists(s: &[u8], stop: usize, at: usize, n: usize, lsp: u32) -> Step
+fn lists(s: &[u8], stop: usize, at: usize, n: usize, lsp: u32) -> PacketStep
     requires { ⌜ Standing (now s) stop at n ⌝ }
     ensures { λ r. ⌜ Over (threeLists lsp) (now (s .entry)) stop at n r ⌝ }
 {
     match list(Part::Speeds, s, stop, at, n, lsp, body::NIter::LARGEST) {
-        Step::Refused(r, place) => Step::Refused(r, place),
-        Step::On(at2, n2) => match list(Part::Volts, s, stop, at2, n2, lsp, WIRE_CHANGES) {
-            Step::Refused(r, place) => Step::Refused(r, place),
-            Step::On(at3, n3) => list(Part::Amperes, s, stop, at3, n3, lsp, WIRE_CHANGES),
+        PacketStep::Refused(r, place) => PacketStep::Refused(r, place),
+        PacketStep::On(at2, n2) => match list(Part::Volts, s, stop, at2, n2, lsp, WIRE_CHANGES) {
+            PacketStep::Refused(r, place) => PacketStep::Refused(r, place),
+            PacketStep::On(at3, n3) => list(Part::Amperes, s, stop, at3, n3, lsp, WIRE_CHANGES),
         },
     }
 }
 
 // Every field of a segment after L_PACKET_ATO.
-fn segment(s: &[u8], stop: usize) -> Step
+fn segment(s: &[u8], stop: usize) -> PacketStep
     requires { ⌜ Standing (now s) stop 24 1 ⌝ }
     ensures { λ r. ⌜ Over wholePart (now (s .entry)) stop 24 1 r ⌝ }
 {
     match packet_segment::head::head(s, stop) {
-        Next::Refused(r, place) => Step::Refused(r, place),
-        Next::Is(lsp, at, n) => lists(s, stop, at, n, lsp),
+        PacketValue::Refused(r, place) => PacketStep::Refused(r, place),
+        PacketValue::Is(lsp, at, n) => lists(s, stop, at, n, lsp),
     }
 }
 
 // Every field of a packet, by its tree.
-fn fields(tree: Tree, s: &[u8], stop: usize) -> Step
+fn fields(tree: Tree, s: &[u8], stop: usize) -> PacketStep
     requires { ⌜ Standing (now s) stop 24 1 ⌝ }
     ensures { λ r. ⌜ Over (treePart tree) (now (s .entry)) stop 24 1 r ⌝ }
 {
@@ -106,8 +120,8 @@ fn packet_fields(tree: Tree, s: &[u8], stop: usize) -> PacketVerdict
     ensures { λ r. ⌜ r ≡ fieldsVerdict tree (now (s .entry)) stop ⌝ }
 {
     match fields(tree, s, stop) {
-        Step::Refused(r, place) => PacketVerdict::Refused(r, place),
-        Step::On(at, n) => {
+        PacketStep::Refused(r, place) => PacketVerdict::Refused(r, place),
+        PacketStep::On(at, n) => {
             if at == stop {
                 return PacketVerdict::SheetBytes(n);
             }

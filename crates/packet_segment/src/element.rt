@@ -9,21 +9,33 @@ ghost use Rattle.packet_segment.specs.element.Profile.{profileHead, name
 use grammar::segment::Part;
 use kinds::OUT_OF_RANGE;
 use kinds::body;
-use packet_fields::Next;
-use packet_fields::Step;
+use packet_fields::PacketStep;
+use packet_fields::PacketValue;
 
 // ---- the specific entries
 
 // An entry field by field.
-fn cut_entry(s: &[u8], stop: usize, at: usize, n: usize) -> Step
+fn cut_entry(s: &[u8], stop: usize, at: usize, n: usize) -> PacketStep
     requires { ⌜ Standing (now s) stop at n ⌝ }
     ensures { λ r. ⌜ Over parts.entry (now (s .entry)) stop at n r ⌝ }
 {
     match packet_fields::field(s, stop, at, n, body::QDiff::rule()) {
-        Next::Refused(r, place) => Step::Refused(r, place),
-        Next::Is(q, at2, n2) => match packet_fields::plain(s, stop, at2, n2, body::class_at(q)) {
-            Step::Refused(r, place) => Step::Refused(r, place),
-            Step::On(at3, n3) => packet_fields::plain(s, stop, at3, n3, body::VStatic::rule()),
+        PacketValue::Refused(r, place) => PacketStep::Refused(r, place),
+        PacketValue::Is(q, at2, n2) => match packet_fields::plain(
+            s,
+            stop,
+            at2,
+            n2,
+            body::class_at(q),
+        ) {
+            PacketStep::Refused(r, place) => PacketStep::Refused(r, place),
+            PacketStep::On(at3, n3) => packet_fields::plain(
+                s,
+                stop,
+                at3,
+                n3,
+                body::VStatic::rule(),
+            ),
         },
     }
 }
@@ -75,7 +87,7 @@ fn whole_entry(s: &[u8], stop: usize, at: usize, n: usize) -> usize
 }
 
 // Entries whose bits are all there.
-fn whole_entries(s: &[u8], stop: usize, at: usize, n: usize, count: u32) -> Step
+fn whole_entries(s: &[u8], stop: usize, at: usize, n: usize, count: u32) -> PacketStep
     requires { ⌜ Standing (now s) stop at n × (13 * count ≤ stop - at) ⌝ }
     ensures { λ r. ⌜ Over (segment.entries count) (now (s .entry)) stop at n r ⌝ }
 {
@@ -85,17 +97,17 @@ fn whole_entries(s: &[u8], stop: usize, at: usize, n: usize, count: u32) -> Step
     while 0 < left {
         let bytes = whole_entry(s, stop, to, m);
         if FAULT <= bytes {
-            return Step::Refused(OUT_OF_RANGE, (to + (bytes - FAULT)) as u32);
+            return PacketStep::Refused(OUT_OF_RANGE, (to + (bytes - FAULT)) as u32);
         }
         to += ENTRY;
         m += bytes;
         left -= 1;
     }
-    Step::On(to, m)
+    PacketStep::On(to, m)
 }
 
 // Entries field by field.
-fn cut_entries(s: &[u8], stop: usize, at: usize, n: usize, count: u32) -> Step
+fn cut_entries(s: &[u8], stop: usize, at: usize, n: usize, count: u32) -> PacketStep
     requires { ⌜ Standing (now s) stop at n ⌝ }
     ensures { λ r. ⌜ Over (segment.entries count) (now (s .entry)) stop at n r ⌝ }
 {
@@ -104,21 +116,21 @@ fn cut_entries(s: &[u8], stop: usize, at: usize, n: usize, count: u32) -> Step
     let mut left = count;
     while 0 < left {
         match cut_entry(s, stop, to, m) {
-            Step::Refused(r, place) => {
-                return Step::Refused(r, place);
+            PacketStep::Refused(r, place) => {
+                return PacketStep::Refused(r, place);
             }
-            Step::On(a, b) => {
+            PacketStep::On(a, b) => {
                 to = a;
                 m = b;
                 left -= 1;
             }
         }
     }
-    Step::On(to, m)
+    PacketStep::On(to, m)
 }
 
 // The specific entries of an element: whether their bits are all there is asked once.
-fn entries(s: &[u8], stop: usize, at: usize, n: usize, count: u32) -> Step
+fn entries(s: &[u8], stop: usize, at: usize, n: usize, count: u32) -> PacketStep
     requires { ⌜ Standing (now s) stop at n ⌝ }
     ensures { λ r. ⌜ Over (segment.entries count) (now (s .entry)) stop at n r ⌝ }
 {
@@ -131,15 +143,21 @@ fn entries(s: &[u8], stop: usize, at: usize, n: usize, count: u32) -> Step
 // ---- the speed profile
 
 // V_STATIC, Q_FRONT and N_ITER field by field, with the last one's value.
-fn cut_profile(s: &[u8], stop: usize, at: usize, n: usize) -> Next
+fn cut_profile(s: &[u8], stop: usize, at: usize, n: usize) -> PacketValue
     requires { ⌜ Standing (now s) stop at n ⌝ }
     ensures { λ r. ⌜ Gave profileHead (now (s .entry)) stop at n r ⌝ }
 {
     match packet_fields::plain(s, stop, at, n, body::VStatic::rule()) {
-        Step::Refused(r, place) => Next::Refused(r, place),
-        Step::On(at2, n2) => match packet_fields::plain(s, stop, at2, n2, body::QFront::rule()) {
-            Step::Refused(r, place) => Next::Refused(r, place),
-            Step::On(at3, n3) => packet_fields::count(s, stop, at3, n3, body::NIter::LARGEST),
+        PacketStep::Refused(r, place) => PacketValue::Refused(r, place),
+        PacketStep::On(at2, n2) => match packet_fields::plain(
+            s,
+            stop,
+            at2,
+            n2,
+            body::QFront::rule(),
+        ) {
+            PacketStep::Refused(r, place) => PacketValue::Refused(r, place),
+            PacketStep::On(at3, n3) => packet_fields::count(s, stop, at3, n3, body::NIter::LARGEST),
         },
     }
 }
@@ -148,7 +166,7 @@ fn cut_profile(s: &[u8], stop: usize, at: usize, n: usize) -> Next
 const HEAD: usize = 13;
 
 // The same: where their bits are all there, they are read at once. V_STATIC alone can be refused.
-fn profile_head(s: &[u8], stop: usize, at: usize, n: usize) -> Next
+fn profile_head(s: &[u8], stop: usize, at: usize, n: usize) -> PacketValue
     requires { ⌜ Standing (now s) stop at n ⌝ }
     ensures { λ r. ⌜ Gave profileHead (now (s .entry)) stop at n r ⌝ }
 {
@@ -158,32 +176,32 @@ fn profile_head(s: &[u8], stop: usize, at: usize, n: usize) -> Next
     let t = bits::read_window(s, at, HEAD as u32);
     let speed = fields::size::speed(t / 64);
     if speed == 0 {
-        return Next::Refused(OUT_OF_RANGE, at as u32);
+        return PacketValue::Refused(OUT_OF_RANGE, at as u32);
     }
-    Next::Is(t % 32, at + HEAD, n + speed as usize + 2)
+    PacketValue::Is(t % 32, at + HEAD, n + speed as usize + 2)
 }
 
 // V_STATIC, Q_FRONT, and the count of the entries with the entries.
-fn profile(s: &[u8], stop: usize, at: usize, n: usize) -> Step
+fn profile(s: &[u8], stop: usize, at: usize, n: usize) -> PacketStep
     requires { ⌜ Standing (now s) stop at n ⌝ }
     ensures { λ r. ⌜ Over segment.profile (now (s .entry)) stop at n r ⌝ }
 {
     match profile_head(s, stop, at, n) {
-        Next::Refused(r, place) => Step::Refused(r, place),
-        Next::Is(count, at2, n2) => entries(s, stop, at2, n2, count),
+        PacketValue::Refused(r, place) => PacketStep::Refused(r, place),
+        PacketValue::Is(count, at2, n2) => entries(s, stop, at2, n2, count),
     }
 }
 
 // ---- the rated voltage
 
 // M_VOLTAGE and NID_CTRACTION field by field.
-fn cut_wire(s: &[u8], stop: usize, at: usize, n: usize) -> Step
+fn cut_wire(s: &[u8], stop: usize, at: usize, n: usize) -> PacketStep
     requires { ⌜ Standing (now s) stop at n ⌝ }
     ensures { λ r. ⌜ Over segment.voltage (now (s .entry)) stop at n r ⌝ }
 {
     match packet_fields::field(s, stop, at, n, body::MVoltage::rule()) {
-        Next::Refused(r, place) => Step::Refused(r, place),
-        Next::Is(u, at2, n2) => {
+        PacketValue::Refused(r, place) => PacketStep::Refused(r, place),
+        PacketValue::Is(u, at2, n2) => {
             packet_fields::plain(s, stop, at2, n2, body::NidCTraction::rule(u))
         }
     }
@@ -195,7 +213,7 @@ const WIRE: usize = 14;
 const VOLTAGE: usize = body::MVoltage::WIDTH as usize;
 
 // The same: where their bits are all there, they are read at once.
-fn wire(s: &[u8], stop: usize, at: usize, n: usize) -> Step
+fn wire(s: &[u8], stop: usize, at: usize, n: usize) -> PacketStep
     requires { ⌜ Standing (now s) stop at n ⌝ }
     ensures { λ r. ⌜ Over segment.voltage (now (s .entry)) stop at n r ⌝ }
 {
@@ -205,19 +223,19 @@ fn wire(s: &[u8], stop: usize, at: usize, n: usize) -> Step
     let t = bits::read_window(s, at, WIRE as u32);
     let volts = fields::size::volts(t / 1024);
     if volts == 0 {
-        return Step::Refused(OUT_OF_RANGE, at as u32);
+        return PacketStep::Refused(OUT_OF_RANGE, at as u32);
     }
     let traction = fields::size::traction(t / 1024, t % 1024);
     if traction == 0 {
-        return Step::Refused(OUT_OF_RANGE, (at + VOLTAGE) as u32);
+        return PacketStep::Refused(OUT_OF_RANGE, (at + VOLTAGE) as u32);
     }
-    Step::On(at + WIRE, n + volts as usize + traction as usize)
+    PacketStep::On(at + WIRE, n + volts as usize + traction as usize)
 }
 
 // ---- any of the three
 
 // What an element of a part begins with.
-pub fn element(part: Part, s: &[u8], stop: usize, at: usize, n: usize) -> Step
+pub fn element(part: Part, s: &[u8], stop: usize, at: usize, n: usize) -> PacketStep
     requires { ⌜ Standing (now s) stop at n ⌝ }
     ensures { λ r. ⌜ Over (startOf part) (now (s .entry)) stop at n r ⌝ }
 {

@@ -9,8 +9,8 @@ ghost use Rattle.packet_segment.specs.head.Head.{headPart, PartBytes, Pa
 use kinds::Rule;
 use kinds::body;
 use kinds::header;
-use packet_fields::Next;
-use packet_fields::Step;
+use packet_fields::PacketStep;
+use packet_fields::PacketValue;
 
 // ---- field by field
 
@@ -37,7 +37,7 @@ fn rule_of(i: u32) -> Rule
 }
 
 // The fields from first up to end, on whose values nothing depends.
-fn run(s: &[u8], stop: usize, at: usize, n: usize, first: u32, end: u32) -> Step
+fn run(s: &[u8], stop: usize, at: usize, n: usize, first: u32, end: u32) -> PacketStep
     requires { ⌜ Standing (now s) stop at n × (first ≤ end) × (end ≤ 13) ⌝ }
     ensures { λ r. ⌜ Over (runs first (end - first)) (now (s .entry)) stop at n r ⌝ }
 {
@@ -46,31 +46,31 @@ fn run(s: &[u8], stop: usize, at: usize, n: usize, first: u32, end: u32) -> Step
     let mut i = first;
     while i < end {
         match packet_fields::plain(s, stop, to, m, rule_of(i)) {
-            Step::Refused(r, place) => {
-                return Step::Refused(r, place);
+            PacketStep::Refused(r, place) => {
+                return PacketStep::Refused(r, place);
             }
-            Step::On(a, b) => {
+            PacketStep::On(a, b) => {
                 to = a;
                 m = b;
                 i += 1;
             }
         }
     }
-    Step::On(to, m)
+    PacketStep::On(to, m)
 }
 
 // The thirteen fields, with the value of L_SP.
-fn cut_head(s: &[u8], stop: usize) -> Next
+fn cut_head(s: &[u8], stop: usize) -> PacketValue
     requires { ⌜ Standing (now s) stop 24 1 ⌝ }
     ensures { λ r. ⌜ Gave headPart (now (s .entry)) stop 24 1 r ⌝ }
 {
     match run(s, stop, verdict::frame::FIRST_FIELD, 1, 0, 9) {
-        Step::Refused(r, place) => Next::Refused(r, place),
-        Step::On(at2, n2) => match packet_fields::field(s, stop, at2, n2, body::LSp::rule()) {
-            Next::Refused(r, place) => Next::Refused(r, place),
-            Next::Is(lsp, at3, n3) => match run(s, stop, at3, n3, 10, 13) {
-                Step::Refused(r, place) => Next::Refused(r, place),
-                Step::On(at4, n4) => Next::Is(lsp, at4, n4),
+        PacketStep::Refused(r, place) => PacketValue::Refused(r, place),
+        PacketStep::On(at2, n2) => match packet_fields::field(s, stop, at2, n2, body::LSp::rule()) {
+            PacketValue::Refused(r, place) => PacketValue::Refused(r, place),
+            PacketValue::Is(lsp, at3, n3) => match run(s, stop, at3, n3, 10, 13) {
+                PacketStep::Refused(r, place) => PacketValue::Refused(r, place),
+                PacketStep::On(at4, n4) => PacketValue::Is(lsp, at4, n4),
             },
         },
     }
@@ -166,7 +166,7 @@ fn offset_bytes(s: &[u8]) -> usize
 }
 
 // The same as `cut_head`, which tells a refusal.
-fn whole_head(s: &[u8], stop: usize) -> Next
+fn whole_head(s: &[u8], stop: usize) -> PacketValue
     requires { ⌜ Standing (now s) stop 24 1 × (38 ≤ length (now s)) × (253 ≤ stop) ⌝ }
     ensures { λ r. ⌜ Gave headPart (now (s .entry)) stop 24 1 r ⌝ }
 {
@@ -184,11 +184,11 @@ fn whole_head(s: &[u8], stop: usize) -> Next
     }
     let identity = identity_bytes(s);
     let length = numbers::write::groups(lsp);
-    Next::Is(lsp, END, 1 + header + identity + length as usize + offsets)
+    PacketValue::Is(lsp, END, 1 + header + identity + length as usize + offsets)
 }
 
 // The thirteen fields, with the value of L_SP.
-pub fn head(s: &[u8], stop: usize) -> Next
+pub fn head(s: &[u8], stop: usize) -> PacketValue
     requires { ⌜ Standing (now s) stop 24 1 ⌝ }
     ensures { λ r. ⌜ Gave headPart (now (s .entry)) stop 24 1 r ⌝ }
 {
@@ -202,7 +202,7 @@ pub fn head(s: &[u8], stop: usize) -> Next
 }
 
 // The header alone, as packets of every number begin, field by field: so that the code of the thirteen stays in one place.
-pub fn header_fields(s: &[u8], stop: usize) -> Step
+pub fn header_fields(s: &[u8], stop: usize) -> PacketStep
     requires { ⌜ Standing (now s) stop 24 1 ⌝ }
     ensures { λ r. ⌜ Over headerPart (now (s .entry)) stop 24 1 r ⌝ }
 {

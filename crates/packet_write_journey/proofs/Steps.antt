@@ -9,7 +9,7 @@ use Rattle.kinds.specs.journey.Kinds.{qJpStatus, nIterSp}
 use Rattle.grammar.specs.journey.Journey.{timingPoint, temporaryConstraint, journeySegment, constraints}
 use Rattle.grammar.specs.journey.Parts.{segmentWidths, segmentMost, constraintList, segmentRest, journeyBodyPart}
 use Rattle.grammar.proofs.journey.Parts.{segment-rows}
-use Rattle.packet_write_segment.specs.declared.elements.Spot.{Spot}
+use Rattle.packet_write_segment.specs.declared.elements.PacketSpot.{PacketSpot}
 use Rattle.packet_write_segment.specs.elements.Writing.{Ready, Wrote}
 use Rattle.packet_write_segment.proofs.elements.Writing.{Along, along-all, along-as, along-next, along-on, along-none}
 use Rattle.packet_write_journey.specs.declared.row.Given.{Given}
@@ -24,14 +24,14 @@ names f = row segmentWidths segmentMost f
 abbrev rest : Format → Format
 rest f = field (nIter 31) λ n. segmentRest constraints n f
 
-module _ {s room : List ℕ} {p : Spot} (h : Ready (journeySegment constraints) s room p) where
+module _ {s room : List ℕ} {p : PacketSpot} (h : Ready (journeySegment constraints) s room p) where
   segment-all : Along (journeySegment constraints) (λ f. names (rest f)) s room p room p
   segment-all = along-as (λ f. names (rest f)) (segment-rows constraints) (along-all h)
 
   pub segment-names : Ready names s room p
   segment-names = along-next names rest segment-all h
 
-  module _ {mid : List ℕ} {q : Spot} (a : Wrote names s room p mid q) where
+  module _ {mid : List ℕ} {q : PacketSpot} (a : Wrote names s room p mid q) where
     pub segment-count : Offers (nIter 31) s mid q
     segment-count = along-offers (nIter 31) (segmentRest constraints) (along-on names rest segment-all a) h
 
@@ -42,7 +42,7 @@ module _ {s room : List ℕ} {p : Spot} (h : Ready (journeySegment constraints) 
       pub segment-points : Ready (times timingPoint (r .value)) s end (r .next)
       segment-points = along-next (times timingPoint (r .value)) (constraintList constraints) after-count h
 
-      module _ {far : List ℕ} {t : Spot} (w : Wrote (times timingPoint (r .value)) s end (r .next) far t) where
+      module _ {far : List ℕ} {t : PacketSpot} (w : Wrote (times timingPoint (r .value)) s end (r .next) far t) where
         after-points : Along (journeySegment constraints) (constraintList constraints) s room p far t
         after-points = along-on (times timingPoint (r .value)) (constraintList constraints) after-count w
 
@@ -56,7 +56,7 @@ module _ {s room : List ℕ} {p : Spot} (h : Ready (journeySegment constraints) 
           pub segment-constraints : Ready (times temporaryConstraint (z .value)) s on (z .next)
           segment-constraints = along-next (times temporaryConstraint (z .value)) (λ f. f) after-last h
 
-          pub segment-wrote : {done : List ℕ} {y : Spot} → Wrote (times temporaryConstraint (z .value)) s on (z .next) done y → Wrote (journeySegment constraints) s room p done y
+          pub segment-wrote : {done : List ℕ} {y : PacketSpot} → Wrote (times temporaryConstraint (z .value)) s on (z .next) done y → Wrote (journeySegment constraints) s room p done y
           segment-wrote x = along-none (along-on (times temporaryConstraint (z .value)) (λ f. f) after-last x)
 
 -- ---- the body
@@ -64,7 +64,7 @@ module _ {s room : List ℕ} {p : Spot} (h : Ready (journeySegment constraints) 
 abbrev counted : Format → Format
 counted f = field nIterSp λ n. times (journeySegment constraints) n f
 
-module _ {s room : List ℕ} {p : Spot} (h : Ready journeyBodyPart s room p) where
+module _ {s room : List ℕ} {p : PacketSpot} (h : Ready journeyBodyPart s room p) where
   pub body-status : Offers qJpStatus s room p
   body-status = along-offers qJpStatus (λ n. counted) (along-all h) h
 
@@ -82,5 +82,5 @@ module _ {s room : List ℕ} {p : Spot} (h : Ready journeyBodyPart s room p) whe
       pub body-segments : Ready (times (journeySegment constraints) (r .value)) s end (r .next)
       body-segments = along-next (times (journeySegment constraints) (r .value)) (λ f. f) after-segments h
 
-      pub body-wrote : {far : List ℕ} {t : Spot} → Wrote (times (journeySegment constraints) (r .value)) s end (r .next) far t → Wrote journeyBodyPart s room p far t
+      pub body-wrote : {far : List ℕ} {t : PacketSpot} → Wrote (times (journeySegment constraints) (r .value)) s end (r .next) far t → Wrote journeyBodyPart s room p far t
       body-wrote w = along-none (along-on (times (journeySegment constraints) (r .value)) (λ f. f) after-segments w)

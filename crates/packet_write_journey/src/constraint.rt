@@ -5,10 +5,10 @@ ghost use Rattle.packet_write_journey.specs.constraint.Begun.{Begun};
 use crate::row::Given;
 use kinds::body::MCurrent;
 use kinds::journey::DTcEndLocation;
-use packet_write_segment::elements::Spot;
+use packet_write_segment::elements::PacketSpot;
 
 // The type, the range and the start, put at once, and the end; the type is given.
-fn location(sheet: &[u8], room: &mut [u8], p: Spot) -> Given
+fn location(sheet: &[u8], room: &mut [u8], p: PacketSpot) -> Given
     requires { ⌜ Ready tree.temporaryConstraint (now sheet) (now room) p ⌝ }
     ensures { λ r. ⌜ Begun tree.temporaryConstraint tree.restriction (now (sheet .entry)) (now (room .entry)) p (now (room .exit)) r ⌝ }
 {
@@ -22,7 +22,7 @@ fn location(sheet: &[u8], room: &mut [u8], p: Spot) -> Given
     let last = bits::write::put(room, at, wait, DTcEndLocation::WIDTH, end.value);
     Given {
         value: of.value,
-        next: Spot {
+        next: PacketSpot {
             from: end.next,
             at: at + DTcEndLocation::WIDTH as usize,
             wait: last,
@@ -31,7 +31,7 @@ fn location(sheet: &[u8], room: &mut [u8], p: Spot) -> Given
 }
 
 // Q_FRONT, the speed, the adhesion and the current, put at once. An unused speed, 0, stays; the current has no limit. The type is for the contract alone.
-fn restriction(sheet: &[u8], room: &mut [u8], p: Spot, of: u32) -> Spot
+fn restriction(sheet: &[u8], room: &mut [u8], p: PacketSpot, of: u32) -> PacketSpot
     requires { ⌜ Ready (tree.restriction of) (now sheet) (now room) p ⌝ }
     ensures { λ r. ⌜ Wrote (tree.restriction of) (now (sheet .entry)) (now (room .entry)) p (now (room .exit)) r ⌝ }
 {
@@ -43,7 +43,7 @@ fn restriction(sheet: &[u8], room: &mut [u8], p: Spot, of: u32) -> Spot
     let steps = fields::lower::speed_steps(speed);
     let bits = front.value * 1048576 + steps * 8192 + adhesion.value * 1024 + MCurrent::NO_LIMIT;
     let wait = bits::write::put(room, p.at, p.wait, 21, bits);
-    Spot {
+    PacketSpot {
         from: current.next,
         at: p.at + 21,
         wait,
@@ -51,7 +51,7 @@ fn restriction(sheet: &[u8], room: &mut [u8], p: Spot, of: u32) -> Spot
 }
 
 // A temporary constraint.
-pub fn constraint(sheet: &[u8], room: &mut [u8], p: Spot) -> Spot
+pub fn constraint(sheet: &[u8], room: &mut [u8], p: PacketSpot) -> PacketSpot
     requires { ⌜ Ready tree.temporaryConstraint (now sheet) (now room) p ⌝ }
     ensures { λ r. ⌜ Wrote tree.temporaryConstraint (now (sheet .entry)) (now (room .entry)) p (now (room .exit)) r ⌝ }
 {

@@ -20,13 +20,13 @@ use kinds::body::NidSp;
 use kinds::journey::NIterSp;
 use kinds::journey::QJpStatus;
 use kinds::journey::QSpDir;
-use packet_write_segment::elements::Spot;
+use packet_write_segment::elements::PacketSpot;
 
 // The bits of the versions and Q_SP_DIR, put at once.
 const VERSION: u32 = MSpVersion::WIDTH + MSpVersion::WIDTH + QSpDir::WIDTH;
 
 // The timing points of a segment.
-fn points(sheet: &[u8], room: &mut [u8], from: Spot, count: u32) -> Spot
+fn points(sheet: &[u8], room: &mut [u8], from: PacketSpot, count: u32) -> PacketSpot
     requires { ⌜ Ready (times tree.timingPoint count) (now sheet) (now room) from ⌝ }
     ensures { λ r. ⌜ Wrote (times tree.timingPoint count) (now (sheet .entry)) (now (room .entry)) from (now (room .exit)) r ⌝ }
 {
@@ -40,7 +40,7 @@ fn points(sheet: &[u8], room: &mut [u8], from: Spot, count: u32) -> Spot
 }
 
 // The temporary constraints of a segment.
-fn constraints(sheet: &[u8], room: &mut [u8], from: Spot, count: u32) -> Spot
+fn constraints(sheet: &[u8], room: &mut [u8], from: PacketSpot, count: u32) -> PacketSpot
     requires { ⌜ Ready (times tree.temporaryConstraint count) (now sheet) (now room) from ⌝ }
     ensures { λ r. ⌜ Wrote (times tree.temporaryConstraint count) (now (sheet .entry)) (now (room .entry)) from (now (room .exit)) r ⌝ }
 {
@@ -54,7 +54,7 @@ fn constraints(sheet: &[u8], room: &mut [u8], from: Spot, count: u32) -> Spot
 }
 
 // NID_C to Q_SP_DIR of a segment.
-fn names(sheet: &[u8], room: &mut [u8], p: Spot) -> Spot
+fn names(sheet: &[u8], room: &mut [u8], p: PacketSpot) -> PacketSpot
     requires { ⌜ Ready (row segmentWidths segmentMost) (now sheet) (now room) p ⌝ }
     ensures { λ r. ⌜ Wrote (row segmentWidths segmentMost) (now (sheet .entry)) (now (room .entry)) p (now (room .exit)) r ⌝ }
 {
@@ -66,7 +66,7 @@ fn names(sheet: &[u8], room: &mut [u8], p: Spot) -> Spot
 }
 
 // A segment: its names, its timing points, and its temporary constraints, each list after its count.
-fn segment(sheet: &[u8], room: &mut [u8], p: Spot) -> Spot
+fn segment(sheet: &[u8], room: &mut [u8], p: PacketSpot) -> PacketSpot
     requires { ⌜ Ready (tree.journeySegment tree.constraints) (now sheet) (now room) p ⌝ }
     ensures { λ r. ⌜ Wrote (tree.journeySegment tree.constraints) (now (sheet .entry)) (now (room .entry)) p (now (room .exit)) r ⌝ }
 {
@@ -80,7 +80,7 @@ fn segment(sheet: &[u8], room: &mut [u8], p: Spot) -> Spot
 }
 
 // The segments of the journey.
-fn segments(sheet: &[u8], room: &mut [u8], from: Spot, count: u32) -> Spot
+fn segments(sheet: &[u8], room: &mut [u8], from: PacketSpot, count: u32) -> PacketSpot
     requires { ⌜ Ready (times (tree.journeySegment tree.constraints) count) (now sheet) (now room) from ⌝ }
     ensures { λ r. ⌜ Wrote (times (tree.journeySegment tree.constraints) count) (now (sheet .entry)) (now (room .entry)) from (now (room .exit)) r ⌝ }
 {
@@ -94,7 +94,7 @@ fn segments(sheet: &[u8], room: &mut [u8], from: Spot, count: u32) -> Spot
 }
 
 // The fields of the body.
-pub fn body(sheet: &[u8], room: &mut [u8], p: Spot) -> Spot
+pub fn body(sheet: &[u8], room: &mut [u8], p: PacketSpot) -> PacketSpot
     requires { ⌜ Ready journeyBodyPart (now sheet) (now room) p ⌝ }
     ensures { λ r. ⌜ Wrote journeyBodyPart (now (sheet .entry)) (now (room .entry)) p (now (room .exit)) r ⌝ }
 {

@@ -21,7 +21,7 @@ use kinds::journey::TDepartureSeconds;
 use kinds::journey::TLatestArrivalDate;
 use kinds::journey::TLatestArrivalSeconds;
 use kinds::journey::TMinimumDwellTime;
-use packet_write_segment::elements::Spot;
+use packet_write_segment::elements::PacketSpot;
 
 // The bits of the pieces in which the rows are put, where a piece has more than one field.
 const LATEST: u32 = TLatestArrivalDate::WIDTH + TLatestArrivalSeconds::WIDTH;
@@ -40,7 +40,7 @@ const DEPARTURE: u32 = TDepartureDate::WIDTH + TDepartureSeconds::WIDTH;
 const DWELL: u32 = TMinimumDwellTime::WIDTH + QAutomaticClosing::WIDTH;
 
 // NID_TP to Q_TP_Alignment of a timing point.
-fn arrival(sheet: &[u8], room: &mut [u8], p: Spot) -> Spot
+fn arrival(sheet: &[u8], room: &mut [u8], p: PacketSpot) -> PacketSpot
     requires { ⌜ Ready (row arrivalWidths arrivalMost) (now sheet) (now room) p ⌝ }
     ensures { λ r. ⌜ Wrote (row arrivalWidths arrivalMost) (now (sheet .entry)) (now (room .entry)) p (now (room .exit)) r ⌝ }
 {
@@ -52,7 +52,7 @@ fn arrival(sheet: &[u8], room: &mut [u8], p: Spot) -> Spot
 }
 
 // Q_TP_Information to Q_Automatic_Closing, by the kind of the stop.
-fn stopping(sheet: &[u8], room: &mut [u8], p: Spot, stop: u32) -> Spot
+fn stopping(sheet: &[u8], room: &mut [u8], p: PacketSpot, stop: u32) -> PacketSpot
     requires { ⌜ Ready (row stoppingWidths (stoppingMost stop)) (now sheet) (now room) p ⌝ }
     ensures { λ r. ⌜ Wrote (row stoppingWidths (stoppingMost stop)) (now (sheet .entry)) (now (room .entry)) p (now (room .exit)) r ⌝ }
 {
@@ -64,7 +64,7 @@ fn stopping(sheet: &[u8], room: &mut [u8], p: Spot, stop: u32) -> Spot
 }
 
 // A timing point.
-pub fn point(sheet: &[u8], room: &mut [u8], p: Spot) -> Spot
+pub fn point(sheet: &[u8], room: &mut [u8], p: PacketSpot) -> PacketSpot
     requires { ⌜ Ready timingPoint (now sheet) (now room) p ⌝ }
     ensures { λ r. ⌜ Wrote timingPoint (now (sheet .entry)) (now (room .entry)) p (now (room .exit)) r ⌝ }
 {

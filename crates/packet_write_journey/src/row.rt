@@ -4,16 +4,16 @@ ghost use Rattle.kinds.specs.Kind.{upTo};
 ghost use Rattle.packet_write_segment.specs.elements.Writing.{Ready, Wrote};
 ghost use Rattle.packet_write_journey.specs.row.Alone.{Offers, Gives};
 ghost use Rattle.packet_write_journey.specs.row.Pieces.{between, Puttable};
-use packet_write_segment::elements::Spot;
+use packet_write_segment::elements::PacketSpot;
 
 // A field's value, and the place after it.
 pub struct Given {
     pub value: u32,
-    pub next: Spot,
+    pub next: PacketSpot,
 }
 
 // One field, on whose value what follows may depend. Its largest value is for the contract alone.
-pub fn number(sheet: &[u8], room: &mut [u8], p: Spot, width: u32, most: u32) -> Given
+pub fn number(sheet: &[u8], room: &mut [u8], p: PacketSpot, width: u32, most: u32) -> Given
     requires { ⌜ Offers (upTo width most) (now sheet) (now room) p × (1 ≤ width) × (width ≤ 32) × (most < 2 ^ width) ⌝ }
     ensures { λ r. ⌜ Gives (upTo width most) (now (sheet .entry)) (now (room .entry)) p (now (room .exit)) r ⌝ }
 {
@@ -21,7 +21,7 @@ pub fn number(sheet: &[u8], room: &mut [u8], p: Spot, width: u32, most: u32) -> 
     let wait = bits::write::put(room, p.at, p.wait, width, a.value);
     Given {
         value: a.value,
-        next: Spot {
+        next: PacketSpot {
             from: a.next,
             at: p.at + width as usize,
             wait,
@@ -33,13 +33,13 @@ pub fn number(sheet: &[u8], room: &mut [u8], p: Spot, width: u32, most: u32) -> 
 pub fn piece(
     sheet: &[u8],
     room: &mut [u8],
-    p: Spot,
+    p: PacketSpot,
     widths: &[u32],
     most: &[u32],
     first: usize,
     end: usize,
     total: u32,
-) -> Spot
+) -> PacketSpot
     requires { ⌜ Ready (between (now widths) (now most) first end) (now sheet) (now room) p × Puttable (now widths) (now most) first end total ⌝ }
     ensures { λ r. ⌜ Wrote (between (now (widths .entry)) (now (most .entry)) first end) (now (sheet .entry)) (now (room .entry)) p (now (room .exit)) r ⌝ }
 {
@@ -54,7 +54,7 @@ pub fn piece(
         i += 1;
     }
     let wait = bits::write::put(room, p.at, p.wait, total, bits as u32);
-    Spot {
+    PacketSpot {
         from,
         at: p.at + total as usize,
         wait,

@@ -10,14 +10,14 @@ use grammar::segment::Part;
 use kinds::body;
 
 // A place in the sheet, the packet's bit that is next, and the bits that wait for a whole byte.
-pub struct Spot {
+pub struct PacketSpot {
     pub from: usize,
     pub at: usize,
     pub wait: u64,
 }
 
 // Q_DIFF, class and V_DIFF, put at once.
-fn entry(sheet: &[u8], figures: &[u32; 11], room: &mut [u8], p: Spot) -> Spot
+fn entry(sheet: &[u8], figures: &[u32; 11], room: &mut [u8], p: PacketSpot) -> PacketSpot
     requires { ⌜ Ready parts.entry (now sheet) (now room) p × (now figures ≡ cantFigures) ⌝ }
     ensures { λ r. ⌜ Wrote parts.entry (now (sheet .entry)) (now (room .entry)) p (now (room .exit)) r ⌝ }
 {
@@ -27,7 +27,7 @@ fn entry(sheet: &[u8], figures: &[u32; 11], room: &mut [u8], p: Spot) -> Spot
     let class = fields::lower::class_place(figures, q.value, a.value);
     let bits = q.value * 2048 + class * 128 + fields::lower::speed_steps(v.value);
     let wait = bits::write::put(room, p.at, p.wait, 13, bits);
-    Spot {
+    PacketSpot {
         from: v.next,
         at: p.at + 13,
         wait,
@@ -35,7 +35,7 @@ fn entry(sheet: &[u8], figures: &[u32; 11], room: &mut [u8], p: Spot) -> Spot
 }
 
 // The specific entries of an element.
-fn entries(sheet: &[u8], room: &mut [u8], from: Spot, count: u32) -> Spot
+fn entries(sheet: &[u8], room: &mut [u8], from: PacketSpot, count: u32) -> PacketSpot
     requires { ⌜ Ready (segment.entries count) (now sheet) (now room) from ⌝ }
     ensures { λ r. ⌜ Wrote (segment.entries count) (now (sheet .entry)) (now (room .entry)) from (now (room .exit)) r ⌝ }
 {
@@ -50,7 +50,7 @@ fn entries(sheet: &[u8], room: &mut [u8], from: Spot, count: u32) -> Spot
 }
 
 // V_STATIC, Q_FRONT and the count of the entries, put at once, and the entries.
-fn profile(sheet: &[u8], room: &mut [u8], p: Spot) -> Spot
+fn profile(sheet: &[u8], room: &mut [u8], p: PacketSpot) -> PacketSpot
     requires { ⌜ Ready segment.profile (now sheet) (now room) p ⌝ }
     ensures { λ r. ⌜ Wrote segment.profile (now (sheet .entry)) (now (room .entry)) p (now (room .exit)) r ⌝ }
 {
@@ -59,7 +59,7 @@ fn profile(sheet: &[u8], room: &mut [u8], p: Spot) -> Spot
     let n = numbers::accepted::single(sheet, q.next);
     let bits = fields::lower::speed_steps(v.value) * 64 + q.value * 32 + n.value;
     let wait = bits::write::put(room, p.at, p.wait, 13, bits);
-    let first = Spot {
+    let first = PacketSpot {
         from: n.next,
         at: p.at + 13,
         wait,
@@ -68,7 +68,7 @@ fn profile(sheet: &[u8], room: &mut [u8], p: Spot) -> Spot
 }
 
 // M_VOLTAGE and NID_CTRACTION, put at once.
-fn wire(sheet: &[u8], room: &mut [u8], p: Spot) -> Spot
+fn wire(sheet: &[u8], room: &mut [u8], p: PacketSpot) -> PacketSpot
     requires { ⌜ Ready segment.voltage (now sheet) (now room) p ⌝ }
     ensures { λ r. ⌜ Wrote segment.voltage (now (sheet .entry)) (now (room .entry)) p (now (room .exit)) r ⌝ }
 {
@@ -76,7 +76,7 @@ fn wire(sheet: &[u8], room: &mut [u8], p: Spot) -> Spot
     let n = numbers::accepted::number(sheet, u.next);
     let bits = fields::lower::volts_place(u.value) * 1024 + n.value;
     let wait = bits::write::put(room, p.at, p.wait, 14, bits);
-    Spot {
+    PacketSpot {
         from: n.next,
         at: p.at + 14,
         wait,
@@ -84,7 +84,7 @@ fn wire(sheet: &[u8], room: &mut [u8], p: Spot) -> Spot
 }
 
 // M_CURRENT.
-fn amperes(sheet: &[u8], room: &mut [u8], p: Spot) -> Spot
+fn amperes(sheet: &[u8], room: &mut [u8], p: PacketSpot) -> PacketSpot
     requires { ⌜ Ready segment.current (now sheet) (now room) p ⌝ }
     ensures { λ r. ⌜ Wrote segment.current (now (sheet .entry)) (now (room .entry)) p (now (room .exit)) r ⌝ }
 {
@@ -96,7 +96,7 @@ fn amperes(sheet: &[u8], room: &mut [u8], p: Spot) -> Spot
         body::MCurrent::WIDTH,
         fields::lower::current_steps(a.value),
     );
-    Spot {
+    PacketSpot {
         from: a.next,
         at: p.at + body::MCurrent::WIDTH as usize,
         wait,
@@ -104,7 +104,7 @@ fn amperes(sheet: &[u8], room: &mut [u8], p: Spot) -> Spot
 }
 
 // What an element of a part begins with.
-pub fn element(part: Part, sheet: &[u8], room: &mut [u8], p: Spot) -> Spot
+pub fn element(part: Part, sheet: &[u8], room: &mut [u8], p: PacketSpot) -> PacketSpot
     requires { ⌜ Ready (startOf part) (now sheet) (now room) p ⌝ }
     ensures { λ r. ⌜ Wrote (startOf part) (now (sheet .entry)) (now (room .entry)) p (now (room .exit)) r ⌝ }
 {

@@ -27,9 +27,9 @@ use Rattle.format.specs.Places.{Taken, numberTaken}
 use Rattle.format.proofs.Places.{number-found, number-none}
 use Rattle.format.proofs.Passing.{sheet-seen}
 use Rattle.format.proofs.Ways.{value-on, value-off, over-none, took-is, took-off}
-use Rattle.sheet_fields.specs.declared.Step.{Step}
-use Rattle.sheet_fields.specs.declared.Step.the-variants.{On, Refused}
-use Rattle.sheet_fields.specs.declared.Next.the-variants as Next
+use Rattle.sheet_fields.specs.declared.SheetStep.{SheetStep}
+use Rattle.sheet_fields.specs.declared.SheetStep.the-variants.{On, Refused}
+use Rattle.sheet_fields.specs.declared.SheetValue.the-variants as SheetValue
 use Rattle.sheet_fields.specs.Judging.{judging, Standing, Over, Took, Lowers}
 
 lowered-some : (k : Kind) (a v : ℕ) → v ≡ lowered k a → (v ≡ 2 ^ k .width → ⊥) → k .lower a ≡ some v
@@ -47,7 +47,7 @@ bytes-drop (b ∷ s) (suc at) h = bytes-drop s at (h .1)
 
 module _ (s : List ℕ) {at : ℕ} (h : Standing s at) {a : Found} (e : a ≡ found (numberIn (drop at s))) (k : Kind) (n : ℕ) where
   -- no number
-  pub took-bad : a .count ≡ 0 → Took k s at n (Next.Refused 9 at)
+  pub took-bad : a .count ≡ 0 → Took k s at n (SheetValue.Refused 9 at)
   took-bad z = took-off (sheet-seen s) judging (λ at n. Standing s at) k tt (number-none k s at (found-none (drop at s) a e z))
 
   module _ (z : a .count ≡ 0 → ⊥) where
@@ -59,39 +59,39 @@ module _ (s : List ℕ) {at : ℕ} (h : Standing s at) {a : Found} (e : a ≡ fo
         omega (arith, c .groups, h .inside, length-drop at s, simp length-append at l)
 
     -- a number that is none of the kind's
-    pub took-out : k .lower (a .value) ≡ none → Took k s at n (Next.Refused (k .refusal (a .value)) at)
+    pub took-out : k .lower (a .value) ≡ none → Took k s at n (SheetValue.Refused (k .refusal (a .value)) at)
     took-out o =
         took-off (sheet-seen s) judging (λ at n. Standing s at) k tt (rw o at (number-found k s at (found-value (drop at s) a e z .value)))
 
     -- one of the kind's
-    pub took-in : {v to m : ℕ} → k .lower (a .value) ≡ some v → to ≡ at + a .count → m ≡ (n + k .width) % 2 ^ 32 → Took k s at n (Next.Is v to m)
+    pub took-in : {v to m : ℕ} → k .lower (a .value) ≡ some v → to ≡ at + a .count → m ≡ (n + k .width) % 2 ^ 32 → Took k s at n (SheetValue.Is v to m)
     took-in {v} o p q =
         let c = found-value (drop at s) a e z in
         let i : Item = record { sheet = a .value; packet = v } in
         let f : Taken.Is i (at + a .count) ≡ numberTaken k s at = rw (o, c .groups) at (number-found k s at (c .value)) in
-        let t : Took k s at n (Next.Is v (at + a .count) ((n + length (bitsOf (k .width) v)) % 2 ^ 32)) =
+        let t : Took k s at n (SheetValue.Is v (at + a .count) ((n + length (bitsOf (k .width) v)) % 2 ^ 32)) =
         took-is (sheet-seen s) judging (λ at n. Standing s at) k tt f (record { bytes = h .bytes; inside = groups-inside }) in
         rw (p, q) (rw (length-bits (k .width) v) at t)
 
     -- the same from the one number that lowering makes
     module _ {v : ℕ} (l : v ≡ lowered k (a .value)) where
-      pub low-out : LawfulKind k → v ≡ 2 ^ k .width → Took k s at n (Next.Refused (k .refusal (a .value)) at)
+      pub low-out : LawfulKind k → v ≡ 2 ^ k .width → Took k s at n (SheetValue.Refused (k .refusal (a .value)) at)
       low-out w o = took-out (lowered-none k (a .value) v w l (omega arith))
 
-      pub low-in : {to m : ℕ} → (v ≡ 2 ^ k .width → ⊥) → to ≡ at + a .count → m ≡ (n + k .width) % 2 ^ 32 → Took k s at n (Next.Is v to m)
+      pub low-in : {to m : ℕ} → (v ≡ 2 ^ k .width → ⊥) → to ≡ at + a .count → m ≡ (n + k .width) % 2 ^ 32 → Took k s at n (SheetValue.Is v to m)
       low-in o p q = took-in (lowered-some k (a .value) v l o) p q
 
 -- a field on whose value nothing depends
 module _ (s : List ℕ) {k : Kind} {at n : ℕ} where
-  pub plain-off : {r place : ℕ} → Took k s at n (Next.Refused r place) → Over (then k) s at n (Refused r place)
+  pub plain-off : {r place : ℕ} → Took k s at n (SheetValue.Refused r place) → Over (then k) s at n (Refused r place)
   plain-off t = value-off (λ v f. f) t
 
-  pub plain-on : {v to m : ℕ} → Took k s at n (Next.Is v to m) → Over (then k) s at n (On to m)
+  pub plain-on : {v to m : ℕ} → Took k s at n (SheetValue.Is v to m) → Over (then k) s at n (On to m)
   plain-on t = value-on (λ v f. f) t (over-none (t .stands))
 
 -- the same from the value that a number lowers to
 pub low-over : (s : List ℕ) {at : ℕ} → Standing s at → {a : Found} → a ≡ found (numberIn (drop at s)) → (k : Kind) (n : ℕ) → LawfulKind k → ((b : ℕ) → k .refusal b ≡ 4)
-    → {v : ℕ} → v ≡ lowered k (a .value) → {width : ℕ} → k .width ≡ width → {r : Step} → Lowers at n (a .count) v (2 ^ width) width r → Over (then k) s at n r
+    → {v : ℕ} → v ≡ lowered k (a .value) → {width : ℕ} → k .width ≡ width → {r : SheetStep} → Lowers at n (a .count) v (2 ^ width) width r → Over (then k) s at n r
 low-over s {at} h {a} e k n w f {v} l {width} d t =
     by-cases (eqb (a .count) 0)
     (λ b. let z : a .count ≡ 0 = eqb-true (a .count) 0 b in rw (t .bad z) (plain-off s (took-bad s h e k n z)))

@@ -14,10 +14,10 @@ use Rattle.format.specs.Ways as ways
 use Rattle.format.specs.Ways.{Way, passing, Went, Got}
 use Rattle.verdict.specs.declared.SheetVerdict.{SheetVerdict}
 use Rattle.verdict.specs.declared.SheetVerdict.the-variants as SheetVerdict
-use Rattle.sheet_fields.specs.declared.Step.{Step}
-use Rattle.sheet_fields.specs.declared.Step.the-variants.{On, Refused}
-use Rattle.sheet_fields.specs.declared.Next.{Next}
-use Rattle.sheet_fields.specs.declared.Next.the-variants as Next
+use Rattle.sheet_fields.specs.declared.SheetStep.{SheetStep}
+use Rattle.sheet_fields.specs.declared.SheetStep.the-variants.{On, Refused}
+use Rattle.sheet_fields.specs.declared.SheetValue.{SheetValue}
+use Rattle.sheet_fields.specs.declared.SheetValue.the-variants as SheetValue
 
 -- the packet's bits are counted round 2 to the 32: a sheet's length bounds no count, and an accepted sheet's count is far below
 abbrev pub judging : Task ℕ SheetVerdict
@@ -32,24 +32,24 @@ pub record Standing (s : List ℕ) (at : ℕ) : Type 0 where
 abbrev pub judge : List ℕ → Way ℕ SheetVerdict
 judge s = passing sheet judging (λ at. drop at s) (λ at n. Standing s at)
 
-abbrev pub went : Step → Went ℕ
+abbrev pub went : SheetStep → Went ℕ
 went (On at n) = Went.on at n
 went (Refused r at) = Went.off r at
 
-abbrev pub got : Next → Got ℕ
-got (Next.Is v at n) = Got.is v at n
-got (Next.Refused r at) = Got.off r at
+abbrev pub got : SheetValue → Got ℕ
+got (SheetValue.Is v at n) = Got.is v at n
+got (SheetValue.Refused r at) = Got.off r at
 
 -- A step over a part of the tree: whatever follows the part, the verdict is the verdict from the step on.
-abbrev pub Over : (Format → Format) → List ℕ → ℕ → ℕ → Step → Type 0
+abbrev pub Over : (Format → Format) → List ℕ → ℕ → ℕ → SheetStep → Type 0
 Over part s at n r = ways.Over (judge s) part at n (went r)
 
 -- the same of one field, on whose value what follows may depend
-abbrev pub Took : Kind → List ℕ → ℕ → ℕ → Next → Type 0
+abbrev pub Took : Kind → List ℕ → ℕ → ℕ → SheetValue → Type 0
 Took k s at n r = ways.Took (judge s) k at n (got r)
 
 -- the step over a field of so many bits, from the count of its number's groups, 0 where there is no number, and the value that it lowers to, or none
-pub record Lowers (at n count value none width : ℕ) (r : Step) : Type 0 where
+pub record Lowers (at n count value none width : ℕ) (r : SheetStep) : Type 0 where
   pub bad : count ≡ 0 → r ≡ Refused 9 at
   pub out : (count ≡ 0 → ⊥) → value ≡ none → r ≡ Refused 4 at
   pub on : (count ≡ 0 → ⊥) → (value ≡ none → ⊥) → r ≡ On (at + count) ((n + width) % 2 ^ 32)

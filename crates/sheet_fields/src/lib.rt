@@ -15,29 +15,29 @@ use kinds::header;
 use kinds::journey::DTcEndLocation;
 
 // The place after a part with the bits counted so far, round 2 to the 32, or a refusal and its place.
-pub enum Step {
+pub enum SheetStep {
     On(usize, u32),
     Refused(u32, usize),
 }
 
 // The same after a field, with its value.
-pub enum Next {
+pub enum SheetValue {
     Is(u32, usize, u32),
     Refused(u32, usize),
 }
 
 // The step over a field of width bits, from the count of groups that was found and the value that its number lowers to, which is none where there is no such value.
-fn lowered(at: usize, n: u32, count: u32, v: u32, none: u32, width: u32) -> Step
+fn lowered(at: usize, n: u32, count: u32, v: u32, none: u32, width: u32) -> SheetStep
     requires { ⌜ at + count < 2 ^ 64 ⌝ }
     ensures { λ r. ⌜ Lowers at n count v none width r ⌝ }
 {
     if count == 0 {
-        return Step::Refused(verdict::NO_NUMBER, at);
+        return SheetStep::Refused(verdict::NO_NUMBER, at);
     }
     if v == none {
-        return Step::Refused(OUT_OF_RANGE, at);
+        return SheetStep::Refused(OUT_OF_RANGE, at);
     }
-    Step::On(at + count as usize, std::num::wrapping_add_u32(n, width))
+    SheetStep::On(at + count as usize, std::num::wrapping_add_u32(n, width))
 }
 
 // A field from least to largest at the byte at, n bits counted before it.
@@ -49,22 +49,22 @@ pub fn ranged(
     least: u32,
     largest: u32,
     refusal: u32,
-) -> Next
+) -> SheetValue
     requires { ⌜ Standing (now s) at ⌝ }
     ensures { λ r. ⌜ Took (range width least largest refusal) (now (s .entry)) at n r ⌝ }
 {
     let found = numbers::found_at(s, at);
     if found.count == 0 {
-        return Next::Refused(verdict::NO_NUMBER, at);
+        return SheetValue::Refused(verdict::NO_NUMBER, at);
     }
     let v = found.value;
     if v < least {
-        return Next::Refused(refusal, at);
+        return SheetValue::Refused(refusal, at);
     }
     if largest < v {
-        return Next::Refused(refusal, at);
+        return SheetValue::Refused(refusal, at);
     }
-    Next::Is(
+    SheetValue::Is(
         v,
         at + found.count as usize,
         std::num::wrapping_add_u32(n, width),
@@ -78,36 +78,36 @@ fn wide(x: u8) -> u32
 }
 
 // A field up to a largest value below 128: a byte that is not above it is the whole number, so that the place after it waits for no byte.
-pub fn single(s: &[u8], at: usize, n: u32, width: u32, largest: u32) -> Next
+pub fn single(s: &[u8], at: usize, n: u32, width: u32, largest: u32) -> SheetValue
     requires { ⌜ Standing (now s) at × (largest < 128) ⌝ }
     ensures { λ r. ⌜ Took (upTo width largest) (now (s .entry)) at n r ⌝ }
 {
     if at < s.len() {
         let v = wide(s[at]);
         if v <= largest {
-            return Next::Is(v, at + 1, std::num::wrapping_add_u32(n, width));
+            return SheetValue::Is(v, at + 1, std::num::wrapping_add_u32(n, width));
         }
     }
     ranged(s, at, n, width, 0, largest, OUT_OF_RANGE)
 }
 
 // A change's location, after the last one and before the segment's end.
-pub fn location(s: &[u8], at: usize, n: u32, last: u32, lsp: u32) -> Next
+pub fn location(s: &[u8], at: usize, n: u32, last: u32, lsp: u32) -> SheetValue
     requires { ⌜ Standing (now s) at ⌝ }
     ensures { λ r. ⌜ Took (kind.dLocation last lsp) (now (s .entry)) at n r ⌝ }
 {
     let a = numbers::found_at(s, at);
     if a.count == 0 {
-        return Next::Refused(verdict::NO_NUMBER, at);
+        return SheetValue::Refused(verdict::NO_NUMBER, at);
     }
     let v = a.value;
     if v <= last {
-        return Next::Refused(LOCATION, at);
+        return SheetValue::Refused(LOCATION, at);
     }
     if lsp <= v {
-        return Next::Refused(LOCATION, at);
+        return SheetValue::Refused(LOCATION, at);
     }
-    Next::Is(
+    SheetValue::Is(
         v,
         at + a.count as usize,
         std::num::wrapping_add_u32(n, body::DLocation::WIDTH),
@@ -115,47 +115,47 @@ pub fn location(s: &[u8], at: usize, n: u32, last: u32, lsp: u32) -> Next
 }
 
 // The end of a temporary constraint, after its start: 4 for an end of more than 24 bits, and 5 for one that is not after its start.
-pub fn after(s: &[u8], at: usize, n: u32, start: u32) -> Step
+pub fn after(s: &[u8], at: usize, n: u32, start: u32) -> SheetStep
     requires { ⌜ Standing (now s) at ⌝ }
     ensures { λ r. ⌜ Over (then (kind.dEndAfter start)) (now (s .entry)) at n r ⌝ }
 {
     let a = numbers::found_at(s, at);
     if a.count == 0 {
-        return Step::Refused(verdict::NO_NUMBER, at);
+        return SheetStep::Refused(verdict::NO_NUMBER, at);
     }
     let v = a.value;
     if DTcEndLocation::LARGEST < v {
-        return Step::Refused(OUT_OF_RANGE, at);
+        return SheetStep::Refused(OUT_OF_RANGE, at);
     }
     if v <= start {
-        return Step::Refused(LOCATION, at);
+        return SheetStep::Refused(LOCATION, at);
     }
-    Step::On(
+    SheetStep::On(
         at + a.count as usize,
         std::num::wrapping_add_u32(n, DTcEndLocation::WIDTH),
     )
 }
 
 // NID_OPERATIONAL, digit by digit.
-pub fn operational(s: &[u8], at: usize, n: u32) -> Step
+pub fn operational(s: &[u8], at: usize, n: u32) -> SheetStep
     requires { ⌜ Standing (now s) at ⌝ }
     ensures { λ r. ⌜ Over (then kind.nidOperational) (now (s .entry)) at n r ⌝ }
 {
     let a = numbers::found_at(s, at);
     if a.count == 0 {
-        return Step::Refused(verdict::NO_NUMBER, at);
+        return SheetStep::Refused(verdict::NO_NUMBER, at);
     }
     if fields::size::digits_good(a.value) {
-        return Step::On(
+        return SheetStep::On(
             at + a.count as usize,
             std::num::wrapping_add_u32(n, header::NidOperational::WIDTH),
         );
     }
-    Step::Refused(OUT_OF_RANGE, at)
+    SheetStep::Refused(OUT_OF_RANGE, at)
 }
 
 // V_STATIC or V_DIFF.
-pub fn speed(s: &[u8], at: usize, n: u32) -> Step
+pub fn speed(s: &[u8], at: usize, n: u32) -> SheetStep
     requires { ⌜ Standing (now s) at ⌝ }
     ensures { λ r. ⌜ Over (then kind.speed) (now (s .entry)) at n r ⌝ }
 {
@@ -172,7 +172,7 @@ pub fn speed(s: &[u8], at: usize, n: u32) -> Step
 }
 
 // The class of an entry, by its Q_DIFF.
-pub fn class(s: &[u8], figures: &[u32; 11], at: usize, n: u32, q: u32) -> Step
+pub fn class(s: &[u8], figures: &[u32; 11], at: usize, n: u32, q: u32) -> SheetStep
     requires { ⌜ Standing (now s) at × (now figures ≡ cantFigures) ⌝ }
     ensures { λ r. ⌜ Over (then (kind.class q)) (now (s .entry)) at n r ⌝ }
 {
@@ -189,19 +189,19 @@ pub fn class(s: &[u8], figures: &[u32; 11], at: usize, n: u32, q: u32) -> Step
 }
 
 // M_VOLTAGE, on which NID_CTRACTION depends.
-pub fn voltage(s: &[u8], at: usize, n: u32) -> Next
+pub fn voltage(s: &[u8], at: usize, n: u32) -> SheetValue
     requires { ⌜ Standing (now s) at ⌝ }
     ensures { λ r. ⌜ Took kind.mVoltage (now (s .entry)) at n r ⌝ }
 {
     let a = numbers::found_at(s, at);
     if a.count == 0 {
-        return Next::Refused(verdict::NO_NUMBER, at);
+        return SheetValue::Refused(verdict::NO_NUMBER, at);
     }
     let v = fields::lower::volts_place(a.value);
     if v == fields::lower::NO_VOLTAGE {
-        return Next::Refused(OUT_OF_RANGE, at);
+        return SheetValue::Refused(OUT_OF_RANGE, at);
     }
-    Next::Is(
+    SheetValue::Is(
         v,
         at + a.count as usize,
         std::num::wrapping_add_u32(n, body::MVoltage::WIDTH),
@@ -209,7 +209,7 @@ pub fn voltage(s: &[u8], at: usize, n: u32) -> Next
 }
 
 // M_CURRENT.
-pub fn current(s: &[u8], at: usize, n: u32) -> Step
+pub fn current(s: &[u8], at: usize, n: u32) -> SheetStep
     requires { ⌜ Standing (now s) at ⌝ }
     ensures { λ r. ⌜ Over (then kind.mCurrent) (now (s .entry)) at n r ⌝ }
 {
@@ -226,19 +226,19 @@ pub fn current(s: &[u8], at: usize, n: u32) -> Step
 }
 
 // No current, where none is used: the number 0 alone.
-pub fn no_current(s: &[u8], at: usize, n: u32) -> Step
+pub fn no_current(s: &[u8], at: usize, n: u32) -> SheetStep
     requires { ⌜ Standing (now s) at ⌝ }
     ensures { λ r. ⌜ Over (then kind.noCurrent) (now (s .entry)) at n r ⌝ }
 {
     let a = numbers::found_at(s, at);
     if a.count == 0 {
-        return Step::Refused(verdict::NO_NUMBER, at);
+        return SheetStep::Refused(verdict::NO_NUMBER, at);
     }
     if a.value == 0 {
-        return Step::On(
+        return SheetStep::On(
             at + a.count as usize,
             std::num::wrapping_add_u32(n, body::MCurrent::WIDTH),
         );
     }
-    Step::Refused(OUT_OF_RANGE, at)
+    SheetStep::Refused(OUT_OF_RANGE, at)
 }

@@ -3,13 +3,13 @@ ghost use mathlib.Core.Path.{_≡_};
 ghost use lib.ListN.{length};
 ghost use Rattle.grammar.specs.rows.Rows as rows;
 ghost use Rattle.sheet_fields.specs.Judging.{Standing, Over};
-use crate::Next;
-use crate::Step;
+use crate::SheetStep;
+use crate::SheetValue;
 use crate::ranged;
 use kinds::OUT_OF_RANGE;
 
 // The fields of these widths, each at most its largest value.
-pub fn row(s: &[u8], at: usize, n: u32, widths: &[u32], most: &[u32]) -> Step
+pub fn row(s: &[u8], at: usize, n: u32, widths: &[u32], most: &[u32]) -> SheetStep
     requires { ⌜ Standing (now s) at × (length (now widths) ≡ length (now most)) ⌝ }
     ensures { λ r. ⌜ Over (rows.row (now (widths .entry)) (now (most .entry))) (now (s .entry)) at n r ⌝ }
 {
@@ -18,15 +18,15 @@ pub fn row(s: &[u8], at: usize, n: u32, widths: &[u32], most: &[u32]) -> Step
     let mut i = 0;
     while i < widths.len() {
         match ranged(s, to, m, widths[i], 0, most[i], OUT_OF_RANGE) {
-            Next::Refused(r, place) => {
-                return Step::Refused(r, place);
+            SheetValue::Refused(r, place) => {
+                return SheetStep::Refused(r, place);
             }
-            Next::Is(_, a, b) => {
+            SheetValue::Is(_, a, b) => {
                 to = a;
                 m = b;
                 i += 1;
             }
         }
     }
-    Step::On(to, m)
+    SheetStep::On(to, m)
 }

@@ -12,26 +12,26 @@ use kinds::journey::QTcFront;
 use kinds::journey::QTcRange;
 use kinds::journey::QTcType;
 use kinds::journey::VSpeedLevel;
-use sheet_fields::Next;
-use sheet_fields::Step;
+use sheet_fields::SheetStep;
+use sheet_fields::SheetValue;
 use sheet_fields::after;
 use sheet_fields::no_current;
 use sheet_fields::ranged;
 use sheet_fields::speed;
 
 // A field up to most, on whose value nothing depends.
-fn up_to(s: &[u8], at: usize, n: u32, width: u32, most: u32) -> Step
+fn up_to(s: &[u8], at: usize, n: u32, width: u32, most: u32) -> SheetStep
     requires { ⌜ Standing (now s) at ⌝ }
     ensures { λ r. ⌜ Over (then (upTo width most)) (now (s .entry)) at n r ⌝ }
 {
     match ranged(s, at, n, width, 0, most, OUT_OF_RANGE) {
-        Next::Refused(r, place) => Step::Refused(r, place),
-        Next::Is(_, to, m) => Step::On(to, m),
+        SheetValue::Refused(r, place) => SheetStep::Refused(r, place),
+        SheetValue::Is(_, to, m) => SheetStep::On(to, m),
     }
 }
 
 // The end, by the range and the start.
-fn end(s: &[u8], at: usize, n: u32, range: u32, start: u32) -> Step
+fn end(s: &[u8], at: usize, n: u32, range: u32, start: u32) -> SheetStep
     requires { ⌜ Standing (now s) at ⌝ }
     ensures { λ r. ⌜ Over (then (kind.dTcEndLocation range start)) (now (s .entry)) at n r ⌝ }
 {
@@ -42,7 +42,7 @@ fn end(s: &[u8], at: usize, n: u32, range: u32, start: u32) -> Step
 }
 
 // The start and the end, by the range.
-fn stretch(s: &[u8], at: usize, n: u32, range: u32) -> Step
+fn stretch(s: &[u8], at: usize, n: u32, range: u32) -> SheetStep
     requires { ⌜ Standing (now s) at ⌝ }
     ensures { λ r. ⌜ Over (journey.stretch range) (now (s .entry)) at n r ⌝ }
 {
@@ -55,13 +55,13 @@ fn stretch(s: &[u8], at: usize, n: u32, range: u32) -> Step
         DTcStartLocation::most(range),
         OUT_OF_RANGE,
     ) {
-        Next::Refused(r, place) => Step::Refused(r, place),
-        Next::Is(start, at2, n2) => end(s, at2, n2, range, start),
+        SheetValue::Refused(r, place) => SheetStep::Refused(r, place),
+        SheetValue::Is(start, at2, n2) => end(s, at2, n2, range, start),
     }
 }
 
 // V_Speed_Level, by the type: one that is not used is the number 0 itself.
-fn level(s: &[u8], at: usize, n: u32, of: u32) -> Step
+fn level(s: &[u8], at: usize, n: u32, of: u32) -> SheetStep
     requires { ⌜ Standing (now s) at ⌝ }
     ensures { λ r. ⌜ Over (then (kind.vSpeedLevel of)) (now (s .entry)) at n r ⌝ }
 {
@@ -72,36 +72,36 @@ fn level(s: &[u8], at: usize, n: u32, of: u32) -> Step
 }
 
 // Q_FRONT, the speed, the adhesion and the current, by the type.
-fn restriction(s: &[u8], at: usize, n: u32, of: u32) -> Step
+fn restriction(s: &[u8], at: usize, n: u32, of: u32) -> SheetStep
     requires { ⌜ Standing (now s) at ⌝ }
     ensures { λ r. ⌜ Over (journey.restriction of) (now (s .entry)) at n r ⌝ }
 {
     match up_to(s, at, n, QTcFront::WIDTH, QTcFront::most(of)) {
-        Step::Refused(r, place) => Step::Refused(r, place),
-        Step::On(at2, n2) => match level(s, at2, n2, of) {
-            Step::Refused(r, place) => Step::Refused(r, place),
-            Step::On(at3, n3) => match up_to(
+        SheetStep::Refused(r, place) => SheetStep::Refused(r, place),
+        SheetStep::On(at2, n2) => match level(s, at2, n2, of) {
+            SheetStep::Refused(r, place) => SheetStep::Refused(r, place),
+            SheetStep::On(at3, n3) => match up_to(
                 s,
                 at3,
                 n3,
                 QLowAdhesionRate::WIDTH,
                 QLowAdhesionRate::most(of),
             ) {
-                Step::Refused(r, place) => Step::Refused(r, place),
-                Step::On(at4, n4) => no_current(s, at4, n4),
+                SheetStep::Refused(r, place) => SheetStep::Refused(r, place),
+                SheetStep::On(at4, n4) => no_current(s, at4, n4),
             },
         },
     }
 }
 
 // A temporary constraint.
-fn constraint(s: &[u8], at: usize, n: u32) -> Step
+fn constraint(s: &[u8], at: usize, n: u32) -> SheetStep
     requires { ⌜ Standing (now s) at ⌝ }
     ensures { λ r. ⌜ Over journey.temporaryConstraint (now (s .entry)) at n r ⌝ }
 {
     match ranged(s, at, n, QTcType::WIDTH, 0, QTcType::LARGEST, OUT_OF_RANGE) {
-        Next::Refused(r, place) => Step::Refused(r, place),
-        Next::Is(of, at2, n2) => match ranged(
+        SheetValue::Refused(r, place) => SheetStep::Refused(r, place),
+        SheetValue::Is(of, at2, n2) => match ranged(
             s,
             at2,
             n2,
@@ -110,17 +110,17 @@ fn constraint(s: &[u8], at: usize, n: u32) -> Step
             QTcRange::LARGEST,
             OUT_OF_RANGE,
         ) {
-            Next::Refused(r, place) => Step::Refused(r, place),
-            Next::Is(range, at3, n3) => match stretch(s, at3, n3, range) {
-                Step::Refused(r, place) => Step::Refused(r, place),
-                Step::On(at4, n4) => restriction(s, at4, n4, of),
+            SheetValue::Refused(r, place) => SheetStep::Refused(r, place),
+            SheetValue::Is(range, at3, n3) => match stretch(s, at3, n3, range) {
+                SheetStep::Refused(r, place) => SheetStep::Refused(r, place),
+                SheetStep::On(at4, n4) => restriction(s, at4, n4, of),
             },
         },
     }
 }
 
 // The temporary constraints of a segment.
-pub fn constraints(s: &[u8], at: usize, n: u32, count: u32) -> Step
+pub fn constraints(s: &[u8], at: usize, n: u32, count: u32) -> SheetStep
     requires { ⌜ Standing (now s) at ⌝ }
     ensures { λ r. ⌜ Over (times journey.temporaryConstraint count) (now (s .entry)) at n r ⌝ }
 {
@@ -129,15 +129,15 @@ pub fn constraints(s: &[u8], at: usize, n: u32, count: u32) -> Step
     let mut left = count;
     while 0 < left {
         match constraint(s, to, m) {
-            Step::Refused(r, place) => {
-                return Step::Refused(r, place);
+            SheetStep::Refused(r, place) => {
+                return SheetStep::Refused(r, place);
             }
-            Step::On(a, b) => {
+            SheetStep::On(a, b) => {
                 to = a;
                 m = b;
                 left -= 1;
             }
         }
     }
-    Step::On(to, m)
+    SheetStep::On(to, m)
 }

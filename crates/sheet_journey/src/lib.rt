@@ -13,25 +13,25 @@ use kinds::OUT_OF_RANGE;
 use kinds::body::NIter;
 use kinds::journey::NIterSp;
 use kinds::journey::QJpStatus;
-use sheet_fields::Next;
-use sheet_fields::Step;
+use sheet_fields::SheetStep;
+use sheet_fields::SheetValue;
 use sheet_fields::operational;
 use sheet_fields::ranged;
 use sheet_fields::row::row;
 
 // The count of a segment's temporary constraints, and the constraints.
-fn constraints(s: &[u8], at: usize, n: u32) -> Step
+fn constraints(s: &[u8], at: usize, n: u32) -> SheetStep
     requires { ⌜ Standing (now s) at ⌝ }
     ensures { λ r. ⌜ Over (parts.constraintList journey.constraints) (now (s .entry)) at n r ⌝ }
 {
     match ranged(s, at, n, NIter::WIDTH, 0, CONSTRAINTS, OUT_OF_RANGE) {
-        Next::Refused(r, place) => Step::Refused(r, place),
-        Next::Is(count, at2, n2) => crate::constraint::constraints(s, at2, n2, count),
+        SheetValue::Refused(r, place) => SheetStep::Refused(r, place),
+        SheetValue::Is(count, at2, n2) => crate::constraint::constraints(s, at2, n2, count),
     }
 }
 
 // NID_C to Q_SP_DIR of a segment.
-fn segment_row(s: &[u8], at: usize, n: u32) -> Step
+fn segment_row(s: &[u8], at: usize, n: u32) -> SheetStep
     requires { ⌜ Standing (now s) at ⌝ }
     ensures { λ r. ⌜ Over (rows.row parts.segmentWidths parts.segmentMost) (now (s .entry)) at n r ⌝ }
 {
@@ -41,13 +41,13 @@ fn segment_row(s: &[u8], at: usize, n: u32) -> Step
 }
 
 // A segment: its names, its timing points, and its temporary constraints.
-fn segment(s: &[u8], at: usize, n: u32) -> Step
+fn segment(s: &[u8], at: usize, n: u32) -> SheetStep
     requires { ⌜ Standing (now s) at ⌝ }
     ensures { λ r. ⌜ Over (journey.journeySegment journey.constraints) (now (s .entry)) at n r ⌝ }
 {
     match segment_row(s, at, n) {
-        Step::Refused(r, place) => Step::Refused(r, place),
-        Step::On(at2, n2) => match ranged(
+        SheetStep::Refused(r, place) => SheetStep::Refused(r, place),
+        SheetStep::On(at2, n2) => match ranged(
             s,
             at2,
             n2,
@@ -56,17 +56,17 @@ fn segment(s: &[u8], at: usize, n: u32) -> Step
             NIter::LARGEST,
             OUT_OF_RANGE,
         ) {
-            Next::Refused(r, place) => Step::Refused(r, place),
-            Next::Is(count, at3, n3) => match points(s, at3, n3, count) {
-                Step::Refused(r, place) => Step::Refused(r, place),
-                Step::On(at4, n4) => constraints(s, at4, n4),
+            SheetValue::Refused(r, place) => SheetStep::Refused(r, place),
+            SheetValue::Is(count, at3, n3) => match points(s, at3, n3, count) {
+                SheetStep::Refused(r, place) => SheetStep::Refused(r, place),
+                SheetStep::On(at4, n4) => constraints(s, at4, n4),
             },
         },
     }
 }
 
 // The segments of a journey.
-fn segments(s: &[u8], at: usize, n: u32, count: u32) -> Step
+fn segments(s: &[u8], at: usize, n: u32, count: u32) -> SheetStep
     requires { ⌜ Standing (now s) at ⌝ }
     ensures { λ r. ⌜ Over (times (journey.journeySegment journey.constraints) count) (now (s .entry)) at n r ⌝ }
 {
@@ -75,21 +75,21 @@ fn segments(s: &[u8], at: usize, n: u32, count: u32) -> Step
     let mut left = count;
     while 0 < left {
         match segment(s, to, m) {
-            Step::Refused(r, place) => {
-                return Step::Refused(r, place);
+            SheetStep::Refused(r, place) => {
+                return SheetStep::Refused(r, place);
             }
-            Step::On(a, b) => {
+            SheetStep::On(a, b) => {
                 to = a;
                 m = b;
                 left -= 1;
             }
         }
     }
-    Step::On(to, m)
+    SheetStep::On(to, m)
 }
 
 // Q_JP_Status, and the count of the segments with the segments.
-fn body(s: &[u8], at: usize, n: u32) -> Step
+fn body(s: &[u8], at: usize, n: u32) -> SheetStep
     requires { ⌜ Standing (now s) at ⌝ }
     ensures { λ r. ⌜ Over parts.journeyBodyPart (now (s .entry)) at n r ⌝ }
 {
@@ -102,8 +102,8 @@ fn body(s: &[u8], at: usize, n: u32) -> Step
         QJpStatus::LARGEST,
         OUT_OF_RANGE,
     ) {
-        Next::Refused(r, place) => Step::Refused(r, place),
-        Next::Is(_, at2, n2) => match ranged(
+        SheetValue::Refused(r, place) => SheetStep::Refused(r, place),
+        SheetValue::Is(_, at2, n2) => match ranged(
             s,
             at2,
             n2,
@@ -112,14 +112,14 @@ fn body(s: &[u8], at: usize, n: u32) -> Step
             NIterSp::LARGEST,
             OUT_OF_RANGE,
         ) {
-            Next::Refused(r, place) => Step::Refused(r, place),
-            Next::Is(count, at3, n3) => segments(s, at3, n3, count),
+            SheetValue::Refused(r, place) => SheetStep::Refused(r, place),
+            SheetValue::Is(count, at3, n3) => segments(s, at3, n3, count),
         },
     }
 }
 
 // NID_ENGINE to N_PACKET_COUNTER.
-fn header_row(s: &[u8], at: usize, n: u32) -> Step
+fn header_row(s: &[u8], at: usize, n: u32) -> SheetStep
     requires { ⌜ Standing (now s) at ⌝ }
     ensures { λ r. ⌜ Over (rows.row parts.headerWidths parts.headerMost) (now (s .entry)) at n r ⌝ }
 {
@@ -129,15 +129,15 @@ fn header_row(s: &[u8], at: usize, n: u32) -> Step
 }
 
 // Every field after the packet number.
-pub fn fields(s: &[u8], at: usize, n: u32) -> Step
+pub fn fields(s: &[u8], at: usize, n: u32) -> SheetStep
     requires { ⌜ Standing (now s) at ⌝ }
     ensures { λ r. ⌜ Over parts.journeyPart (now (s .entry)) at n r ⌝ }
 {
     match operational(s, at, n) {
-        Step::Refused(r, place) => Step::Refused(r, place),
-        Step::On(at2, n2) => match header_row(s, at2, n2) {
-            Step::Refused(r, place) => Step::Refused(r, place),
-            Step::On(at3, n3) => body(s, at3, n3),
+        SheetStep::Refused(r, place) => SheetStep::Refused(r, place),
+        SheetStep::On(at2, n2) => match header_row(s, at2, n2) {
+            SheetStep::Refused(r, place) => SheetStep::Refused(r, place),
+            SheetStep::On(at3, n3) => body(s, at3, n3),
         },
     }
 }

@@ -6,26 +6,26 @@ ghost use Rattle.grammar.specs.journey.Parts as parts;
 ghost use Rattle.sheet_fields.specs.Judging.{Standing, Over};
 use kinds::OUT_OF_RANGE;
 use kinds::journey::QStopSkipPasses;
-use sheet_fields::Next;
-use sheet_fields::Step;
+use sheet_fields::SheetStep;
+use sheet_fields::SheetValue;
 use sheet_fields::ranged;
 use sheet_fields::row::row;
 
 // The fields of a timing point after the kind of its stop: two rows of five are unrolled, where one of ten would not be.
-fn stopping_row(s: &[u8], at: usize, n: u32, stop: u32) -> Step
+fn stopping_row(s: &[u8], at: usize, n: u32, stop: u32) -> SheetStep
     requires { ⌜ Standing (now s) at ⌝ }
     ensures { λ r. ⌜ Over (rows.row parts.stoppingWidths (parts.stoppingMost stop)) (now (s .entry)) at n r ⌝ }
 {
     let widths = grammar::journey::stopping_widths();
     let most = grammar::journey::stopping_most(stop);
     match row(s, at, n, &widths[0..5], &most[0..5]) {
-        Step::Refused(r, place) => Step::Refused(r, place),
-        Step::On(at2, n2) => row(s, at2, n2, &widths[5..10], &most[5..10]),
+        SheetStep::Refused(r, place) => SheetStep::Refused(r, place),
+        SheetStep::On(at2, n2) => row(s, at2, n2, &widths[5..10], &most[5..10]),
     }
 }
 
 // The fields before it.
-fn arrival_row(s: &[u8], at: usize, n: u32) -> Step
+fn arrival_row(s: &[u8], at: usize, n: u32) -> SheetStep
     requires { ⌜ Standing (now s) at ⌝ }
     ensures { λ r. ⌜ Over (rows.row parts.arrivalWidths parts.arrivalMost) (now (s .entry)) at n r ⌝ }
 {
@@ -35,13 +35,13 @@ fn arrival_row(s: &[u8], at: usize, n: u32) -> Step
 }
 
 // A timing point.
-fn point(s: &[u8], at: usize, n: u32) -> Step
+fn point(s: &[u8], at: usize, n: u32) -> SheetStep
     requires { ⌜ Standing (now s) at ⌝ }
     ensures { λ r. ⌜ Over journey.timingPoint (now (s .entry)) at n r ⌝ }
 {
     match arrival_row(s, at, n) {
-        Step::Refused(r, place) => Step::Refused(r, place),
-        Step::On(at2, n2) => match ranged(
+        SheetStep::Refused(r, place) => SheetStep::Refused(r, place),
+        SheetStep::On(at2, n2) => match ranged(
             s,
             at2,
             n2,
@@ -50,14 +50,14 @@ fn point(s: &[u8], at: usize, n: u32) -> Step
             QStopSkipPasses::LARGEST,
             OUT_OF_RANGE,
         ) {
-            Next::Refused(r, place) => Step::Refused(r, place),
-            Next::Is(stop, at3, n3) => stopping_row(s, at3, n3, stop),
+            SheetValue::Refused(r, place) => SheetStep::Refused(r, place),
+            SheetValue::Is(stop, at3, n3) => stopping_row(s, at3, n3, stop),
         },
     }
 }
 
 // The timing points of a segment.
-pub fn points(s: &[u8], at: usize, n: u32, count: u32) -> Step
+pub fn points(s: &[u8], at: usize, n: u32, count: u32) -> SheetStep
     requires { ⌜ Standing (now s) at ⌝ }
     ensures { λ r. ⌜ Over (times journey.timingPoint count) (now (s .entry)) at n r ⌝ }
 {
@@ -66,15 +66,15 @@ pub fn points(s: &[u8], at: usize, n: u32, count: u32) -> Step
     let mut left = count;
     while 0 < left {
         match point(s, to, m) {
-            Step::Refused(r, place) => {
-                return Step::Refused(r, place);
+            SheetStep::Refused(r, place) => {
+                return SheetStep::Refused(r, place);
             }
-            Step::On(a, b) => {
+            SheetStep::On(a, b) => {
                 to = a;
                 m = b;
                 left -= 1;
             }
         }
     }
-    Step::On(to, m)
+    SheetStep::On(to, m)
 }

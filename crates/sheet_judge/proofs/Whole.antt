@@ -32,7 +32,7 @@ use Rattle.verdict.specs.declared.SheetVerdict.the-variants as SheetVerdict
 use Rattle.verdict.specs.Verdict.{sizeFrom, sheetVerdict}
 use Rattle.verdict.proofs.Sizes.{sheet-sorts}
 use Rattle.verdict.proofs.Accepted.{verdict-refused}
-use Rattle.sheet_fields.specs.declared.Step.the-variants.{On, Refused}
+use Rattle.sheet_fields.specs.declared.SheetStep.the-variants.{On, Refused}
 use Rattle.sheet_fields.specs.Judging.{judging, Over}
 use Rattle.sheet_judge.specs.Whole.{numbersPart}
 

@@ -13,8 +13,8 @@ use kinds::OUT_OF_RANGE;
 use kinds::PACKET_NUMBER;
 use kinds::body;
 use kinds::header;
-use sheet_fields::Next;
-use sheet_fields::Step;
+use sheet_fields::SheetStep;
+use sheet_fields::SheetValue;
 use sheet_fields::operational;
 use sheet_fields::ranged;
 use verdict::SheetVerdict;
@@ -53,7 +53,7 @@ const LARGEST: [u32; 13] = [
 ];
 
 // A run of fields from the field first up to the field end.
-fn run(s: &[u8], at: usize, n: u32, first: u32, end: u32) -> Step
+fn run(s: &[u8], at: usize, n: u32, first: u32, end: u32) -> SheetStep
     requires { ⌜ Standing (now s) at × Run first end ⌝ }
     ensures { λ r. ⌜ Over (runs first (end - first)) (now (s .entry)) at n r ⌝ }
 {
@@ -66,29 +66,29 @@ fn run(s: &[u8], at: usize, n: u32, first: u32, end: u32) -> Step
         let width = widths[i as usize];
         let most = largest[i as usize];
         match ranged(s, to, m, width, 0, most, OUT_OF_RANGE) {
-            Next::Refused(r, place) => {
-                return Step::Refused(r, place);
+            SheetValue::Refused(r, place) => {
+                return SheetStep::Refused(r, place);
             }
-            Next::Is(_, a, b) => {
+            SheetValue::Is(_, a, b) => {
                 to = a;
                 m = b;
                 i += 1;
             }
         }
     }
-    Step::On(to, m)
+    SheetStep::On(to, m)
 }
 
 // Every field of a segment after the packet number.
-fn segment(s: &[u8], at: usize, n: u32) -> Step
+fn segment(s: &[u8], at: usize, n: u32) -> SheetStep
     requires { ⌜ Standing (now s) at ⌝ }
     ensures { λ r. ⌜ Over parts.segmentPart (now (s .entry)) at n r ⌝ }
 {
     match operational(s, at, n) {
-        Step::Refused(r, place) => Step::Refused(r, place),
-        Step::On(at2, n2) => match run(s, at2, n2, 1, 9) {
-            Step::Refused(r, place) => Step::Refused(r, place),
-            Step::On(at3, n3) => match ranged(
+        SheetStep::Refused(r, place) => SheetStep::Refused(r, place),
+        SheetStep::On(at2, n2) => match run(s, at2, n2, 1, 9) {
+            SheetStep::Refused(r, place) => SheetStep::Refused(r, place),
+            SheetStep::On(at3, n3) => match ranged(
                 s,
                 at3,
                 n3,
@@ -97,10 +97,10 @@ fn segment(s: &[u8], at: usize, n: u32) -> Step
                 body::LSp::LARGEST,
                 OUT_OF_RANGE,
             ) {
-                Next::Refused(r, place) => Step::Refused(r, place),
-                Next::Is(lsp, at4, n4) => match run(s, at4, n4, 10, 13) {
-                    Step::Refused(r, place) => Step::Refused(r, place),
-                    Step::On(at5, n5) => sheet_segment::lists(s, at5, n5, lsp),
+                SheetValue::Refused(r, place) => SheetStep::Refused(r, place),
+                SheetValue::Is(lsp, at4, n4) => match run(s, at4, n4, 10, 13) {
+                    SheetStep::Refused(r, place) => SheetStep::Refused(r, place),
+                    SheetStep::On(at5, n5) => sheet_segment::lists(s, at5, n5, lsp),
                 },
             },
         },
@@ -108,7 +108,7 @@ fn segment(s: &[u8], at: usize, n: u32) -> Step
 }
 
 // The same of either tree.
-fn fields(tree: Tree, s: &[u8], at: usize, n: u32) -> Step
+fn fields(tree: Tree, s: &[u8], at: usize, n: u32) -> SheetStep
     requires { ⌜ Standing (now s) at ⌝ }
     ensures { λ r. ⌜ Over (afterPart tree) (now (s .entry)) at n r ⌝ }
 {
@@ -119,7 +119,7 @@ fn fields(tree: Tree, s: &[u8], at: usize, n: u32) -> Step
 }
 
 // The packet number, which is to be this one, then every other field.
-fn numbers_of(tree: Tree, number: u32, s: &[u8]) -> Step
+fn numbers_of(tree: Tree, number: u32, s: &[u8]) -> SheetStep
     requires { ⌜ Standing (now s) 0 × (number ≡ treeNumber tree) ⌝ }
     ensures { λ r. ⌜ Over (numbersPart tree) (now (s .entry)) 0 0 r ⌝ }
 {
@@ -132,13 +132,13 @@ fn numbers_of(tree: Tree, number: u32, s: &[u8]) -> Step
         number,
         PACKET_NUMBER,
     ) {
-        Next::Refused(r, place) => Step::Refused(r, place),
-        Next::Is(_, at, n) => fields(tree, s, at, n),
+        SheetValue::Refused(r, place) => SheetStep::Refused(r, place),
+        SheetValue::Is(_, at, n) => fields(tree, s, at, n),
     }
 }
 
 // The same with the tree's own packet number.
-fn tree_numbers(tree: Tree, s: &[u8]) -> Step
+fn tree_numbers(tree: Tree, s: &[u8]) -> SheetStep
     requires { ⌜ Standing (now s) 0 ⌝ }
     ensures { λ r. ⌜ Over (numbersPart tree) (now (s .entry)) 0 0 r ⌝ }
 {
@@ -150,8 +150,8 @@ pub fn judge_sheet(tree: Tree, s: &[u8]) -> SheetVerdict
     ensures { λ r. ⌜ r ≡ sheetVerdict tree (now (s .entry)) ⌝ }
 {
     match tree_numbers(tree, s) {
-        Step::Refused(r, place) => SheetVerdict::Refused(r, place as u32),
-        Step::On(at, n) => {
+        SheetStep::Refused(r, place) => SheetVerdict::Refused(r, place as u32),
+        SheetStep::On(at, n) => {
             if at == s.len() {
                 return SheetVerdict::PacketBits(n as usize);
             }

@@ -13,8 +13,8 @@ use grammar::segment::Part;
 use grammar::segment::WIRE_CHANGES;
 use kinds::OUT_OF_RANGE;
 use kinds::body;
-use sheet_fields::Next;
-use sheet_fields::Step;
+use sheet_fields::SheetStep;
+use sheet_fields::SheetValue;
 use sheet_fields::class;
 use sheet_fields::current;
 use sheet_fields::location;
@@ -24,21 +24,21 @@ use sheet_fields::speed;
 use sheet_fields::voltage;
 
 // A specific entry: Q_DIFF, the class, V_DIFF.
-fn entry(s: &[u8], figures: &[u32; 11], at: usize, n: u32) -> Step
+fn entry(s: &[u8], figures: &[u32; 11], at: usize, n: u32) -> SheetStep
     requires { ⌜ Standing (now s) at × (now figures ≡ cantFigures) ⌝ }
     ensures { λ r. ⌜ Over parts.entry (now (s .entry)) at n r ⌝ }
 {
     match single(s, at, n, body::QDiff::WIDTH, body::QDiff::LARGEST) {
-        Next::Refused(r, place) => Step::Refused(r, place),
-        Next::Is(q, at2, n2) => match class(s, figures, at2, n2, q) {
-            Step::Refused(r, place) => Step::Refused(r, place),
-            Step::On(at3, n3) => speed(s, at3, n3),
+        SheetValue::Refused(r, place) => SheetStep::Refused(r, place),
+        SheetValue::Is(q, at2, n2) => match class(s, figures, at2, n2, q) {
+            SheetStep::Refused(r, place) => SheetStep::Refused(r, place),
+            SheetStep::On(at3, n3) => speed(s, at3, n3),
         },
     }
 }
 
 // The specific entries of an element.
-fn entries(s: &[u8], at: usize, n: u32, count: u32) -> Step
+fn entries(s: &[u8], at: usize, n: u32, count: u32) -> SheetStep
     requires { ⌜ Standing (now s) at ⌝ }
     ensures { λ r. ⌜ Over (segment.entries count) (now (s .entry)) at n r ⌝ }
 {
@@ -48,50 +48,56 @@ fn entries(s: &[u8], at: usize, n: u32, count: u32) -> Step
     let mut left = count;
     while 0 < left {
         match entry(s, &figures, to, m) {
-            Step::Refused(r, place) => {
-                return Step::Refused(r, place);
+            SheetStep::Refused(r, place) => {
+                return SheetStep::Refused(r, place);
             }
-            Step::On(a, b) => {
+            SheetStep::On(a, b) => {
                 to = a;
                 m = b;
                 left -= 1;
             }
         }
     }
-    Step::On(to, m)
+    SheetStep::On(to, m)
 }
 
 // V_STATIC, Q_FRONT, and the count of the entries with the entries.
-fn profile(s: &[u8], at: usize, n: u32) -> Step
+fn profile(s: &[u8], at: usize, n: u32) -> SheetStep
     requires { ⌜ Standing (now s) at ⌝ }
     ensures { λ r. ⌜ Over segment.profile (now (s .entry)) at n r ⌝ }
 {
     match speed(s, at, n) {
-        Step::Refused(r, place) => Step::Refused(r, place),
-        Step::On(at2, n2) => match single(s, at2, n2, body::QFront::WIDTH, body::QFront::LARGEST) {
-            Next::Refused(r, place) => Step::Refused(r, place),
-            Next::Is(_, at3, n3) => match single(
+        SheetStep::Refused(r, place) => SheetStep::Refused(r, place),
+        SheetStep::On(at2, n2) => match single(
+            s,
+            at2,
+            n2,
+            body::QFront::WIDTH,
+            body::QFront::LARGEST,
+        ) {
+            SheetValue::Refused(r, place) => SheetStep::Refused(r, place),
+            SheetValue::Is(_, at3, n3) => match single(
                 s,
                 at3,
                 n3,
                 body::NIter::WIDTH,
                 body::NIter::LARGEST,
             ) {
-                Next::Refused(r, place) => Step::Refused(r, place),
-                Next::Is(count, at4, n4) => entries(s, at4, n4, count),
+                SheetValue::Refused(r, place) => SheetStep::Refused(r, place),
+                SheetValue::Is(count, at4, n4) => entries(s, at4, n4, count),
             },
         },
     }
 }
 
 // M_VOLTAGE and NID_CTRACTION, which is 0 where the voltage is 0.
-fn wire(s: &[u8], at: usize, n: u32) -> Step
+fn wire(s: &[u8], at: usize, n: u32) -> SheetStep
     requires { ⌜ Standing (now s) at ⌝ }
     ensures { λ r. ⌜ Over segment.voltage (now (s .entry)) at n r ⌝ }
 {
     match voltage(s, at, n) {
-        Next::Refused(r, place) => Step::Refused(r, place),
-        Next::Is(u, at2, n2) => match ranged(
+        SheetValue::Refused(r, place) => SheetStep::Refused(r, place),
+        SheetValue::Is(u, at2, n2) => match ranged(
             s,
             at2,
             n2,
@@ -100,8 +106,8 @@ fn wire(s: &[u8], at: usize, n: u32) -> Step
             most_traction(u),
             OUT_OF_RANGE,
         ) {
-            Next::Refused(r, place) => Step::Refused(r, place),
-            Next::Is(_, at3, n3) => Step::On(at3, n3),
+            SheetValue::Refused(r, place) => SheetStep::Refused(r, place),
+            SheetValue::Is(_, at3, n3) => SheetStep::On(at3, n3),
         },
     }
 }
@@ -117,7 +123,7 @@ fn most_traction(u: u32) -> u32
 }
 
 // What an element of a part begins with.
-fn element(part: Part, s: &[u8], at: usize, n: u32) -> Step
+fn element(part: Part, s: &[u8], at: usize, n: u32) -> SheetStep
     requires { ⌜ Standing (now s) at ⌝ }
     ensures { λ r. ⌜ Over (startOf part) (now (s .entry)) at n r ⌝ }
 {
@@ -129,7 +135,7 @@ fn element(part: Part, s: &[u8], at: usize, n: u32) -> Step
 }
 
 // The changes of a part: each a location that rises, and an element.
-fn changes(part: Part, s: &[u8], at: usize, n: u32, lsp: u32, count: u32) -> Step
+fn changes(part: Part, s: &[u8], at: usize, n: u32, lsp: u32, count: u32) -> SheetStep
     requires { ⌜ Standing (now s) at ⌝ }
     ensures { λ r. ⌜ Over (segment.changes (startOf part) lsp 0 count) (now (s .entry)) at n r ⌝ }
 {
@@ -139,14 +145,14 @@ fn changes(part: Part, s: &[u8], at: usize, n: u32, lsp: u32, count: u32) -> Ste
     let mut left = count;
     while 0 < left {
         match location(s, to, m, last, lsp) {
-            Next::Refused(r, place) => {
-                return Step::Refused(r, place);
+            SheetValue::Refused(r, place) => {
+                return SheetStep::Refused(r, place);
             }
-            Next::Is(x, at2, n2) => match element(part, s, at2, n2) {
-                Step::Refused(r, place) => {
-                    return Step::Refused(r, place);
+            SheetValue::Is(x, at2, n2) => match element(part, s, at2, n2) {
+                SheetStep::Refused(r, place) => {
+                    return SheetStep::Refused(r, place);
                 }
-                Step::On(at3, n3) => {
+                SheetStep::On(at3, n3) => {
                     to = at3;
                     m = n3;
                     last = x;
@@ -155,33 +161,33 @@ fn changes(part: Part, s: &[u8], at: usize, n: u32, lsp: u32, count: u32) -> Ste
             },
         }
     }
-    Step::On(to, m)
+    SheetStep::On(to, m)
 }
 
 // A part: its first element, the count of its changes, and the changes.
-fn list(part: Part, s: &[u8], at: usize, n: u32, lsp: u32, limit: u32) -> Step
+fn list(part: Part, s: &[u8], at: usize, n: u32, lsp: u32, limit: u32) -> SheetStep
     requires { ⌜ Standing (now s) at × (limit < 128) ⌝ }
     ensures { λ r. ⌜ Over (segment.part (startOf part) limit lsp) (now (s .entry)) at n r ⌝ }
 {
     match element(part, s, at, n) {
-        Step::Refused(r, place) => Step::Refused(r, place),
-        Step::On(at2, n2) => match single(s, at2, n2, body::NIter::WIDTH, limit) {
-            Next::Refused(r, place) => Step::Refused(r, place),
-            Next::Is(count, at3, n3) => changes(part, s, at3, n3, lsp, count),
+        SheetStep::Refused(r, place) => SheetStep::Refused(r, place),
+        SheetStep::On(at2, n2) => match single(s, at2, n2, body::NIter::WIDTH, limit) {
+            SheetValue::Refused(r, place) => SheetStep::Refused(r, place),
+            SheetValue::Is(count, at3, n3) => changes(part, s, at3, n3, lsp, count),
         },
     }
 }
 
 // The three parts that have changes.
-pub fn lists(s: &[u8], at: usize, n: u32, lsp: u32) -> Step
+pub fn lists(s: &[u8], at: usize, n: u32, lsp: u32) -> SheetStep
     requires { ⌜ Standing (now s) at ⌝ }
     ensures { λ r. ⌜ Over (threeLists lsp) (now (s .entry)) at n r ⌝ }
 {
     match list(Part::Speeds, s, at, n, lsp, body::NIter::LARGEST) {
-        Step::Refused(r, place) => Step::Refused(r, place),
-        Step::On(at2, n2) => match list(Part::Volts, s, at2, n2, lsp, WIRE_CHANGES) {
-            Step::Refused(r, place) => Step::Refused(r, place),
-            Step::On(at3, n3) => list(Part::Amperes, s, at3, n3, lsp, WIRE_CHANGES),
+        SheetStep::Refused(r, place) => SheetStep::Refused(r, place),
+        SheetStep::On(at2, n2) => match list(Part::Volts, s, at2, n2, lsp, WIRE_CHANGES) {
+            SheetStep::Refused(r, place) => SheetStep::Refused(r, place),
+            SheetStep::On(at3, n3) => list(Part::Amperes, s, at3, n3, lsp, WIRE_CHANGES),
         },
     }
 }

@@ -17,7 +17,7 @@ use crate::rows::head;
 use crate::rows::point;
 use crate::rows::start;
 use kinds::body::NIter;
-use sheet_write_segment::elements::Spot;
+use sheet_write_segment::elements::SheetSpot;
 
 // "A timing point has 129 bits".
 const POINT: usize = 129;
@@ -68,7 +68,7 @@ fn constraints(
 }
 
 // A segment: its identity and direction, its timing points, and its temporary constraints.
-fn segment(packet: &[u8], stop: usize, at: usize, room: &mut [u8], n: usize) -> Spot
+fn segment(packet: &[u8], stop: usize, at: usize, room: &mut [u8], n: usize) -> SheetSpot
     requires { ⌜ PartWritable (journeySegment constraints) (now packet) stop at (filled (now room) n) ⌝ }
     ensures { λ r. ⌜ Wrote (journeySegment constraints) (now (packet .entry)) stop at (filled (now (room .entry)) n) (r .at) (filled (now (room .exit)) (r .n)) ⌝ }
 {
@@ -79,14 +79,21 @@ fn segment(packet: &[u8], stop: usize, at: usize, room: &mut [u8], n: usize) -> 
     let v = bits::read_window(packet, to, NIter::WIDTH);
     let next = one(room, m, v);
     let last = constraints(packet, stop, to + 5, v, room, next);
-    Spot {
+    SheetSpot {
         at: to + 5 + CONSTRAINT * v as usize,
         n: last,
     }
 }
 
 // The segments of a journey.
-fn segments(packet: &[u8], stop: usize, at: usize, count: u32, room: &mut [u8], n: usize) -> Spot
+fn segments(
+    packet: &[u8],
+    stop: usize,
+    at: usize,
+    count: u32,
+    room: &mut [u8],
+    n: usize,
+) -> SheetSpot
     requires { ⌜ PartWritable (times (journeySegment constraints) count) (now packet) stop at (filled (now room) n) ⌝ }
     ensures { λ r. ⌜ Wrote (times (journeySegment constraints) count) (now (packet .entry)) stop at (filled (now (room .entry)) n) (r .at) (filled (now (room .exit)) (r .n)) ⌝ }
 {
@@ -99,7 +106,7 @@ fn segments(packet: &[u8], stop: usize, at: usize, count: u32, room: &mut [u8], 
         m = spot.n;
         left -= 1;
     }
-    Spot { at: to, n: m }
+    SheetSpot { at: to, n: m }
 }
 
 // Writes the numbers of a journey's fields, which end at the bit stop, from the byte start of the room on.

@@ -13,7 +13,7 @@ use grammar::segment::Part;
 use kinds::body;
 
 // A place in the packet, and the byte of the room up to which it is written there.
-pub struct Spot {
+pub struct SheetSpot {
     pub at: usize,
     pub n: usize,
 }
@@ -60,7 +60,7 @@ fn specific(packet: &[u8], stop: usize, at: usize, count: u32, room: &mut [u8], 
 }
 
 // V_STATIC, Q_FRONT, and the count of the entries with the entries.
-fn speeds(packet: &[u8], stop: usize, at: usize, room: &mut [u8], n: usize) -> Spot
+fn speeds(packet: &[u8], stop: usize, at: usize, room: &mut [u8], n: usize) -> SheetSpot
     requires { ⌜ PartWritable profile (now packet) stop at (filled (now room) n) ⌝ }
     ensures { λ r. ⌜ Wrote profile (now (packet .entry)) stop at (filled (now (room .entry)) n) (r .at) (filled (now (room .exit)) (r .n)) ⌝ }
 {
@@ -70,7 +70,7 @@ fn speeds(packet: &[u8], stop: usize, at: usize, room: &mut [u8], n: usize) -> S
     let third = numbers::write::put_short(room, second, t / 32 % 2);
     let first = numbers::write::put_short(room, third, count);
     let m = specific(packet, stop, at + ENTRY, count, room, first);
-    Spot {
+    SheetSpot {
         at: at + ENTRY + ENTRY * count as usize,
         n: m,
     }
@@ -85,7 +85,7 @@ fn volts_figure(v: u32) -> u32
 }
 
 // M_VOLTAGE and NID_CTRACTION.
-fn wire(packet: &[u8], stop: usize, at: usize, room: &mut [u8], n: usize) -> Spot
+fn wire(packet: &[u8], stop: usize, at: usize, room: &mut [u8], n: usize) -> SheetSpot
     requires { ⌜ PartWritable voltage (now packet) stop at (filled (now room) n) ⌝ }
     ensures { λ r. ⌜ Wrote voltage (now (packet .entry)) stop at (filled (now (room .entry)) n) (r .at) (filled (now (room .exit)) (r .n)) ⌝ }
 {
@@ -93,7 +93,7 @@ fn wire(packet: &[u8], stop: usize, at: usize, room: &mut [u8], n: usize) -> Spo
     let second = numbers::write::put_number(room, n, volts_figure(u));
     let v = bits::read_window(packet, at + 4, body::NidCTraction::WIDTH);
     let m = numbers::write::put_short(room, second, v);
-    Spot { at: at + 14, n: m }
+    SheetSpot { at: at + 14, n: m }
 }
 
 fn current_figure(v: u32) -> u32
@@ -107,16 +107,23 @@ fn current_figure(v: u32) -> u32
 }
 
 // M_CURRENT.
-fn amperes(packet: &[u8], stop: usize, at: usize, room: &mut [u8], n: usize) -> Spot
+fn amperes(packet: &[u8], stop: usize, at: usize, room: &mut [u8], n: usize) -> SheetSpot
     requires { ⌜ PartWritable current (now packet) stop at (filled (now room) n) ⌝ }
     ensures { λ r. ⌜ Wrote current (now (packet .entry)) stop at (filled (now (room .entry)) n) (r .at) (filled (now (room .exit)) (r .n)) ⌝ }
 {
     let v = bits::read_window(packet, at, body::MCurrent::WIDTH);
     let m = numbers::write::put_short(room, n, current_figure(v));
-    Spot { at: at + 10, n: m }
+    SheetSpot { at: at + 10, n: m }
 }
 
-pub fn element(part: Part, packet: &[u8], stop: usize, at: usize, room: &mut [u8], n: usize) -> Spot
+pub fn element(
+    part: Part,
+    packet: &[u8],
+    stop: usize,
+    at: usize,
+    room: &mut [u8],
+    n: usize,
+) -> SheetSpot
     requires { ⌜ PartWritable (startOf part) (now packet) stop at (filled (now room) n) ⌝ }
     ensures { λ r. ⌜ Wrote (startOf part) (now (packet .entry)) stop at (filled (now (room .entry)) n) (r .at) (filled (now (room .exit)) (r .n)) ⌝ }
 {

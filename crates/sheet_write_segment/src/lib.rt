@@ -13,7 +13,7 @@ ghost use Rattle.sheet_write_segment.specs.elements.Writing.{filled, Par
 
 mod head;
 
-use crate::elements::Spot;
+use crate::elements::SheetSpot;
 use crate::elements::element;
 use grammar::segment::Part;
 use grammar::segment::WIRE_CHANGES;
@@ -29,7 +29,7 @@ fn changes(
     count: u32,
     room: &mut [u8],
     n: usize,
-) -> Spot
+) -> SheetSpot
     requires { ⌜ PartWritable (segment.changes (startOf part) lsp 0 count) (now packet) stop at (filled (now room) n) ⌝ }
     ensures { λ r. ⌜ Wrote (segment.changes (startOf part) lsp 0 count) (now (packet .entry)) stop at (filled (now (room .entry)) n) (r .at) (filled (now (room .exit)) (r .n)) ⌝ }
 {
@@ -46,7 +46,7 @@ fn changes(
         last = x;
         left -= 1;
     }
-    Spot { at: to, n: m }
+    SheetSpot { at: to, n: m }
 }
 
 // A part: its first element, the count of its changes, and the changes.
@@ -59,7 +59,7 @@ fn list(
     limit: u32,
     room: &mut [u8],
     n: usize,
-) -> Spot
+) -> SheetSpot
     requires { ⌜ PartWritable (segment.part (startOf part) limit lsp) (now packet) stop at (filled (now room) n) ⌝ }
     ensures { λ r. ⌜ Wrote (segment.part (startOf part) limit lsp) (now (packet .entry)) stop at (filled (now (room .entry)) n) (r .at) (filled (now (room .exit)) (r .n)) ⌝ }
 {
@@ -71,7 +71,7 @@ fn list(
 }
 
 // The three parts that have changes.
-fn lists(packet: &[u8], stop: usize, at: usize, lsp: u32, room: &mut [u8], n: usize) -> Spot
+fn lists(packet: &[u8], stop: usize, at: usize, lsp: u32, room: &mut [u8], n: usize) -> SheetSpot
     requires { ⌜ PartWritable (threeLists lsp) (now packet) stop at (filled (now room) n) ⌝ }
     ensures { λ r. ⌜ Wrote (threeLists lsp) (now (packet .entry)) stop at (filled (now (room .entry)) n) (r .at) (filled (now (room .exit)) (r .n)) ⌝ }
 {

@@ -17,7 +17,7 @@ use Rattle.grammar.proofs.segment.Parts.{entries-more, changes-more}
 use Rattle.speed.specs.declared.Train.{Train}
 use Rattle.speed.specs.Speed.{Element, elementSpeed, endBefore, holds, heldSpeeds, permitted, entriesOf, afterEntries, elementOf, afterElement, changesFrom, elementsFrom}
 use Rattle.speed_element.specs.declared.Lows.{Lows}
-use Rattle.speed_element.specs.declared.Next.{Next}
+use Rattle.speed_element.specs.declared.Following.{Following}
 use Rattle.speed_element.specs.declared.Open.{Open}
 use Rattle.speed_element.specs.Elements.{none, noLows, insteadFrom, speedFrom, Worked, OneMore, elementWith, elementAs}
 use Rattle.speed_element.specs.Reading.{Readable, Past, Passes, FieldRead, EntryRead, Opened, Opens, ElementRead, Ended, ChangeRead, NextRead, ChangesRead, ProfileRead}
@@ -231,10 +231,10 @@ module _ (Reads : Format → ℕ → List Item → Type 0) where
     next-element {y = y} d = readable-first (changes profile lsp y (n - 1)) (next-profile d)
 
   module _ {lsp : ℕ} {o : Open} {n at : ℕ} where
-    pub next-last : {r : Next} → n ≡ 0 → r .end ≡ lsp → NextRead Reads lsp o n at r
+    pub next-last : {r : Following} → n ≡ 0 → r .end ≡ lsp → NextRead Reads lsp o n at r
     next-last z e = record { change = λ h. absurd (omega arith); last = λ _. e }
 
-    pub next-change : {b : ℕ} {r : Next} → 0 < n → FieldRead Reads (dLocation (o .start) lsp) at b (r .end) (r .end) → ElementRead Reads b (r .next) (r .«open») × (r .«open» .start ≡ r .end)
+    pub next-change : {b : ℕ} {r : Following} → 0 < n → FieldRead Reads (dLocation (o .start) lsp) at b (r .end) (r .end) → ElementRead Reads b (r .next) (r .«open») × (r .«open» .start ≡ r .end)
         → NextRead Reads lsp o n at r
     next-change h d e = record { change = λ _. record { between = _; location = d; element = e .0; starts = e .1 }; last = λ z. absurd (omega arith) }
 
@@ -255,7 +255,7 @@ module _ (Reads : Format → ℕ → List Item → Type 0) where
       change-reads = rw (changes-more profile lsp (o .start) n h f) at (g .reads)
 
       -- one change more
-      pub changing-next : {held′ : ℕ} {m : Next} → ChangeRead Reads lsp (o .start) to m → Ended Reads t held (m .end) x o held′ → Changing (n - 1) (m .next) held′ (m .«open») f
+      pub changing-next : {held′ : ℕ} {m : Following} → ChangeRead Reads lsp (o .start) to m → Ended Reads t held (m .end) x o held′ → Changing (n - 1) (m .next) held′ (m .«open») f
       changing-next {held′} {m} c d =
           let s = sheetNumbers (g .values) in
           let start = m .end in
@@ -290,7 +290,7 @@ module _ (Reads : Format → ℕ → List Item → Type 0) where
       → Changed t lsp x first whole at whole at none first
   changed-all h r = record { going = λ e i f l j. record { element = e; opened = i; values = l; reads = j; same = refl }; opens = h; readable = r }
 
-  module _ {t : Train} {lsp x whole at n to held : ℕ} {first o : Open} (g : Changed t lsp x first whole at n to held o) {m : Next} (r : NextRead Reads lsp o n to m) {held′ : ℕ}
+  module _ {t : Train} {lsp x whole at n to held : ℕ} {first o : Open} (g : Changed t lsp x first whole at n to held o) {m : Following} (r : NextRead Reads lsp o n to m) {held′ : ℕ}
       (d : Ended Reads t held (m .end) x o held′) where
     changed-next : 0 < n → Changed t lsp x first whole at (n - 1) (m .next) held′ (m .«open»)
     changed-next h =
@@ -316,7 +316,7 @@ module _ (Reads : Format → ℕ → List Item → Type 0) where
       → Ending t lsp x first whole at (whole + 1) at none first
   ending-all {whole = whole} h r = let e : whole + 1 - 1 ≡ whole = omega arith in record { more = λ _. rw e (changed-all h r); done = λ z. absurd (omega arith) }
 
-  pub ending-next : {t : Train} {lsp x whole at n to held held′ : ℕ} {first o : Open} {m : Next} → Changed t lsp x first whole at n to held o → NextRead Reads lsp o n to m
+  pub ending-next : {t : Train} {lsp x whole at n to held held′ : ℕ} {first o : Open} {m : Following} → Changed t lsp x first whole at n to held o → NextRead Reads lsp o n to m
       → Ended Reads t held (m .end) x o held′ → Ending t lsp x first whole at n (m .next) held′ (m .«open»)
   ending-next g r d = record { more = changed-next g r d; done = changes-read g r d }
 

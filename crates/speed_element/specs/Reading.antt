@@ -14,7 +14,7 @@ use Rattle.grammar.specs.segment.Parts.{entry}
 use Rattle.speed.specs.declared.Train.{Train}
 use Rattle.speed.specs.Speed.{Element, elementSpeed, holds, permitted, elementOf, afterElement, changesFrom, elementsFrom}
 use Rattle.speed_element.specs.declared.Lows.{Lows}
-use Rattle.speed_element.specs.declared.Next.{Next}
+use Rattle.speed_element.specs.declared.Following.{Following}
 use Rattle.speed_element.specs.declared.Open.{Open}
 use Rattle.speed_element.specs.Elements.{none, insteadFrom, OneMore, elementAs}
 
@@ -68,14 +68,14 @@ module _ (Reads : Format → ℕ → List Item → Type 0) where
     pub said : (e : Element) → Opened o e → (l : List ℕ) → insteadFrom r 0 l ≡ insteadFrom held 0 (cond (holds t e stop x) (elementSpeed t e ∷ l) l)
 
   -- a change after an element that starts at last: its location, and its element
-  pub record ChangeRead (lsp last at : ℕ) (r : Next) : Type 0 where
+  pub record ChangeRead (lsp last at : ℕ) (r : Following) : Type 0 where
     pub between : ℕ
     pub location : FieldRead (dLocation last lsp) at between (r .end) (r .end)
     pub element : ElementRead between (r .next) (r .«open»)
     pub starts : r .«open» .start ≡ r .end
 
   -- an open element ends at the next of n changes, or with the segment
-  pub record NextRead (lsp : ℕ) (o : Open) (n at : ℕ) (r : Next) : Type 0 where
+  pub record NextRead (lsp : ℕ) (o : Open) (n at : ℕ) (r : Following) : Type 0 where
     pub change : 0 < n → ChangeRead lsp (o .start) at r
     pub last : n ≡ 0 → r .end ≡ lsp
 

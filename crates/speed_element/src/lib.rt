@@ -43,13 +43,13 @@ pub struct Open {
 }
 
 // An element, and the place after it.
-pub struct Found {
+pub struct ElementAt {
     pub open: Open,
     pub next: usize,
 }
 
 // Where an element ends, the element that follows, and the place after that.
-pub struct Next {
+pub struct Following {
     pub end: u32,
     pub open: Open,
     pub next: usize,

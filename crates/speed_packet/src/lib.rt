@@ -13,9 +13,9 @@ ghost use Rattle.speed_packet.specs.Asking.{AcceptedPacket, numbersOfPac
 use fields::tables;
 use kinds::body;
 use speed::Train;
-use speed_element::Found;
+use speed_element::ElementAt;
+use speed_element::Following;
 use speed_element::Lows;
-use speed_element::Next;
 use speed_element::Open;
 
 // Where L_SP stands, and where the speed profile starts.
@@ -59,14 +59,14 @@ fn entry(s: &[u8], at: usize, figures: &[u32], train: Train, lows: Lows) -> Lows
 }
 
 // The element at the bit at, which starts at the location start. Its entries are passed over.
-fn element(s: &[u8], at: usize, start: u32) -> Found
+fn element(s: &[u8], at: usize, start: u32) -> ElementAt
     requires { ⌜ Readable (Reads (now s)) (segment.profile) at ⌝ }
     ensures { λ r. ⌜ ElementRead (Reads (now (s .entry))) at (r .next) (r .open) × (r .open .start ≡ start) ⌝ }
 {
     let t = bits::read_window(s, at, ELEMENT as u32);
     let count = t % 32;
     let entries = at + ELEMENT;
-    Found {
+    ElementAt {
         open: Open {
             start,
             v_static: t / 64 * body::VStatic::STEP,
@@ -99,12 +99,12 @@ fn ended(s: &[u8], open: Open, train: Train, held: u32, end: u32, x: u32) -> u32
 }
 
 // The next change, of so many that are left at the bit at: the open element ends at its location. After the last it ends at lsp, and nothing follows.
-fn next(s: &[u8], open: Open, at: usize, left: u64, lsp: u32) -> Next
+fn next(s: &[u8], open: Open, at: usize, left: u64, lsp: u32) -> Following
     requires { ⌜ Readable (Reads (now s)) (segment.changes segment.profile lsp («open» .start) left) at ⌝ }
     ensures { λ r. ⌜ NextRead (Reads (now (s .entry))) lsp «open» left at r ⌝ }
 {
     if left == 0 {
-        return Next {
+        return Following {
             end: lsp,
             open,
             next: at,
@@ -113,7 +113,7 @@ fn next(s: &[u8], open: Open, at: usize, left: u64, lsp: u32) -> Next
     let start = bits::read_window(s, at, body::DLocation::WIDTH);
     let e = element(s, at + 24, start);
     let open = e.open;
-    Next {
+    Following {
         end: start,
         open,
         next: e.next,

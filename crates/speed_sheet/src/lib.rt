@@ -9,10 +9,11 @@ ghost use Rattle.grammar.specs.segment.Parts.{runs};
 ghost use Rattle.speed.specs.Speed.{afterEntries, speedIn};
 ghost use Rattle.speed_element.specs.Reading.{Readable, Passes, EntryRead, Opens, ElementRead, Ended, NextRead, ChangesRead, ProfileRead};
 ghost use Rattle.speed_sheet.specs.Asking.{AcceptedSheet, numbersOfSheet, NumberAt, shortEnd, Reads, HeadRead};
+use numbers::accepted::ReadNumber;
 use speed::Train;
-use speed_element::Found;
+use speed_element::ElementAt;
+use speed_element::Following;
 use speed_element::Lows;
-use speed_element::Next;
 use speed_element::Open;
 
 // The byte after the packet number, the field L_SP, and the field after the last before the speed profile.
@@ -21,12 +22,6 @@ const FIRST: usize = 1;
 const LENGTH: u32 = 9;
 
 const PROFILE: u32 = 13;
-
-// A number, and the byte after it.
-pub struct Taken {
-    pub value: u32,
-    pub next: usize,
-}
 
 // The lowest speeds with an entry, and the byte after it.
 pub struct Entered {
@@ -41,11 +36,11 @@ pub struct Start {
 }
 
 // The number at the byte at.
-fn number(s: &[u8], at: usize) -> Taken
+fn number(s: &[u8], at: usize) -> ReadNumber
     ensures { λ r. ⌜ NumberAt (now (s .entry)) at (r .next) (r .value) ⌝ }
 {
     let found = numbers::found_at(s, at);
-    Taken {
+    ReadNumber {
         value: found.value,
         next: at + found.count as usize,
     }
@@ -92,7 +87,7 @@ fn entries_end(s: &[u8], at: usize, count: u32) -> usize
 }
 
 // The element at the byte at, which starts at the location start: Q_FRONT and N_ITER have one group. Its entries are passed over.
-fn element(s: &[u8], at: usize, start: u32) -> Found
+fn element(s: &[u8], at: usize, start: u32) -> ElementAt
     requires { ⌜ Readable (Reads (now s)) (segment.profile) at ⌝ }
     ensures { λ r. ⌜ ElementRead (Reads (now (s .entry))) at (r .next) (r .open) × (r .open .start ≡ start) ⌝ }
 {
@@ -102,7 +97,7 @@ fn element(s: &[u8], at: usize, start: u32) -> Found
     let count = wide(s[second + 1]);
     let entries = second + 2;
     let next = entries_end(s, entries, count);
-    Found {
+    ElementAt {
         open: Open {
             start,
             v_static: v_static.value,
@@ -135,12 +130,12 @@ fn ended(s: &[u8], open: Open, train: Train, held: u32, end: u32, x: u32) -> u32
 }
 
 // The next change, of so many that are left at the byte at: the open element ends at its location. After the last it ends at lsp, and nothing follows.
-fn next(s: &[u8], open: Open, at: usize, left: u64, lsp: u32) -> Next
+fn next(s: &[u8], open: Open, at: usize, left: u64, lsp: u32) -> Following
     requires { ⌜ Readable (Reads (now s)) (segment.changes segment.profile lsp («open» .start) left) at ⌝ }
     ensures { λ r. ⌜ NextRead (Reads (now (s .entry))) lsp «open» left at r ⌝ }
 {
     if left == 0 {
-        return Next {
+        return Following {
             end: lsp,
             open,
             next: at,
@@ -149,7 +144,7 @@ fn next(s: &[u8], open: Open, at: usize, left: u64, lsp: u32) -> Next
     let location = number(s, at);
     let e = element(s, location.next, location.value);
     let open = e.open;
-    Next {
+    Following {
         end: location.value,
         open,
         next: e.next,

@@ -6,7 +6,7 @@ use Prim.Native.Nat.{ℕ, _+_, _<_}
 use lib.ListN.{length, drop}
 use Rattle.numbers.specs.declared.Number.the-variants.{Value}
 use Rattle.numbers.specs.Numbers.{numberIn, groupsIn}
-use Rattle.numbers.specs.declared.accepted.Taken.{Taken}
+use Rattle.numbers.specs.declared.accepted.ReadNumber.{ReadNumber}
 
 -- some number is there
 pub record There (s : List ℕ) (at : ℕ) : Type 0 where
@@ -19,6 +19,6 @@ pub record Single (s : List ℕ) (at : ℕ) : Type 0 where
   pub small : there .value < 128
 
 -- it is this one, with the place after it
-pub record Reads (s : List ℕ) (at : ℕ) (r : Taken) : Type 0 where
+pub record Reads (s : List ℕ) (at : ℕ) (r : ReadNumber) : Type 0 where
   pub is : numberIn (drop at s) ≡ Value (r .value)
   pub next : r .next ≡ at + length (groupsIn (r .value))

@@ -18,8 +18,8 @@ use Rattle.fields.proofs.size.Bytes as counts
 use Rattle.format.specs.Format.{Format, field, then}
 use Rattle.format.proofs.Ways.{over-on, over-off}
 use Rattle.grammar.specs.rows.Rows.{row, fits}
-use Rattle.packet_fields.specs.declared.Step.the-variants.{On, Refused}
-use Rattle.packet_fields.specs.declared.Next.the-variants as Next
+use Rattle.packet_fields.specs.declared.PacketStep.the-variants.{On, Refused}
+use Rattle.packet_fields.specs.declared.PacketValue.the-variants as PacketValue
 use Rattle.packet_fields.specs.Judging.{verdictAt, Standing, Over, Took}
 use Rattle.packet_fields.proofs.Steps.{took-none, took-some, past, past-off}
 use Rattle.packet_fields.specs.row.Values.{total, parts, fieldsAt, within, groupsAll, rowBytes}
@@ -34,10 +34,10 @@ module _ (s : List ℕ) (stop : ℕ) where
   -- ---- one field
 
   module _ (w m : ℕ) {at n : ℕ} (some : 1 ≤ w) (h : Standing s stop at n) (room : w ≤ stop - at) where
-    field-in : leb (fieldAt s at w) m ≡ true → Took (upTo w m) s stop at n (Next.Is (fieldAt s at w) (at + w) (n + length (groupsIn (fieldAt s at w))))
+    field-in : leb (fieldAt s at w) m ≡ true → Took (upTo w m) s stop at n (PacketValue.Is (fieldAt s at w) (at + w) (n + length (groupsIn (fieldAt s at w))))
     field-in e = took-some s stop (upTo w m) w refl h some room refl (counts.bytes-some (upTo w m) (fieldAt s at w) (counts.both-in 0 m (fieldAt s at w) (omega arith) (leb-true (fieldAt s at w) m e)) refl) (λ z. omega (arith, z, count-some (fieldAt s at w)))
 
-    field-out : leb (fieldAt s at w) m ≡ false → Took (upTo w m) s stop at n (Next.Refused 4 at)
+    field-out : leb (fieldAt s at w) m ≡ false → Took (upTo w m) s stop at n (PacketValue.Refused 4 at)
     field-out e = took-none s stop (upTo w m) w refl h some room refl (counts.bytes-none (upTo w m) (fieldAt s at w) (counts.high-out 0 m (fieldAt s at w) (leb-false (fieldAt s at w) m e))) refl
 
     -- what follows may as well be what follows its value
@@ -51,7 +51,7 @@ module _ (s : List ℕ) (stop : ℕ) where
 
   -- the first field of a row, and the others
   module _ (w m : ℕ) (ws ms : List ℕ) (e : fits (w ∷ ws) (m ∷ ms) ≡ true) {at n : ℕ} (h : Standing s stop at n) (room : w + total ws ≤ stop - at) where
-    first-in : leb (fieldAt s at w) m ≡ true → Took (upTo w m) s stop at n (Next.Is (fieldAt s at w) (at + w) (n + length (groupsIn (fieldAt s at w))))
+    first-in : leb (fieldAt s at w) m ≡ true → Took (upTo w m) s stop at n (PacketValue.Is (fieldAt s at w) (at + w) (n + length (groupsIn (fieldAt s at w))))
     first-in i = field-in w m (fits-first w m ws ms e .some) h (omega arith) i
 
     on : leb (fieldAt s at w) m ≡ true → Over (row ws ms) s stop (at + w) (n + length (groupsIn (fieldAt s at w))) (On (at + w + total ws) (n + length (groupsIn (fieldAt s at w)) + groupsAll (fieldsAt s (at + w) ws)))

@@ -16,8 +16,8 @@ use Rattle.grammar.specs.journey.Journey as journey
 use Rattle.grammar.specs.journey.Journey.{temporaryConstraint}
 use Rattle.grammar.specs.journey.Parts.{afterType, afterRange}
 use Rattle.grammar.proofs.journey.Tree.{end-width, level-width}
-use Rattle.packet_fields.specs.declared.Step.the-variants.{On}
-use Rattle.packet_fields.specs.declared.Next.the-variants as Next
+use Rattle.packet_fields.specs.declared.PacketStep.the-variants.{On}
+use Rattle.packet_fields.specs.declared.PacketValue.the-variants as PacketValue
 use Rattle.packet_fields.specs.Judging.{Standing, Over, Took}
 use Rattle.packet_fields.proofs.Steps.{took-some, past}
 use Rattle.packet_journey.specs.constraint_bytes.Bytes.{bytesIn, both, stretchBytes, restrictionBytes}
@@ -97,10 +97,10 @@ module _ (s : List ℕ) (stop : ℕ) where
     start : t % 16777216 ≡ fieldAt s (at + 4) 24
     start = rw et (field-back s at 4 24 window)
 
-    type-took : Took qTcType s stop at n (Next.Is (t / 67108864) (at + 2) (n + 1))
+    type-took : Took qTcType s stop at n (PacketValue.Is (t / 67108864) (at + 2) (n + 1))
     type-took = took-some s stop qTcType 2 refl h (lit≤ tt) (omega arith) type (one-in 2 3 (t / 67108864) (omega (arith, window-small s at 28 et)) (omega (arith, window-small s at 28 et))) (λ z. omega arith)
 
-    range-took : Took qTcRange s stop (at + 2) (n + 1) (Next.Is (t / 16777216 % 4) (at + 4) (n + 2))
+    range-took : Took qTcRange s stop (at + 2) (n + 1) (PacketValue.Is (t / 16777216 % 4) (at + 4) (n + 2))
     range-took =
         let p : at + 2 + 2 ≡ at + 4 = omega arith in
         let q : n + 1 + 1 ≡ n + 2 = omega arith in

@@ -24,7 +24,7 @@ use Rattle.kinds.specs.journey.Kinds.{mostAt}
 use Rattle.grammar.specs.journey.Journey.{timingPoint}
 use Rattle.grammar.specs.journey.Parts.{arrivalWidths, arrivalMost, stoppingWidths, stoppingMost}
 use Rattle.grammar.proofs.journey.Parts.{point-rows, arrival-fits}
-use Rattle.packet_fields.specs.declared.Step.the-variants.{On}
+use Rattle.packet_fields.specs.declared.PacketStep.the-variants.{On}
 use Rattle.packet_fields.specs.Judging.{verdictAt, judge, Standing, Over}
 use Rattle.packet_fields.specs.row.Values.{total, parts, fieldsAt, within, groupsAll, rowBytes}
 use Rattle.packet_fields.proofs.row.Whole.{parts-at, bytes-some, row-known}

@@ -23,8 +23,8 @@ use Rattle.format.proofs.Ways.{over-on, over-off, value-on, value-off, gave-on,
 use Rattle.grammar.specs.segment.Segment.{voltage}
 use Rattle.grammar.specs.segment.Parts.{entry}
 use Rattle.grammar.proofs.segment.Parts.{class-width}
-use Rattle.packet_fields.specs.declared.Step.the-variants.{On, Refused}
-use Rattle.packet_fields.specs.declared.Next.the-variants as Next
+use Rattle.packet_fields.specs.declared.PacketStep.the-variants.{On, Refused}
+use Rattle.packet_fields.specs.declared.PacketValue.the-variants as PacketValue
 use Rattle.packet_fields.specs.Judging.{Standing, Wide, Over, Took, Gave}
 use Rattle.packet_fields.proofs.Steps.{took-none, took-some, past, past-off}
 use Rattle.packet_segment.specs.element.Profile.{profileHead, bothBytes, nameBytes, pastEntry}
@@ -90,7 +90,7 @@ module _ (s : List ℕ) (stop : ℕ) {at n : ℕ} (h : Standing s stop at n) whe
     entry-off z = value-off (λ q f. then (class q) (then speed f)) (took-none s stop qDiff 2 refl h (lit≤ tt) (omega arith) q-value ea z)
 
     module _ (za : a ≡ 0 → ⊥) where
-      q-took : Took qDiff s stop at n (Next.Is (t / 2048) (at + 2) (n + a))
+      q-took : Took qDiff s stop at n (PacketValue.Is (t / 2048) (at + 2) (n + a))
       q-took = took-some s stop qDiff 2 refl h (lit≤ tt) (omega arith) q-value ea za
 
       class-off : b ≡ 0 → Over entry s stop at n (Refused 4 (at + 2))
@@ -99,7 +99,7 @@ module _ (s : List ℕ) (stop : ℕ) {at n : ℕ} (h : Standing s stop at n) whe
           (over-off (past-off s stop (rw (class-refusal (t / 2048)) at (took-none s stop (class (t / 2048)) 4 (class-width (t / 2048)) (q-took .stands) (lit≤ tt) (omega arith) class-value eb z))))
 
       module _ (zb : b ≡ 0 → ⊥) where
-        class-took : Took (class (t / 2048)) s stop (at + 2) (n + a) (Next.Is (t / 128 % 16) (at + 2 + 4) (n + a + b))
+        class-took : Took (class (t / 2048)) s stop (at + 2) (n + a) (PacketValue.Is (t / 128 % 16) (at + 2 + 4) (n + a + b))
         class-took = took-some s stop (class (t / 2048)) 4 (class-width (t / 2048)) (q-took .stands) (lit≤ tt) (omega arith) class-value eb zb
 
         speed-off : d ≡ 0 → Over entry s stop at n (Refused 4 (at + 2 + 4))
@@ -166,24 +166,24 @@ module _ (s : List ℕ) (stop : ℕ) {at n : ℕ} (h : Standing s stop at n) whe
     count-value : t % 32 ≡ fieldAt s (at + 7 + 1) 5
     count-value = let p : at + 7 + 1 ≡ at + 8 = omega arith in rw (e, p) (field-back s at 8 5 (inside 13 room))
 
-    pub head-off : a ≡ 0 → Gave profileHead s stop at n (Next.Refused 4 at)
+    pub head-off : a ≡ 0 → Gave profileHead s stop at n (PacketValue.Refused 4 at)
     head-off z = gave-off (past-off s stop (took-none s stop speed 7 refl h (lit≤ tt) (omega arith) static-value ea z))
 
     module _ (z : a ≡ 0 → ⊥) where
-      static-took : Took speed s stop at n (Next.Is (t / 64) (at + 7) (n + a))
+      static-took : Took speed s stop at n (PacketValue.Is (t / 64) (at + 7) (n + a))
       static-took = took-some s stop speed 7 refl h (lit≤ tt) (omega arith) static-value ea z
 
-      front-took : Took qFront s stop (at + 7) (n + a) (Next.Is (t / 32 % 2) (at + 7 + 1) (n + a + 1))
+      front-took : Took qFront s stop (at + 7) (n + a) (PacketValue.Is (t / 32 % 2) (at + 7 + 1) (n + a + 1))
       front-took =
           took-some s stop qFront 1 refl (static-took .stands) (lit≤ tt) (omega arith) front-value
           (bytes-some qFront (t / 32 % 2) (both-in 0 1 (t / 32 % 2) (omega arith) (omega arith)) (one-byte (t / 32 % 2) (omega arith))) (λ u. omega arith)
 
-      count-took : Took (nIter 31) s stop (at + 7 + 1) (n + a + 1) (Next.Is (t % 32) (at + 7 + 1 + 5) (n + a + 1 + 1))
+      count-took : Took (nIter 31) s stop (at + 7 + 1) (n + a + 1) (PacketValue.Is (t % 32) (at + 7 + 1 + 5) (n + a + 1 + 1))
       count-took =
           took-some s stop (nIter 31) 5 refl (front-took .stands) (lit≤ tt) (omega arith) count-value
           (bytes-some (nIter 31) (t % 32) (both-in 0 31 (t % 32) (omega arith) (omega arith)) (one-byte (t % 32) (omega arith))) (λ u. omega arith)
 
-      pub head-on : Gave profileHead s stop at n (Next.Is (t % 32) (at + 13) (n + a + 2))
+      pub head-on : Gave profileHead s stop at n (PacketValue.Is (t % 32) (at + 13) (n + a + 2))
       head-on =
           let p : at + 7 + 1 + 5 ≡ at + 13 = omega arith in
           let m : n + a + 1 + 1 ≡ n + a + 2 = omega arith in
@@ -203,7 +203,7 @@ module _ (s : List ℕ) (stop : ℕ) {at n : ℕ} (h : Standing s stop at n) whe
     volts-off z = value-off (λ u f. then (nidCTraction u) f) (took-none s stop mVoltage 4 refl h (lit≤ tt) (omega arith) volts-value ea z)
 
     module _ (za : a ≡ 0 → ⊥) where
-      volts-took : Took mVoltage s stop at n (Next.Is (t / 1024) (at + 4) (n + a))
+      volts-took : Took mVoltage s stop at n (PacketValue.Is (t / 1024) (at + 4) (n + a))
       volts-took = took-some s stop mVoltage 4 refl h (lit≤ tt) (omega arith) volts-value ea za
 
       pub traction-off : b ≡ 0 → Over voltage s stop at n (Refused 4 (at + 4))

@@ -19,8 +19,8 @@ use Rattle.fields.proofs.size.Bytes.{bytes-some, both-in}
 use Rattle.format.specs.Format.{then}
 use Rattle.format.proofs.Ways.{over-on, gave-on, gave-then, gave-took}
 use Rattle.grammar.specs.segment.Parts.{kindAt, runs}
-use Rattle.packet_fields.specs.declared.Step.the-variants.{On}
-use Rattle.packet_fields.specs.declared.Next.the-variants as Next
+use Rattle.packet_fields.specs.declared.PacketStep.the-variants.{On}
+use Rattle.packet_fields.specs.declared.PacketValue.the-variants as PacketValue
 use Rattle.packet_fields.specs.Judging.{Standing, Over, Took, Gave}
 use Rattle.packet_fields.proofs.Steps.{took-some, past}
 use Rattle.packet_segment.specs.head.Head.{headPart, Passed}
@@ -86,13 +86,13 @@ module _ (s : List ℕ) where
 
   module _ {stop : ℕ} (h : Standing s stop 24 1) (room : 253 ≤ stop) (a b d : ℕ) {r v : ℕ} (ca : Passed (runs 0 5) s 24 120 a) (cb : Passed (runs 5 4) s 120 178 b)
       (ev : v ≡ fieldAt s 178 24) (zv : v ≡ 0 → ⊥) (er : r ≡ length (groupsIn v)) (cd : Passed (runs 10 3) s 202 253 d) where
-    pub head-on : Gave headPart s stop 24 1 (Next.Is v 253 (1 + a + b + r + d))
+    pub head-on : Gave headPart s stop 24 1 (PacketValue.Is v 253 (1 + a + b + r + d))
     unfolding runs
     head-on =
         let o = ca stop 1 h (omega arith) in
         let p = cb stop (1 + a) (o .stands) (omega arith) in
         let l : fieldAt s 178 24 < 2 ^ 24 = field-small s 178 24 24 (le-refl 24) in
-        let t : Took lSp s stop 178 (1 + a + b) (Next.Is v 202 (1 + a + b + r)) =
+        let t : Took lSp s stop 178 (1 + a + b) (PacketValue.Is v 202 (1 + a + b + r)) =
         took-some s stop lSp 24 refl (p .stands) (lit≤ tt) (omega arith) ev
         (bytes-some lSp v (both-in 1 16777215 v (omega (arith, zv)) (omega (arith, ev, l))) er) (λ y. omega (arith, er, y, count-some v)) in
         let g = gave-on o (gave-on p (gave-then (gave-took t) (cd stop (1 + a + b + r) (t .stands) room))) in

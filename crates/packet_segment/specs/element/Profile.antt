@@ -7,8 +7,8 @@ use Rattle.kinds.specs.Kinds.{speed, qFront, nIter, qDiff, class}
 use Rattle.kinds.specs.Judged.{valueInPacket}
 use Rattle.fields.specs.size.Counts.{bytesOf}
 use Rattle.format.specs.Format.{Format, field, then}
-use Rattle.packet_fields.specs.declared.Step.{Step}
-use Rattle.packet_fields.specs.declared.Step.the-variants.{On, Refused}
+use Rattle.packet_fields.specs.declared.PacketStep.{PacketStep}
+use Rattle.packet_fields.specs.declared.PacketStep.the-variants.{On, Refused}
 
 -- "V_STATIC 7, Q_FRONT 1, N_ITER 5 (0 to 31)", and what depends on the last
 abbrev pub profileHead : (ℕ → Format) → Format
@@ -23,5 +23,5 @@ abbrev pub nameBytes : ℕ → ℕ → ℕ
 nameBytes q v = bothBytes (bytesOf (valueInPacket qDiff q)) (bytesOf (valueInPacket (class q) v))
 
 -- the step over an entry of r bytes at the bit at; from 16 on, the refusal of the field that stands so far on
-abbrev pub pastEntry : ℕ → ℕ → ℕ → Step
+abbrev pub pastEntry : ℕ → ℕ → ℕ → PacketStep
 pastEntry at n r = cond (ltb r 16) (On (at + 13) (n + r)) (Refused 4 (at + (r - 16)))

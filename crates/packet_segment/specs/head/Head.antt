@@ -6,7 +6,7 @@ use Prim.Native.Nat.{ℕ, _+_, _≤_}
 use Rattle.kinds.specs.Kinds.{lSp}
 use Rattle.format.specs.Format.{Format, field}
 use Rattle.grammar.specs.segment.Parts.{runs}
-use Rattle.packet_fields.specs.declared.Step.the-variants.{On}
+use Rattle.packet_fields.specs.declared.PacketStep.the-variants.{On}
 use Rattle.packet_fields.specs.Judging.{Standing, Over}
 
 -- NID_OPERATIONAL to M_SP_Altitude, and what depends on L_SP

@@ -6,7 +6,7 @@ use Prim.Native.Nat.{ℕ, _+_, _*_, _^_, _<_}
 use native.Mathlib.Omega.{arith}
 use lib.Dec.{lit<}
 use Rattle.bits.specs.Bits.{bitsOf}
-use Rattle.numbers.specs.declared.accepted.Taken.{Taken}
+use Rattle.numbers.specs.declared.accepted.ReadNumber.{ReadNumber}
 use Rattle.numbers.specs.accepted.Accepted.{There, Reads}
 use Rattle.bits.specs.write.Filling.{Filling}
 use Rattle.kinds.specs.Kind.{Kind}
@@ -18,7 +18,7 @@ use Rattle.kinds.specs.journey.Kinds.{qTcType, qTcRange, dTcStartLocation, dTcE
 use Rattle.grammar.specs.journey.Journey.{restriction, temporaryConstraint}
 use Rattle.grammar.specs.journey.Parts.{afterType, afterRange}
 use Rattle.grammar.proofs.journey.Tree.{end-width, level-width, start-lawful, end-lawful, front-lawful, level-lawful, adhesion-lawful}
-use Rattle.packet_write_segment.specs.declared.elements.Spot.{Spot}
+use Rattle.packet_write_segment.specs.declared.elements.PacketSpot.{PacketSpot}
 use Rattle.packet_write_segment.specs.elements.Writing.{Ready, Wrote}
 use Rattle.packet_write_segment.proofs.elements.Writing.{bits-join, Has, has-same, has-small, Gone, gone-all, gone-there, gone-has, gone-field, Along, along-next, along-on, along-none, along-put, wrote-once, along-once}
 use Rattle.packet_write_journey.specs.declared.row.Given.{Given}
@@ -32,11 +32,11 @@ more a h k part g {v = v} d {w} e l = rw (bits-join a w h v l) (rw e at (gone-fi
 
 -- ---- the type, the range and the locations
 
-module _ {s room : List ℕ} {p : Spot} (h : Ready temporaryConstraint s room p) where
+module _ {s room : List ℕ} {p : PacketSpot} (h : Ready temporaryConstraint s room p) where
   pub type-there : There s (p .from)
   type-there = gone-there h refl qTcType afterType (gone-all (h .inside))
 
-  module _ {t : Taken} (dt : Reads s (p .from) t) where
+  module _ {t : ReadNumber} (dt : Reads s (p .from) t) where
     type : Has qTcType s (p .from) (t .value) (t .next) (t .value)
     type = has-same (gone-has h refl qTcType afterType (gone-all (h .inside)) dt) (qTcType .allowed (t .value)) refl
 
@@ -49,7 +49,7 @@ module _ {s room : List ℕ} {p : Spot} (h : Ready temporaryConstraint s room p)
     pub range-there : There s (t .next)
     range-there = gone-there h refl qTcRange (afterRange (t .value)) one
 
-    module _ {g : Taken} (dg : Reads s (t .next) g) where
+    module _ {g : ReadNumber} (dg : Reads s (t .next) g) where
       range : Has qTcRange s (t .next) (g .value) (g .next) (g .value)
       range = has-same (gone-has h refl qTcRange (afterRange (t .value)) one dg) (qTcRange .allowed (g .value)) refl
 
@@ -65,7 +65,7 @@ module _ {s room : List ℕ} {p : Spot} (h : Ready temporaryConstraint s room p)
       pub start-there : There s (g .next)
       start-there = gone-there h refl (dTcStartLocation (g .value)) afterStart two
 
-      module _ {a : Taken} (da : Reads s (g .next) a) where
+      module _ {a : ReadNumber} (da : Reads s (g .next) a) where
         start : Has (dTcStartLocation (g .value)) s (g .next) (a .value) (a .next) (a .value)
         start = has-same (gone-has h refl (dTcStartLocation (g .value)) afterStart two da) (dTcStartLocation (g .value) .allowed (a .value)) refl
 
@@ -87,7 +87,7 @@ module _ {s room : List ℕ} {p : Spot} (h : Ready temporaryConstraint s room p)
         pub end-there : There s (a .next)
         end-there = gone-there h refl end afterEnd three
 
-        module _ {e : Taken} (de : Reads s (a .next) e) where
+        module _ {e : ReadNumber} (de : Reads s (a .next) e) where
           last : Has end s (a .next) (e .value) (e .next) (e .value)
           last = has-same (gone-has h refl end afterEnd three de) (end .allowed (e .value)) (end-same (g .value) (a .value) (e .value))
 
@@ -105,7 +105,7 @@ module _ {s room : List ℕ} {p : Spot} (h : Ready temporaryConstraint s room p)
 
 -- ---- the restriction
 
-module _ (type : ℕ) {s room : List ℕ} {p : Spot} (h : Ready (restriction type) s room p) where
+module _ (type : ℕ) {s room : List ℕ} {p : PacketSpot} (h : Ready (restriction type) s room p) where
   abbrev afterAdhesion : Format → Format
   afterAdhesion f = then noCurrent f
 
@@ -118,7 +118,7 @@ module _ (type : ℕ) {s room : List ℕ} {p : Spot} (h : Ready (restriction typ
   pub front-there : There s (p .from)
   front-there = gone-there h refl (qTcFront type) (λ _. afterFront) (gone-all (h .inside))
 
-  module _ {t : Taken} (dt : Reads s (p .from) t) where
+  module _ {t : ReadNumber} (dt : Reads s (p .from) t) where
     front : Has (qTcFront type) s (p .from) (t .value) (t .next) (t .value)
     front = has-same (gone-has h refl (qTcFront type) (λ _. afterFront) (gone-all (h .inside)) dt) (qTcFront type .allowed (t .value)) refl
 
@@ -131,7 +131,7 @@ module _ (type : ℕ) {s room : List ℕ} {p : Spot} (h : Ready (restriction typ
     pub speed-there : There s (t .next)
     speed-there = gone-there h refl (vSpeedLevel type) (λ _. afterSpeed) first
 
-    module _ {v : Taken} (dv : Reads s (t .next) v) {w : ℕ} (ew : w ≡ lowered speed (v .value)) where
+    module _ {v : ReadNumber} (dv : Reads s (t .next) v) {w : ℕ} (ew : w ≡ lowered speed (v .value)) where
       level : Has (vSpeedLevel type) s (t .next) (v .value) (v .next) w
       level =
           let k = gone-has h refl (vSpeedLevel type) (λ _. afterSpeed) first dv in
@@ -146,7 +146,7 @@ module _ (type : ℕ) {s room : List ℕ} {p : Spot} (h : Ready (restriction typ
       pub adhesion-there : There s (v .next)
       adhesion-there = gone-there h refl (qLowAdhesionRate type) (λ _. afterAdhesion) second
 
-      module _ {a : Taken} (da : Reads s (v .next) a) where
+      module _ {a : ReadNumber} (da : Reads s (v .next) a) where
         adhesion : Has (qLowAdhesionRate type) s (v .next) (a .value) (a .next) (a .value)
         adhesion = has-same (gone-has h refl (qLowAdhesionRate type) (λ _. afterAdhesion) second da) (qLowAdhesionRate type .allowed (a .value)) refl
 
@@ -162,7 +162,7 @@ module _ (type : ℕ) {s room : List ℕ} {p : Spot} (h : Ready (restriction typ
         pub current-there : There s (a .next)
         current-there = gone-there h refl noCurrent (λ _ f. f) third
 
-        module _ {c : Taken} (dc : Reads s (a .next) c) where
+        module _ {c : ReadNumber} (dc : Reads s (a .next) c) where
           current : Has noCurrent s (a .next) (c .value) (c .next) 1023
           current =
               let k = gone-has h refl noCurrent (λ _ f. f) third dc in
@@ -176,12 +176,12 @@ module _ (type : ℕ) {s room : List ℕ} {p : Spot} (h : Ready (restriction typ
 
 -- ---- both
 
-module _ {s room mid : List ℕ} {p : Spot} {r : Given} (h : Ready temporaryConstraint s room p) (b : Begun temporaryConstraint restriction s room p mid r) where
+module _ {s room mid : List ℕ} {p : PacketSpot} {r : Given} (h : Ready temporaryConstraint s room p) (b : Begun temporaryConstraint restriction s room p mid r) where
   located : Along temporaryConstraint (restriction (r .value)) s room p mid (r .next)
   located = record { bits = b .bits; gone = b .left; puts = b .puts }
 
   pub restriction-ready : Ready (restriction (r .value)) s mid (r .next)
   restriction-ready = along-next (restriction (r .value)) (λ f. f) located h
 
-  pub constraint-wrote : {after : List ℕ} {q : Spot} → Wrote (restriction (r .value)) s mid (r .next) after q → Wrote temporaryConstraint s room p after q
+  pub constraint-wrote : {after : List ℕ} {q : PacketSpot} → Wrote (restriction (r .value)) s mid (r .next) after q → Wrote temporaryConstraint s room p after q
   constraint-wrote w = along-none (along-on (restriction (r .value)) (λ f. f) located w)

@@ -8,7 +8,7 @@ use Rattle.kinds.specs.journey.Kinds.{qStopSkipPasses}
 use Rattle.grammar.specs.journey.Journey.{timingPoint}
 use Rattle.grammar.specs.journey.Parts.{arrivalWidths, arrivalMost, stoppingWidths, stoppingMost}
 use Rattle.grammar.proofs.journey.Parts.{point-rows}
-use Rattle.packet_write_segment.specs.declared.elements.Spot.{Spot}
+use Rattle.packet_write_segment.specs.declared.elements.PacketSpot.{PacketSpot}
 use Rattle.packet_write_segment.specs.elements.Writing.{Ready, Wrote}
 use Rattle.packet_write_segment.proofs.elements.Writing.{Along, along-all, along-as, along-next, along-on, along-none}
 use Rattle.packet_write_journey.specs.declared.row.Given.{Given}
@@ -24,14 +24,14 @@ stopping stop f = row stoppingWidths (stoppingMost stop) f
 abbrev stop : Format → Format
 stop f = field qStopSkipPasses λ n. stopping n f
 
-module _ {s room : List ℕ} {p : Spot} (h : Ready timingPoint s room p) where
+module _ {s room : List ℕ} {p : PacketSpot} (h : Ready timingPoint s room p) where
   point-all : Along timingPoint (λ f. arrival (stop f)) s room p room p
   point-all = along-as (λ f. arrival (stop f)) point-rows (along-all h)
 
   pub point-arrival : Ready arrival s room p
   point-arrival = along-next arrival stop point-all h
 
-  module _ {mid : List ℕ} {q : Spot} (a : Wrote arrival s room p mid q) where
+  module _ {mid : List ℕ} {q : PacketSpot} (a : Wrote arrival s room p mid q) where
     pub point-stop : Offers qStopSkipPasses s mid q
     point-stop = along-offers qStopSkipPasses stopping (along-on arrival stop point-all a) h
 
@@ -42,5 +42,5 @@ module _ {s room : List ℕ} {p : Spot} (h : Ready timingPoint s room p) where
       pub point-stopping : Ready (stopping (r .value)) s end (r .next)
       point-stopping = along-next (stopping (r .value)) (λ f. f) after-stop h
 
-      pub point-wrote : {last : List ℕ} {t : Spot} → Wrote (stopping (r .value)) s end (r .next) last t → Wrote timingPoint s room p last t
+      pub point-wrote : {last : List ℕ} {t : PacketSpot} → Wrote (stopping (r .value)) s end (r .next) last t → Wrote timingPoint s room p last t
       point-wrote w = along-none (along-on (stopping (r .value)) (λ f. f) after-stop w)

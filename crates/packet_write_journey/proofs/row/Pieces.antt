@@ -12,20 +12,20 @@ use lib.Pow.{pow-mono}
 use Rattle.bits.specs.Bits.{bitsOf}
 use Rattle.bits.proofs.Parts.{join-small}
 use Rattle.bits.specs.write.Filling.{Filling}
-use Rattle.numbers.specs.declared.accepted.Taken.{Taken}
+use Rattle.numbers.specs.declared.accepted.ReadNumber.{ReadNumber}
 use Rattle.numbers.specs.accepted.Accepted.{There, Reads}
 use Rattle.kinds.specs.Kind.{upTo}
 use Rattle.fields.proofs.Lawful.{upTo-lawful}
 use Rattle.format.specs.Format.{then}
 use Rattle.grammar.specs.rows.Rows.{row, fits}
-use Rattle.packet_write_segment.specs.declared.elements.Spot.{Spot}
+use Rattle.packet_write_segment.specs.declared.elements.PacketSpot.{PacketSpot}
 use Rattle.packet_write_segment.specs.elements.Writing.{Ready, Wrote}
 use Rattle.packet_write_segment.proofs.elements.Writing.{bits-join, Has, has-small, Gone, gone-all, gone-as, gone-there, gone-field, wrote-once}
 use Rattle.packet_write_journey.specs.row.Pieces.{rowBits, part, between, Puttable}
 use Rattle.packet_write_journey.proofs.row.Alone.{left-has}
 use Rattle.packet_write_journey.proofs.row.Rows.{rowFrom, Fits, fits-long, fits-at, row-more, row-none, bits-more, bits-none}
 
-pub record Gathers (ws ms s room : List ℕ) (u : Spot) (total i from bits : ℕ) : Type 0 where
+pub record Gathers (ws ms s room : List ℕ) (u : PacketSpot) (total i from bits : ℕ) : Type 0 where
   pub ready : Ready (row ws ms) s room u
   pub fit : fits ws ms ≡ true
   pub some : 1 ≤ total
@@ -35,11 +35,11 @@ pub record Gathers (ws ms s room : List ℕ) (u : Spot) (total i from bits : ℕ
   pub small : bits < 2 ^ width
   pub sum : width + rowBits (drop i ws) ≡ total
 
-pub gathers-start : {ws ms s room : List ℕ} {u : Spot} {first end total : ℕ} → Ready (between ws ms first end) s room u → Puttable ws ms first end total
+pub gathers-start : {ws ms s room : List ℕ} {u : PacketSpot} {first end total : ℕ} → Ready (between ws ms first end) s room u → Puttable ws ms first end total
     → Gathers (part ws first end) (part ms first end) s room u total 0 (u .from) 0
 gathers-start h p = record { ready = h; fit = p .fit; some = p .some; most = p .most; width = 0; gone = gone-all (h .inside); small = lit< tt; sum = omega (arith, p .sum) }
 
-module _ {ws ms s room : List ℕ} {u : Spot} {total i from bits : ℕ} (g : Gathers ws ms s room u total i from bits) where
+module _ {ws ms s room : List ℕ} {u : PacketSpot} {total i from bits : ℕ} (g : Gathers ws ms s room u total i from bits) where
   -- one field more
   module _ (l : i < length ws) where
     abbrev w : ℕ
@@ -60,7 +60,7 @@ module _ {ws ms s room : List ℕ} {u : Spot} {total i from bits : ℕ} (g : Gat
     pub gathers-narrow : w ≤ 32
     gathers-narrow = fit .most
 
-    module _ {a : Taken} (t : Reads s from a) where
+    module _ {a : ReadNumber} (t : Reads s from a) where
       has : Has (upTo w m) s from (a .value) (a .next) (a .value)
       has = left-has (g .ready) w m (λ v. rowFrom ws ms (i + 1)) left t
 

@@ -7,7 +7,7 @@ use native.Mathlib.Omega.{arith}
 use lib.Dec.{lit<}
 use Rattle.bits.specs.Bits.{bitsOf}
 use Rattle.bits.proofs.Parts.{join-small}
-use Rattle.numbers.specs.declared.accepted.Taken.{Taken}
+use Rattle.numbers.specs.declared.accepted.ReadNumber.{ReadNumber}
 use Rattle.numbers.specs.accepted.Accepted.{There, Single, Reads}
 use Rattle.bits.specs.write.Filling.{Filling}
 use Rattle.kinds.specs.Kinds.{qDiff, class, speed, qFront, nIter, mVoltage, nidCTraction, mCurrent}
@@ -17,7 +17,7 @@ use Rattle.format.specs.Format.{Format, field, then}
 use Rattle.grammar.specs.segment.Segment.{profile, voltage, current, entries}
 use Rattle.grammar.specs.segment.Parts.{entry}
 use Rattle.grammar.proofs.segment.Parts.{class-width}
-use Rattle.packet_write_segment.specs.declared.elements.Spot.{Spot}
+use Rattle.packet_write_segment.specs.declared.elements.PacketSpot.{PacketSpot}
 use Rattle.packet_write_segment.specs.elements.Writing.{Ready, Wrote}
 use Rattle.packet_write_segment.proofs.elements.Writing.{bits-join, Has, has-same, has-small, Gone, gone-all, gone-there, gone-single, gone-has, gone-field, Along, wrote-once, along-once}
 
@@ -26,14 +26,14 @@ three : (a b c x y z t : ℕ) {d : ℕ} → d ≡ b → y < 2 ^ b → z < 2 ^ c 
 three a b c x y z t e h l n =
     rw (e, n, bits-join a (b + c) x (y * 2 ^ c + z) (join-small y z b c h l), bits-join b c y z l) (append-assoc (bitsOf a x) (bitsOf b y) (bitsOf c z))
 
-module _ {s room : List ℕ} {p : Spot} (h : Ready entry s room p) where
+module _ {s room : List ℕ} {p : PacketSpot} (h : Ready entry s room p) where
   abbrev afterQ : ℕ → Format → Format
   afterQ x f = then (class x) (then speed f)
 
   pub entry-first : Single s (p .from)
   entry-first = gone-single h refl qDiff afterQ (gone-all (h .inside)) (upTo-lawful 2 2 (narrow tt) (lit< tt)) (lit< tt)
 
-  module _ {q : Taken} (tq : Reads s (p .from) q) where
+  module _ {q : ReadNumber} (tq : Reads s (p .from) q) where
     first : Has qDiff s (p .from) (q .value) (q .next) (q .value)
     first = has-same (gone-has h refl qDiff afterQ (gone-all (h .inside)) tq) (qDiff .allowed (q .value)) refl
 
@@ -46,7 +46,7 @@ module _ {s room : List ℕ} {p : Spot} (h : Ready entry s room p) where
     pub entry-q : q .value < 4
     entry-q = has-small first (upTo-lawful 2 2 (narrow tt) (lit< tt))
 
-    module _ {a : Taken} (ta : Reads s (q .next) a) {c : ℕ} (ec : c ≡ lowered (class (q .value)) (a .value)) where
+    module _ {a : ReadNumber} (ta : Reads s (q .next) a) {c : ℕ} (ec : c ≡ lowered (class (q .value)) (a .value)) where
       second : Has (class (q .value)) s (q .next) (a .value) (a .next) c
       second = rw ec (gone-has h refl (class (q .value)) (λ x f. then speed f) one ta)
 
@@ -59,7 +59,7 @@ module _ {s room : List ℕ} {p : Spot} (h : Ready entry s room p) where
       pub entry-class : c < 16
       entry-class = rw (class-width (q .value)) at (has-small second (class-lawful (q .value)))
 
-      module _ {v : Taken} (tv : Reads s (a .next) v) {w : ℕ} (ew : w ≡ lowered speed (v .value)) where
+      module _ {v : ReadNumber} (tv : Reads s (a .next) v) {w : ℕ} (ew : w ≡ lowered speed (v .value)) where
         third : Has speed s (a .next) (v .value) (v .next) w
         third = rw ew (gone-has h refl speed (λ x f. f) two tv)
 
@@ -71,14 +71,14 @@ module _ {s room : List ℕ} {p : Spot} (h : Ready entry s room p) where
         entry-wrote f =
             wrote-once (gone-field speed (λ x f. f) two third) (three 2 4 7 (q .value) c w (q .value * 2048 + c * 128 + w) (class-width (q .value)) entry-class entry-speed (omega arith)) f
 
-module _ {s room : List ℕ} {p : Spot} (h : Ready profile s room p) where
+module _ {s room : List ℕ} {p : PacketSpot} (h : Ready profile s room p) where
   abbrev counted : Format → Format
   counted f = field (nIter 31) λ m. entries m f
 
   pub profile-first : There s (p .from)
   profile-first = gone-there h refl speed (λ x f. then qFront (counted f)) (gone-all (h .inside))
 
-  module _ {v : Taken} (tv : Reads s (p .from) v) {w : ℕ} (ew : w ≡ lowered speed (v .value)) where
+  module _ {v : ReadNumber} (tv : Reads s (p .from) v) {w : ℕ} (ew : w ≡ lowered speed (v .value)) where
     steps : Has speed s (p .from) (v .value) (v .next) w
     steps = rw ew (gone-has h refl speed (λ x f. then qFront (counted f)) (gone-all (h .inside)) tv)
 
@@ -91,7 +91,7 @@ module _ {s room : List ℕ} {p : Spot} (h : Ready profile s room p) where
     pub profile-speed : w < 128
     profile-speed = has-small steps speed-lawful
 
-    module _ {q : Taken} (tq : Reads s (v .next) q) where
+    module _ {q : ReadNumber} (tq : Reads s (v .next) q) where
       front : Has qFront s (v .next) (q .value) (q .next) (q .value)
       front = has-same (gone-has h refl qFront (λ x f. counted f) after-speed tq) (qFront .allowed (q .value)) refl
 
@@ -104,7 +104,7 @@ module _ {s room : List ℕ} {p : Spot} (h : Ready profile s room p) where
       pub profile-front : q .value < 2
       profile-front = has-small front (upTo-lawful 1 1 (narrow tt) (lit< tt))
 
-      module _ {n : Taken} (tn : Reads s (q .next) n) where
+      module _ {n : ReadNumber} (tn : Reads s (q .next) n) where
         count : Has (nIter 31) s (q .next) (n .value) (n .next) (n .value)
         count = has-same (gone-has h refl (nIter 31) entries after-front tn) (nIter 31 .allowed (n .value)) refl
 
@@ -116,11 +116,11 @@ module _ {s room : List ℕ} {p : Spot} (h : Ready profile s room p) where
         profile-along f =
             along-once (gone-field (nIter 31) entries after-front count) (three 7 1 5 w (q .value) (n .value) (w * 64 + q .value * 32 + n .value) refl profile-front profile-count (omega arith)) f
 
-module _ {s room : List ℕ} {p : Spot} (h : Ready voltage s room p) where
+module _ {s room : List ℕ} {p : PacketSpot} (h : Ready voltage s room p) where
   pub wire-first : There s (p .from)
   wire-first = gone-there h refl mVoltage (λ x f. then (nidCTraction x) f) (gone-all (h .inside))
 
-  module _ {u : Taken} (tu : Reads s (p .from) u) {w : ℕ} (ew : w ≡ lowered mVoltage (u .value)) where
+  module _ {u : ReadNumber} (tu : Reads s (p .from) u) {w : ℕ} (ew : w ≡ lowered mVoltage (u .value)) where
     volts : Has mVoltage s (p .from) (u .value) (u .next) w
     volts = rw ew (gone-has h refl mVoltage (λ x f. then (nidCTraction x) f) (gone-all (h .inside)) tu)
 
@@ -133,7 +133,7 @@ module _ {s room : List ℕ} {p : Spot} (h : Ready voltage s room p) where
     pub wire-volts : w < 16
     wire-volts = has-small volts voltage-lawful
 
-    module _ {n : Taken} (tn : Reads s (u .next) n) where
+    module _ {n : ReadNumber} (tn : Reads s (u .next) n) where
       traction : Has (nidCTraction w) s (u .next) (n .value) (n .next) (n .value)
       traction = has-same (gone-has h refl (nidCTraction w) (λ x f. f) after-volts tn) (nidCTraction w .allowed (n .value)) refl
 
@@ -144,11 +144,11 @@ module _ {s room : List ℕ} {p : Spot} (h : Ready voltage s room p) where
           → Wrote voltage s room p end (record { from = n .next; at = p .at + 14; wait = r })
       wire-wrote f = wrote-once (gone-field (nidCTraction w) (λ x f. f) after-volts traction) (sym (bits-join 4 10 w (n .value) wire-traction)) f
 
-module _ {s room : List ℕ} {p : Spot} (h : Ready current s room p) where
+module _ {s room : List ℕ} {p : PacketSpot} (h : Ready current s room p) where
   pub current-there : There s (p .from)
   current-there = gone-there h refl mCurrent (λ x f. f) (gone-all (h .inside))
 
-  module _ {a : Taken} (ta : Reads s (p .from) a) {w : ℕ} (ew : w ≡ lowered mCurrent (a .value)) where
+  module _ {a : ReadNumber} (ta : Reads s (p .from) a) {w : ℕ} (ew : w ≡ lowered mCurrent (a .value)) where
     amperes : Has mCurrent s (p .from) (a .value) (a .next) w
     amperes = rw ew (gone-has h refl mCurrent (λ x f. f) (gone-all (h .inside)) ta)
 

@@ -16,7 +16,7 @@ use Rattle.numbers.specs.declared.Number.the-variants.{Value, Bad}
 use Rattle.numbers.specs.Numbers.{numberIn, groupsIn}
 use Rattle.numbers.proofs.Counting.{count-some}
 use Rattle.numbers.proofs.Reading.{number-only}
-use Rattle.numbers.specs.declared.accepted.Taken.{Taken}
+use Rattle.numbers.specs.declared.accepted.ReadNumber.{ReadNumber}
 use Rattle.numbers.specs.accepted.Accepted.{There, Single, Reads}
 use Rattle.bits.specs.write.Filling.{Filling}
 use Rattle.kinds.specs.Kind.{Kind, when}
@@ -34,7 +34,7 @@ use Rattle.format.proofs.Places.{number-found, number-none}
 use Rattle.format.proofs.Passing.{pass-read, sheet-seen}
 use Rattle.format.proofs.Tasks.{made-record}
 use Rattle.format.proofs.Ways.{took-is, took-off, left-all, left-as, left-none, left-on, left-value, times-more, times-none, ahead-first, ahead-left, ahead-never}
-use Rattle.packet_write_segment.specs.declared.elements.Spot.{Spot}
+use Rattle.packet_write_segment.specs.declared.elements.PacketSpot.{PacketSpot}
 use Rattle.packet_write_segment.specs.elements.Writing.{writer, Few, Ready, Puts, Wrote}
 
 -- ---- bits
@@ -60,7 +60,7 @@ run-told s f at x = pass-read sheet (recording packet) f x at (drop at s) ∙ go
     go (accepted l) = ap Told.told (made-record packet f l x)
     go (refused r n) = refl
 
-pub at-small : {part : Format → Format} {s room : List ℕ} {p : Spot} → Ready part s room p → p .at < 2 ^ 32
+pub at-small : {part : Format → Format} {s room : List ℕ} {p : PacketSpot} → Ready part s room p → p .at < 2 ^ 32
 at-small {part} {s} {p = p} h =
     let a = h .ahead in
     omega (arith, h .filled .count, few-bits (h .bits) (part (a .follows)) (read sheet (part (a .follows)) (p .from) (drop (p .from) s)) (rw (run-told s (part (a .follows)) (p .from) (h .bits)) at (a .good)))
@@ -97,7 +97,7 @@ module _ (k : Kind) (part : ℕ → Format → Format) (s : List ℕ) (ok : Byte
       let t = number-there in
       record { there = t; small = omega (arith, w .top (t .value) (lowered k (t .value)) (lower-some (t .value) (t .is))) }
 
-  pub number-has : {r : Taken} → Reads s at r → Has k s at (r .value) (r .next) (lowered k (r .value))
+  pub number-has : {r : ReadNumber} → Reads s at r → Has k s at (r .value) (r .next) (lowered k (r .value))
   number-has {r} t =
       let b : ℕ = r .value in
       let g : ℕ = length (groupsIn b) in
@@ -133,7 +133,7 @@ module _ {s : List ℕ} {p : Format → Format} {from to : ℕ} {bits : List Boo
   gone-as r e g x = left-as r e (g x)
 
   -- a number that is there
-  module _ {room : List ℕ} {u : Spot} (h : Ready p s room u) (e : u .from ≡ from) (k : Kind) (part : ℕ → Format → Format)
+  module _ {room : List ℕ} {u : PacketSpot} (h : Ready p s room u) (e : u .from ≡ from) (k : Kind) (part : ℕ → Format → Format)
       (g : Gone s p (λ f. field k (λ v. part v f)) from to bits) where
     pub gone-there : There s to
     gone-there = number-there k part s (h .bytes) to (ahead-left (g (h .bits)) (rw e at (h .ahead)))
@@ -141,7 +141,7 @@ module _ {s : List ℕ} {p : Format → Format} {from to : ℕ} {bits : List Boo
     pub gone-single : LawfulKind k → k .highest < 128 → Single s to
     gone-single w m = number-single k part s (h .bytes) to (ahead-left (g (h .bits)) (rw e at (h .ahead))) w m
 
-    pub gone-has : {r : Taken} → Reads s to r → Has k s to (r .value) (r .next) (lowered k (r .value))
+    pub gone-has : {r : ReadNumber} → Reads s to r → Has k s to (r .value) (r .next) (lowered k (r .value))
     gone-has t = number-has k part s (h .bytes) to (ahead-left (g (h .bits)) (rw e at (h .ahead))) t
 
   -- it is taken
@@ -172,16 +172,16 @@ puts-on {bits = bits} {more = more} a b =
 -- ---- both
 
 -- what is left of a part, and the room at that place
-pub record Along (p q : Format → Format) (s room : List ℕ) (u : Spot) (after : List ℕ) (v : Spot) : Type 0 where
+pub record Along (p q : Format → Format) (s room : List ℕ) (u : PacketSpot) (after : List ℕ) (v : PacketSpot) : Type 0 where
   pub bits : List Bool
   pub gone : Gone s p q (u .from) (v .from) bits
   pub puts : Puts room (u .at) (u .wait) bits after (v .at) (v .wait)
 
-module _ {s room : List ℕ} {u : Spot} where
+module _ {s room : List ℕ} {u : PacketSpot} where
   pub along-all : {p : Format → Format} → Ready p s room u → Along p p s room u room u
   along-all h = record { bits = []; gone = gone-all (h .inside); puts = puts-none }
 
-  module _ {p : Format → Format} {mid : List ℕ} {v : Spot} where
+  module _ {p : Format → Format} {mid : List ℕ} {v : PacketSpot} where
     pub along-as : {q : Format → Format} (r : Format → Format) → ((f : Format) → q f ≡ r f) → Along p q s room u mid v → Along p r s room u mid v
     along-as r e l = record { bits = l .bits; gone = gone-as r e (l .gone); puts = l .puts }
 
@@ -199,11 +199,11 @@ module _ {s room : List ℕ} {u : Spot} where
             ahead = ahead-first r (ahead-left (l .gone (h .bits)) (h .ahead));
           }
 
-      pub along-on : {end : List ℕ} {w : Spot} → Wrote q s mid v end w → Along p r s room u end w
+      pub along-on : {end : List ℕ} {w : PacketSpot} → Wrote q s mid v end w → Along p r s room u end w
       along-on o = record { bits = l .bits ++ o .bits; gone = gone-over q r (l .gone) (o .over); puts = puts-on (l .puts) (o .puts) }
 
   -- a part so many times: one more, and none left
-  module _ {p : Format → Format} (part : Format → Format) {n : ℕ} {mid : List ℕ} {v : Spot} (l : Along p (times part n) s room u mid v) where
+  module _ {p : Format → Format} (part : Format → Format) {n : ℕ} {mid : List ℕ} {v : PacketSpot} (l : Along p (times part n) s room u mid v) where
     module _ (some : 0 < n) where
       more : Along p (λ f. part (times part (n - 1) f)) s room u mid v
       more = along-as (λ f. part (times part (n - 1) f)) (times-more part n some) l
@@ -211,7 +211,7 @@ module _ {s room : List ℕ} {u : Spot} where
       pub times-next : Ready p s room u → Ready part s mid v
       times-next h = along-next part (times part (n - 1)) more h
 
-      pub times-on : {end : List ℕ} {w : Spot} → Wrote part s mid v end w → Along p (times part (n - 1)) s room u end w
+      pub times-on : {end : List ℕ} {w : PacketSpot} → Wrote part s mid v end w → Along p (times part (n - 1)) s room u end w
       times-on o = along-on part (times part (n - 1)) more o
 
     pub times-end : n ≤ 0 → Wrote p s room u mid v
@@ -229,15 +229,15 @@ module _ {s room : List ℕ} {u : Spot} where
 
 -- ---- a field that is put alone, and whose number in the sheet is its value
 
-pub along-small : {p q : Format → Format} {s room mid : List ℕ} {u v : Spot} → Along p q s room u mid v → Ready p s room u → v .at < 2 ^ 32
+pub along-small : {p q : Format → Format} {s room mid : List ℕ} {u v : PacketSpot} → Along p q s room u mid v → Ready p s room u → v .at < 2 ^ 32
 along-small {q = q} l h = at-small (along-next q (λ f. f) l h)
 
-module _ {s room mid : List ℕ} {u v : Spot} {p : Format → Format} (k : Kind) (part : ℕ → Format → Format) (l : Along p (λ f. field k (λ x. part x f)) s room u mid v)
+module _ {s room mid : List ℕ} {u v : PacketSpot} {p : Format → Format} (k : Kind) (part : ℕ → Format → Format) (l : Along p (λ f. field k (λ x. part x f)) s room u mid v)
     (h : Ready p s room u) where
   pub along-there : There s (v .from)
   along-there = gone-there h refl k part (l .gone)
 
-  module _ {t : Taken} (d : Reads s (v .from) t) (b : Bool) (e : k .lower (t .value) ≡ when b (t .value)) where
+  module _ {t : ReadNumber} (d : Reads s (v .from) t) (b : Bool) (e : k .lower (t .value) ≡ when b (t .value)) where
     here : Has k s (v .from) (t .value) (t .next) (t .value)
     here = has-same (gone-has h refl k part (l .gone) d) b e
 

@@ -11,7 +11,7 @@ use Rattle.format.specs.Format.{Format}
 use Rattle.format.specs.Media.{packet, sheet}
 use Rattle.format.specs.Tasks.{Told, recording}
 use Rattle.format.specs.Ways.{Way, passing, Went, Over, Ahead}
-use Rattle.packet_write_segment.specs.declared.elements.Spot.{Spot}
+use Rattle.packet_write_segment.specs.declared.elements.PacketSpot.{PacketSpot}
 
 -- the bits so far are carried from number to number
 abbrev pub writer : List ℕ → Way (List Bool) (Told (List Bool))
@@ -23,7 +23,7 @@ Few (Told.told x) = length x < 2 ^ 32
 Few (Told.not r at) = ⊥
 
 -- A part may be written from here: the sheet is accepted with what follows, after the bits that are put.
-pub record Ready (part : Format → Format) (s room : List ℕ) (p : Spot) : Type 0 where
+pub record Ready (part : Format → Format) (s room : List ℕ) (p : PacketSpot) : Type 0 where
   pub bytes : Bytes s
   pub inside : p .from ≤ length s
   pub bits : List Bool
@@ -36,7 +36,7 @@ pub record Puts (room : List ℕ) (at wait : ℕ) (bits : List Bool) (after : Li
   pub fills : (x : List Bool) → Filled x room at wait → Filled (x ++ bits) after to left
 
 -- A part is written: whatever follows it and whatever stands before it, writing from here is writing what follows from there.
-pub record Wrote (part : Format → Format) (s room : List ℕ) (p : Spot) (after : List ℕ) (q : Spot) : Type 0 where
+pub record Wrote (part : Format → Format) (s room : List ℕ) (p : PacketSpot) (after : List ℕ) (q : PacketSpot) : Type 0 where
   pub bits : List Bool
   pub over : (x : List Bool) → Over (writer s) part (p .from) x (Went.on (q .from) (x ++ bits))
   pub puts : Puts room (p .at) (p .wait) bits after (q .at) (q .wait)
