@@ -9,9 +9,6 @@ pub struct Converted {
     pub length: u32,
 }
 
-// The result is longer than the lent room.
-pub const TOO_LONG: u32 = 8;
-
 pub fn refused(refusal: u32, place: u32) -> Converted
     ensures { λ r. ⌜ r ≡ record { refusal = refusal; place = place; length = 0 } ⌝ }
 {

@@ -9,11 +9,11 @@ ghost use Rattle.grammar.specs.link.Link.{treeNumber, treeOf};
 ghost use Rattle.convert.specs.Convert.{packetToSheet};
 ghost use Rattle.convert.specs.Writers.{sheetOf, SheetWritable, fieldsOf, FieldsWritable, treeToSheet};
 use convert::Converted;
-use convert::TOO_LONG;
 use convert::done;
 use convert::refused;
 use grammar::link::Tree;
 use kinds::header;
+use kinds::refusals::SHORT_ROOM;
 use verdict::PacketVerdict;
 use verdict::frame::Frame;
 
@@ -58,7 +58,7 @@ fn tree_to_sheet(tree: Tree, packet: &[u8], room: &mut [u8]) -> Converted
         PacketVerdict::Refused(r, place) => refused(r, place),
         PacketVerdict::SheetBytes(n) => {
             if room.len() < n {
-                return refused(TOO_LONG, 0);
+                return refused(SHORT_ROOM, 0);
             }
             write_tree(tree, packet, room);
             done(n as u32)

@@ -12,11 +12,12 @@ ghost use Rattle.convert.specs.Writers.{bitsOfSheet, SheetAccepted, bodyBitsOf,
 ghost use Rattle.packet_write_segment.specs.elements.Writing.{Ready, Wrote};
 ghost use Rattle.convert_sheet.specs.Counted.{countedVerdict, treeBodyPart};
 use convert::Converted;
-use convert::TOO_LONG;
 use convert::done;
 use convert::refused;
 use grammar::link::Tree;
 use kinds::header;
+use kinds::refusals::LONG_BODY;
+use kinds::refusals::SHORT_ROOM;
 use numbers::Number;
 use packet_write_segment::elements::PacketSpot;
 use verdict::SheetVerdict;
@@ -82,7 +83,7 @@ fn counted(tree: Tree, sheet: &[u8]) -> SheetVerdict
         SheetVerdict::Refused(r, place) => SheetVerdict::Refused(r, place),
         SheetVerdict::PacketBits(n) => {
             if grammar::link::MOST_BITS + BEFORE_BODY < n {
-                return SheetVerdict::Refused(grammar::link::TOO_MANY_BITS, 0);
+                return SheetVerdict::Refused(LONG_BODY, 0);
             }
             SheetVerdict::PacketBits(n)
         }
@@ -100,7 +101,7 @@ fn tree_to_packet(tree: Tree, sheet: &[u8], room: &mut [u8]) -> Converted
             let bytes = (bits + 7) / 8;
             let length = HEADER + bytes;
             if room.len() < length {
-                return refused(TOO_LONG, 0);
+                return refused(SHORT_ROOM, 0);
             }
             let at = tree_header(tree, sheet, &mut room[..15], bits as u32);
             write_body(tree, sheet, at, &mut room[15..], bytes);

@@ -7,10 +7,10 @@ ghost use Rattle.kinds.specs.Kinds.{digits, nidOperational, speed, ncCdDiff, cl
 ghost use Rattle.kinds.specs.Judged.{valueInPacket};
 ghost use Rattle.kinds.specs.Rules.{meaning};
 ghost use Rattle.fields.specs.size.Counts.{bytesOf, BytesIn, mostClass};
-use kinds::LOCATION;
-use kinds::OUT_OF_RANGE;
 use kinds::Rule;
 use kinds::body;
+use kinds::refusals::CHANGE_LOCATION;
+use kinds::refusals::FIELD_VALUE;
 
 // Of a number below 16,384.
 pub fn short(v: u32) -> u32
@@ -218,9 +218,9 @@ fn after_refusal(v: u32) -> u32
     ensures { λ r. ⌜ r ≡ dEndAfter 0 .refusal v ⌝ }
 {
     if body::DLocation::LARGEST < v {
-        return OUT_OF_RANGE;
+        return FIELD_VALUE;
     }
-    LOCATION
+    CHANGE_LOCATION
 }
 
 // The refusal of a value that is not allowed.
@@ -234,13 +234,13 @@ pub fn refusal(rule: Rule, v: u32) -> u32
             largest: _,
             refusal,
         } => refusal,
-        Rule::Location { last: _, lsp: _ } => LOCATION,
-        Rule::Operational => OUT_OF_RANGE,
-        Rule::Speed => OUT_OF_RANGE,
-        Rule::Current => OUT_OF_RANGE,
-        Rule::Cant => OUT_OF_RANGE,
-        Rule::Volts => OUT_OF_RANGE,
+        Rule::Location { last: _, lsp: _ } => CHANGE_LOCATION,
+        Rule::Operational => FIELD_VALUE,
+        Rule::Speed => FIELD_VALUE,
+        Rule::Current => FIELD_VALUE,
+        Rule::Cant => FIELD_VALUE,
+        Rule::Volts => FIELD_VALUE,
         Rule::After { start: _ } => after_refusal(v),
-        Rule::NoCurrent => OUT_OF_RANGE,
+        Rule::NoCurrent => FIELD_VALUE,
     }
 }

@@ -1,4 +1,4 @@
-// Both packets of the link, segments and journeys, are one tree from the packet number on; the code has their names, and the refusal of a body that is too long.
+// Both packets of the link, segments and journeys, are one tree from the packet number on; the code has their names, and the most bits of a body.
 ghost use mathlib.Core.Path.{_≡_};
 ghost use Rattle.grammar.specs.link.Link.{treeNumber, treeOf};
 use kinds::header;
@@ -9,10 +9,8 @@ pub enum Tree {
     Journey,
 }
 
-// The most bits of a body, and the refusal of a sheet whose packet would have more.
+// The most bits of a body: L_PACKET_ATO has 16.
 pub const MOST_BITS: usize = 65535;
-
-pub const TOO_MANY_BITS: u32 = 12;
 
 // The packet number of a tree.
 pub fn number(tree: Tree) -> u32

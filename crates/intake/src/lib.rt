@@ -2,9 +2,10 @@
 ghost use mathlib.Core.Path.{_≡_};
 ghost use Rattle.intake.specs.Intake.{gathering, passed, judgedAs, gathered, gathersAt, delivered, completed, asked};
 use convert::Converted;
-use convert::TOO_LONG;
 use convert::refused;
 use convert_packet::tree_of;
+use kinds::refusals::SHORT_ROOM;
+use kinds::refusals::TOO_EARLY;
 use verdict::PacketVerdict;
 
 // The phase; the bytes that are in the room or were judged; the verdict's refusal and its place.
@@ -20,9 +21,6 @@ pub struct Intake {
 const PASSED: u32 = 1;
 
 const JUDGED: u32 = 2;
-
-// The sheet was asked for too early, or the packet's room was cut short.
-pub const TOO_EARLY: u32 = 14;
 
 // The most bytes that the state can count.
 const MOST: usize = 4294967295;
@@ -115,7 +113,7 @@ fn verdict(n: u32, room: &[u8]) -> Intake
     ensures { λ r. ⌜ r ≡ completed (gathering n) (now (room .entry)) ⌝ }
 {
     if room.len() < n as usize {
-        return judge(0, TOO_LONG, 0);
+        return judge(0, SHORT_ROOM, 0);
     }
     let packet = &room[..n as usize];
     match packet_judge::judge_packet(tree_of(packet), packet) {
@@ -131,7 +129,7 @@ pub fn complete(intake: Intake, room: &[u8]) -> Intake
     if intake.phase != PASSED {
         return verdict(in_room(intake), room);
     }
-    judge(0, TOO_LONG, 0)
+    judge(0, SHORT_ROOM, 0)
 }
 
 // The sheet of the packet that was judged, which stands in the room that took it.

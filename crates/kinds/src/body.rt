@@ -2,8 +2,8 @@
 ghost use mathlib.Core.Path.{_≡_};
 ghost use Rattle.kinds.specs.Kinds.{nidC, nidSp, mSpVersion, lSp, dEoAOffset, qUtcOffset, mSpAltitude, speed, qFront, nIter, qDiff, ncCdDiff, ncDiff, class, dLocation, mVoltage, nidCTraction, mCurrent};
 ghost use Rattle.kinds.specs.Rules.{Keeps, meaning};
-use crate::OUT_OF_RANGE;
 use crate::Rule;
+use crate::refusals::FIELD_VALUE;
 use crate::up_to;
 
 pub struct NidC;
@@ -66,7 +66,7 @@ impl LSp {
             width: Self::WIDTH,
             least: Self::LEAST,
             largest: Self::LARGEST,
-            refusal: OUT_OF_RANGE,
+            refusal: FIELD_VALUE,
         }
     }
 }

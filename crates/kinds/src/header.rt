@@ -1,8 +1,8 @@
 // The field kinds of a packet's header, in its order.
 ghost use Rattle.kinds.specs.Kinds.{nidPacketAto, lPacketAto, nidOperational, nidEngine, tTimestampDate, tTimestampSeconds, nPacketCounter};
 ghost use Rattle.kinds.specs.Rules.{Keeps};
-use crate::PACKET_NUMBER;
 use crate::Rule;
+use crate::refusals::PACKET_NUMBER;
 use crate::up_to;
 
 // 6 on our link.

@@ -1,12 +1,13 @@
 // The field kinds of the header and the body: a type each, with its width and its largest value, and the rule that judges its values.
+pub mod body;
+pub mod header;
 pub mod journey;
+pub mod refusals;
 
 ghost use mathlib.Core.Path.{_≡_};
 ghost use Rattle.kinds.specs.Kind.{upTo};
 ghost use Rattle.kinds.specs.Rules.{meaning};
-
-pub mod body;
-pub mod header;
+use crate::refusals::FIELD_VALUE;
 
 // A field's value: the sheet's number and the packet's.
 pub struct Item {
@@ -19,13 +20,6 @@ pub enum Field {
     Is(Item),
     Refused(u32),
 }
-
-// The refusals of a value: the packet number, a field outside its range or set, a change's location.
-pub const PACKET_NUMBER: u32 = 2;
-
-pub const OUT_OF_RANGE: u32 = 4;
-
-pub const LOCATION: u32 = 5;
 
 // What judges the values of a kind.
 pub enum Rule {
@@ -62,6 +56,6 @@ pub fn up_to(width: u32, largest: u32) -> Rule
         width,
         least: 0,
         largest,
-        refusal: OUT_OF_RANGE,
+        refusal: FIELD_VALUE,
     }
 }

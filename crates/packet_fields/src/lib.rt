@@ -7,10 +7,11 @@ ghost use Rattle.kinds.specs.Rules.{meaning};
 ghost use Rattle.format.specs.Format.{then};
 ghost use Rattle.grammar.specs.segment.Segment as segment;
 ghost use Rattle.packet_fields.specs.Judging.{Standing, Wide, Took, Over};
-use kinds::LOCATION;
-use kinds::OUT_OF_RANGE;
 use kinds::Rule;
 use kinds::body;
+use kinds::refusals::BODY_BITS;
+use kinds::refusals::CHANGE_LOCATION;
+use kinds::refusals::FIELD_VALUE;
 
 // The place after a part with the bytes counted so far, or a refusal and its place.
 pub enum PacketStep {
@@ -31,7 +32,7 @@ pub fn field(s: &[u8], stop: usize, at: usize, n: usize, rule: Rule) -> PacketVa
 {
     let width = fields::width(rule);
     if stop - at < width as usize {
-        return PacketValue::Refused(verdict::UNFIT, at as u32);
+        return PacketValue::Refused(BODY_BITS, at as u32);
     }
     let v = bits::read_window(s, at, width);
     let bytes = fields::size::by(rule, v);
@@ -62,12 +63,12 @@ pub fn count(s: &[u8], stop: usize, at: usize, n: usize, limit: u32) -> PacketVa
     ensures { λ r. ⌜ Took (nIter limit) (now (s .entry)) stop at n r ⌝ }
 {
     if stop - at < COUNT {
-        return PacketValue::Refused(verdict::UNFIT, at as u32);
+        return PacketValue::Refused(BODY_BITS, at as u32);
     }
     let v = bits::read_window(s, at, body::NIter::WIDTH);
     let bytes = fields::size::one(limit, v);
     if bytes == 0 {
-        return PacketValue::Refused(OUT_OF_RANGE, at as u32);
+        return PacketValue::Refused(FIELD_VALUE, at as u32);
     }
     PacketValue::Is(v, at + COUNT, n + bytes as usize)
 }
@@ -80,12 +81,12 @@ pub fn location(s: &[u8], stop: usize, at: usize, n: usize, last: u32, lsp: u32)
     ensures { λ r. ⌜ Took (dLocation last lsp) (now (s .entry)) stop at n r ⌝ }
 {
     if stop - at < PLACE {
-        return PacketValue::Refused(verdict::UNFIT, at as u32);
+        return PacketValue::Refused(BODY_BITS, at as u32);
     }
     let v = bits::read_window(s, at, body::DLocation::WIDTH);
     let bytes = fields::size::location(last, lsp, v);
     if bytes == 0 {
-        return PacketValue::Refused(LOCATION, at as u32);
+        return PacketValue::Refused(CHANGE_LOCATION, at as u32);
     }
     PacketValue::Is(v, at + PLACE, n + bytes as usize)
 }
@@ -98,11 +99,11 @@ pub fn current(s: &[u8], stop: usize, at: usize, n: usize) -> PacketStep
     ensures { λ r. ⌜ Over segment.current (now (s .entry)) stop at n r ⌝ }
 {
     if stop - at < CURRENT {
-        return PacketStep::Refused(verdict::UNFIT, at as u32);
+        return PacketStep::Refused(BODY_BITS, at as u32);
     }
     let bytes = fields::size::current(bits::read_window(s, at, body::MCurrent::WIDTH));
     if bytes == 0 {
-        return PacketStep::Refused(OUT_OF_RANGE, at as u32);
+        return PacketStep::Refused(FIELD_VALUE, at as u32);
     }
     PacketStep::On(at + CURRENT, n + bytes as usize)
 }

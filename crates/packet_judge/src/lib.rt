@@ -15,6 +15,8 @@ use grammar::link::Tree;
 use grammar::segment::Part;
 use grammar::segment::WIRE_CHANGES;
 use kinds::body;
+use kinds::refusals::BITS_LEFT;
+use kinds::refusals::PADDING_BIT;
 use packet_fields::PacketStep;
 use packet_fields::PacketValue;
 use verdict::PacketVerdict;
@@ -125,7 +127,7 @@ fn packet_fields(tree: Tree, s: &[u8], stop: usize) -> PacketVerdict
             if at == stop {
                 return PacketVerdict::SheetBytes(n);
             }
-            PacketVerdict::Refused(verdict::BITS_LEFT, at as u32)
+            PacketVerdict::Refused(BITS_LEFT, at as u32)
         }
     }
 }
@@ -150,7 +152,7 @@ pub fn judge_packet(tree: Tree, s: &[u8]) -> PacketVerdict
                 if one == 8 * s.len() {
                     PacketVerdict::SheetBytes(n)
                 } else {
-                    PacketVerdict::Refused(verdict::frame::PADDING, one as u32)
+                    PacketVerdict::Refused(PADDING_BIT, one as u32)
                 }
             }
         },

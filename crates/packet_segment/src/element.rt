@@ -7,8 +7,8 @@ ghost use Rattle.grammar.specs.segment.Parts.{startOf};
 ghost use Rattle.packet_fields.specs.Judging.{Standing, Over, Gave};
 ghost use Rattle.packet_segment.specs.element.Profile.{profileHead, nameBytes, pastEntry};
 use grammar::segment::Part;
-use kinds::OUT_OF_RANGE;
 use kinds::body;
+use kinds::refusals::FIELD_VALUE;
 use packet_fields::PacketStep;
 use packet_fields::PacketValue;
 
@@ -97,7 +97,7 @@ fn whole_entries(s: &[u8], stop: usize, at: usize, n: usize, count: u32) -> Pack
     while 0 < left {
         let bytes = whole_entry(s, stop, to, m);
         if FAULT <= bytes {
-            return PacketStep::Refused(OUT_OF_RANGE, (to + (bytes - FAULT)) as u32);
+            return PacketStep::Refused(FIELD_VALUE, (to + (bytes - FAULT)) as u32);
         }
         to += ENTRY;
         m += bytes;
@@ -176,7 +176,7 @@ fn profile_head(s: &[u8], stop: usize, at: usize, n: usize) -> PacketValue
     let t = bits::read_window(s, at, HEAD as u32);
     let speed = fields::size::speed(t / 64);
     if speed == 0 {
-        return PacketValue::Refused(OUT_OF_RANGE, at as u32);
+        return PacketValue::Refused(FIELD_VALUE, at as u32);
     }
     PacketValue::Is(t % 32, at + HEAD, n + speed as usize + 2)
 }
@@ -223,11 +223,11 @@ fn wire(s: &[u8], stop: usize, at: usize, n: usize) -> PacketStep
     let t = bits::read_window(s, at, WIRE as u32);
     let volts = fields::size::volts(t / 1024);
     if volts == 0 {
-        return PacketStep::Refused(OUT_OF_RANGE, at as u32);
+        return PacketStep::Refused(FIELD_VALUE, at as u32);
     }
     let traction = fields::size::traction(t / 1024, t % 1024);
     if traction == 0 {
-        return PacketStep::Refused(OUT_OF_RANGE, (at + VOLTAGE) as u32);
+        return PacketStep::Refused(FIELD_VALUE, (at + VOLTAGE) as u32);
     }
     PacketStep::On(at + WIRE, n + volts as usize + traction as usize)
 }

@@ -17,7 +17,7 @@ use Rattle.grammar.proofs.link.Values.{either-sheet-taken}
 use Rattle.grammar.proofs.link.Segments.{on-link}
 use Rattle.speed.specs.declared.Train.{Train}
 use Rattle.speed_question.specs.declared.Speed.{Speed}
-use Rattle.speed_question.specs.Question.{Brought, kindOf, permittedSpeed}
+use Rattle.speed_question.specs.Question.{Brought, mediumOf, permittedSpeed}
 use Rattle.convert.specs.Convert.{successWith, sheetToPacket}
 use Rattle.promises.specs.Promised.{SegmentValues, segmentOf, ConvertibleSheet, Answerable, answerInFives, GreatestFive, Agreeing, Done, result}
 use Rattle.promises.proofs.Agreeing.{packets-agree, agreeing-packets}
@@ -67,7 +67,7 @@ pub speed-again : (s room : List ℕ) (t : Train) (x : ℕ) → Bytes s → Done
     → Lowered s (result (sheetToPacket s room)) t x
 speed-again s room t x ok d a = go (a .brought) (a .named) (a .good) (a .whole)
   where
-    go : (b : Brought) → 1 ≡ kindOf b → SegmentValues b (a .values) → s ≡ segmentOf b (a .values) → Lowered s (result (sheetToPacket s room)) t x
+    go : (b : Brought) → 1 ≡ mediumOf b → SegmentValues b (a .values) → s ≡ segmentOf b (a .values) → Lowered s (result (sheetToPacket s room)) t x
     go Brought.packet k good whole = absurd (omega arith)
     go Brought.sheet k good whole =
         let c = sheet-converted s room ok .0 d in

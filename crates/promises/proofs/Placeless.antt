@@ -91,7 +91,7 @@ conversion-place : {Own : ℕ → ℕ → Type 0} → ((r place : ℕ) → Own r
 conversion-place none r place (ConversionGround.own g) a = none r place g a
 conversion-place none r place (ConversionGround.shortRoom w h e p) a = p
 
-question-place : {kind : ℕ} {s : List ℕ} {t : Train} {x : ℕ} (r place : ℕ) → SpeedGround kind s t x r place → Among r placeless → place ≡ 0
+question-place : {medium : ℕ} {s : List ℕ} {t : Train} {x : ℕ} (r place : ℕ) → SpeedGround medium s t x r place → Among r placeless → place ≡ 0
 question-place r place (SpeedGround.neither n e p) a = p
 question-place {s = s} r place (SpeedGround.own b k g) a = segment-place b s r place g a
 question-place r place (SpeedGround.badTrain b k w v e p) a = p
@@ -122,18 +122,18 @@ module _ (s : List ℕ) (ok : Bytes s) where
             said-place (sheetToPacket s room .answer .refusal, sheetToPacket s room .answer .place) (sheet-to-packet-refused s ok room)
             (λ r place g b. conversion-place (either-sheet-place s) r place g b) (among-positive l refl) a
 
-  pub permitted-speed-placeless : (kind : ℕ) (t : Train) (x : ℕ) → Among (permittedSpeed kind s t x .refusal) placeless → permittedSpeed kind s t x .place ≡ 0
-  permitted-speed-placeless kind t x a = go (permitted-speed-outcome kind s t x ok .ends (permittedSpeed kind s t x) refl)
+  pub permitted-speed-placeless : (medium : ℕ) (t : Train) (x : ℕ) → Among (permittedSpeed medium s t x .refusal) placeless → permittedSpeed medium s t x .place ≡ 0
+  permitted-speed-placeless medium t x a = go (permitted-speed-outcome medium s t x ok .ends (permittedSpeed medium s t x) refl)
     where
       positive : (b : Brought) {r : ℕ} → Among r (speedRefusals b) → 1 ≤ r
       positive Brought.packet l = among-positive l refl
       positive Brought.sheet l = among-positive l refl
 
-      go : SpeedEnds kind (permittedSpeed kind s t x) → permittedSpeed kind s t x .place ≡ 0
+      go : SpeedEnds medium (permittedSpeed medium s t x) → permittedSpeed medium s t x .place ≡ 0
       go (SpeedEnds.success b k e p v) = p
       go (SpeedEnds.neither n e p v) = p
       go (SpeedEnds.refusal b k l n) =
-          said-place (permittedSpeed kind s t x .refusal, permittedSpeed kind s t x .place) (permitted-speed-refused kind s t x ok)
+          said-place (permittedSpeed medium s t x .refusal, permittedSpeed medium s t x .place) (permitted-speed-refused medium s t x ok)
           (λ r place g c. question-place r place g c) (positive b l) a
 
   pub altitude-of-packet-placeless : Among (altitudeOf s .refusal) placeless → altitudeOf s .place ≡ 0

@@ -16,8 +16,8 @@ use Rattle.format.specs.Grounds.{Ending, grounded, OneEnding}
 use Rattle.speed.specs.declared.Train.{Train}
 use Rattle.speed.specs.Speed.{validTrain, segmentLength, speedIn, inFives}
 use Rattle.speed_question.specs.declared.Speed.{Speed}
-use Rattle.speed_question.specs.Question.{Brought, kindOf, noSpeed, speedOfValues, readAs, permittedSpeed}
-use Rattle.speed_question.proofs.Asked.{either-kind, asked, neither-first}
+use Rattle.speed_question.specs.Question.{Brought, mediumOf, noSpeed, speedOfValues, readAs, permittedSpeed}
+use Rattle.speed_question.proofs.Asked.{either-medium, asked, neither-first}
 use Rattle.promises.specs.Promised.{goodIn, SegmentValues, SegmentOfValues, Answerable, LengthOf, heldAt, LowestOf}
 use Rattle.promises.specs.Refused.{Refuses, SpeedGround}
 use Rattle.promises.specs.Ranges.{SpeedEnds, OneOutcome}
@@ -27,26 +27,26 @@ use Rattle.promises.proofs.Standing.{length-stands}
 use Rattle.promises.proofs.Refused.{segments-on, one-outcome, one-ending, of-values, taken, own-refused, by-judge}
 use Rattle.promises.proofs.Ranges.{packet-speed-fives, highest, own-listed, late-listed}
 
-module _ (kind : ℕ) (s : List ℕ) (t : Train) (x : ℕ) where
+module _ (medium : ℕ) (s : List ℕ) (t : Train) (x : ℕ) where
   -- ==== "Every permitted speed is the one the speed rules give."
 
   -- where a question can be answered, the answer is the permitted speed of the values
-  pub permitted-speed-value : (c : Answerable kind s t x) → permittedSpeed kind s t x ≡ record { refusal = 0; place = 0; speed = speedIn t x (sheetNumbers (c .values)) }
+  pub permitted-speed-value : (c : Answerable medium s t x) → permittedSpeed medium s t x ≡ record { refusal = 0; place = 0; speed = speedIn t x (sheetNumbers (c .values)) }
   permitted-speed-value c =
       let b = c .brought in
       let l = c .values in
       asked s t x b (c .named) ∙ ap (answerOf noSpeed (speedOfValues t x)) (ap (readAs b) (c .whole) ∙ segments b .again l (c .good))
       ∙ rw (c .valid, lt-ltb x (segmentLength (sheetNumbers l)) (c .inside))
 
-  -- and it is answered exactly for a kind of 0 or 1, a packet or a sheet of good values, a valid train and an x below L_SP
-  pub permitted-speed-answered : Bytes s → (permittedSpeed kind s t x .refusal ≡ 0) ↔ Answerable kind s t x
+  -- and it is answered exactly for a medium of 0 or 1, a packet or a sheet of good values, a valid train and an x below L_SP
+  pub permitted-speed-answered : Bytes s → (permittedSpeed medium s t x .refusal ≡ 0) ↔ Answerable medium s t x
   permitted-speed-answered ok = (
-    λ d. either-kind kind (λ b e. go b e (readAs b s) refl (sym (ap (λ (o : Speed). o .refusal) (asked s t x b e)) ∙ d))
+    λ d. either-medium medium (λ b e. go b e (readAs b s) refl (sym (ap (λ (o : Speed). o .refusal) (asked s t x b e)) ∙ d))
         (λ n. let z : 15 ≡ 0 = sym (ap (λ (o : Speed). o .refusal) (neither-first s t x n)) ∙ d in absurd (omega arith)),
     λ c. ap (λ (o : Speed). o .refusal) (permitted-speed-value c),
   )
     where
-      inside : (b : Brought) → kind ≡ kindOf b → (l : List Item) → readAs b s ≡ accepted l → speedOfValues t x l .refusal ≡ 0 → Answerable kind s t x
+      inside : (b : Brought) → medium ≡ mediumOf b → (l : List Item) → readAs b s ≡ accepted l → speedOfValues t x l .refusal ≡ 0 → Answerable medium s t x
       inside b k l e d =
           let p = segments b .only s l ok e in
           by-cases (validTrain t)
@@ -55,18 +55,18 @@ module _ (kind : ℕ) (s : List ℕ) (t : Train) (x : ℕ) where
           (λ h. let z : _≡_ {A = ℕ} 11 0 = rw (v, h) at d in absurd (omega arith)))
           (λ v. let z : _≡_ {A = ℕ} 10 0 = rw v at d in absurd (omega arith))
 
-      go : (b : Brought) → kind ≡ kindOf b → (r : Read) → readAs b s ≡ r → answerOf noSpeed (speedOfValues t x) r .refusal ≡ 0 → Answerable kind s t x
+      go : (b : Brought) → medium ≡ mediumOf b → (r : Read) → readAs b s ≡ r → answerOf noSpeed (speedOfValues t x) r .refusal ≡ 0 → Answerable medium s t x
       go b k (accepted l) e d = inside b k l e d
       go b k (refused q place) e d = absurd (omega (arith, segments b .refuses s ok q place e))
 
   -- it is "the lowest speed of the elements that hold there": some element holds, so it is never a speed that no element has
-  pub permitted-speed-held : (c : Answerable kind s t x) → LowestOf (permittedSpeed kind s t x .speed) (heldAt t x (sheetNumbers (c .values)))
+  pub permitted-speed-held : (c : Answerable medium s t x) → LowestOf (permittedSpeed medium s t x .speed) (heldAt t x (sheetNumbers (c .values)))
   permitted-speed-held c = rw (permitted-speed-value c) (lowest-held t x (sheetNumbers (c .values)) (c .inside))
 
   -- "a refusal .. returns its number with .. speed .. 0"
-  pub permitted-speed-none : (permittedSpeed kind s t x .refusal ≡ 0 → ⊥) → permittedSpeed kind s t x .speed ≡ 0
+  pub permitted-speed-none : (permittedSpeed medium s t x .refusal ≡ 0 → ⊥) → permittedSpeed medium s t x .speed ≡ 0
   permitted-speed-none n =
-      either-kind kind
+      either-medium medium
       (λ b e. ap (λ (o : Speed). o .speed) (asked s t x b e) ∙ go (readAs b s) (λ d. n (ap (λ (o : Speed). o .refusal) (asked s t x b e) ∙ d)))
       (λ m. ap (λ (o : Speed). o .speed) (neither-first s t x m))
     where
@@ -86,10 +86,10 @@ module _ (kind : ℕ) (s : List ℕ) (t : Train) (x : ℕ) where
     abbrev answer : Read → ℕ × ℕ
     answer j = said (answerOf noSpeed (speedOfValues t x) j)
 
-    pub permitted-speed-refused : (r place : ℕ) → Refuses (said (permittedSpeed kind s t x)) r place ↔ SpeedGround kind s t x r place
+    pub permitted-speed-refused : (r place : ℕ) → Refuses (said (permittedSpeed medium s t x)) r place ↔ SpeedGround medium s t x r place
     permitted-speed-refused r place = (only, given)
       where
-        inside : (b : Brought) → kind ≡ kindOf b → (l : List Item) → readAs b s ≡ accepted l → said (speedOfValues t x l) ≡ (r, place) → 1 ≤ r → SpeedGround kind s t x r place
+        inside : (b : Brought) → medium ≡ mediumOf b → (l : List Item) → readAs b s ≡ accepted l → said (speedOfValues t x l) ≡ (r, place) → 1 ≤ r → SpeedGround medium s t x r place
         inside b k l a e h =
             let w = of-values (segments b) (segments-on b) s ok l a in
             by-cases (validTrain t)
@@ -100,9 +100,9 @@ module _ (kind : ℕ) (s : List ℕ) (t : Train) (x : ℕ) where
             (λ v. let z : _≡_ {A = ℕ × ℕ} (10, 0) (r, place) = rw v at e in
             SpeedGround.badTrain b k w v (sym (ap (λ (u : ℕ × ℕ). u .0) z)) (sym (ap (λ (u : ℕ × ℕ). u .1) z)))
 
-        only : Refuses (said (permittedSpeed kind s t x)) r place → SpeedGround kind s t x r place
+        only : Refuses (said (permittedSpeed medium s t x)) r place → SpeedGround medium s t x r place
         only q =
-            either-kind kind
+            either-medium medium
             (λ b k. by-judge (segments b) (segments-on b) s ok answer r place (λ m p. refl) (sym (ap said (asked s t x b k)) ∙ q .0) (SpeedGround.own b k) (λ l a d. inside b k l a d (q .1)))
             (λ n. let z : _≡_ {A = ℕ × ℕ} (15, 0) (r, place) = sym (ap said (neither-first s t x n)) ∙ q .0 in
             SpeedGround.neither n (sym (ap (λ (u : ℕ × ℕ). u .0) z)) (sym (ap (λ (u : ℕ × ℕ). u .1) z)))
@@ -114,34 +114,34 @@ module _ (kind : ℕ) (s : List ℕ) (t : Train) (x : ℕ) where
         beyond l v h = rw (v, le-ltb x (segmentLength (sheetNumbers l)) h)
 
         -- what is said of values
-        of : (b : Brought) → kind ≡ kindOf b → (w : SegmentOfValues b s) → said (permittedSpeed kind s t x) ≡ said (speedOfValues t x (w .values))
+        of : (b : Brought) → medium ≡ mediumOf b → (w : SegmentOfValues b s) → said (permittedSpeed medium s t x) ≡ said (speedOfValues t x (w .values))
         of b k w = ap said (asked s t x b k) ∙ ap answer (taken (segments b) (segments-on b) s ok w)
 
-        given : SpeedGround kind s t x r place → Refuses (said (permittedSpeed kind s t x)) r place
+        given : SpeedGround medium s t x r place → Refuses (said (permittedSpeed medium s t x)) r place
         given (SpeedGround.neither n e p) = (ap said (neither-first s t x n) ∙ rw (e, p), omega arith)
         given (SpeedGround.own b k g) = let u = own-refused (segments b) (segments-on b) s ok r place g in (ap said (asked s t x b k) ∙ ap answer (u .0), u .1)
         given (SpeedGround.badTrain b k w v e p) = (of b k w ∙ bad (w .values) v ∙ rw (e, p), omega arith)
         given (SpeedGround.pastEnd b k w v h e p) = (of b k w ∙ beyond (w .values) v h ∙ rw (e, p), omega arith)
 
     -- "an answer or the one refusal"
-    pub permitted-speed-ending : OneEnding (Answerable kind s t x) {I = ℕ × ℕ} (λ p. SpeedGround kind s t x (p .0) (p .1))
-    permitted-speed-ending = one-ending (said (permittedSpeed kind s t x)) (permitted-speed-answered ok) permitted-speed-refused
+    pub permitted-speed-ending : OneEnding (Answerable medium s t x) {I = ℕ × ℕ} (λ p. SpeedGround medium s t x (p .0) (p .1))
+    permitted-speed-ending = one-ending (said (permittedSpeed medium s t x)) (permitted-speed-answered ok) permitted-speed-refused
 
     -- "one possible outcome for every input": the refusals of the C header, and the highest speed
-    pub permitted-speed-outcome : OneOutcome (permittedSpeed kind s t x) (SpeedEnds kind)
-    permitted-speed-outcome = one-outcome (permittedSpeed kind s t x) (go (permitted-speed-ending .ending))
+    pub permitted-speed-outcome : OneOutcome (permittedSpeed medium s t x) (SpeedEnds medium)
+    permitted-speed-outcome = one-outcome (permittedSpeed medium s t x) (go (permitted-speed-ending .ending))
       where
-        on : (r place : ℕ) → permittedSpeed kind s t x .refusal ≡ r → permittedSpeed kind s t x .speed ≡ 0 → SpeedGround kind s t x r place → SpeedEnds kind (permittedSpeed kind s t x)
+        on : (r place : ℕ) → permittedSpeed medium s t x .refusal ≡ r → permittedSpeed medium s t x .speed ≡ 0 → SpeedGround medium s t x r place → SpeedEnds medium (permittedSpeed medium s t x)
         on r place n z (SpeedGround.neither m e p) = rw (neither-first s t x m) (SpeedEnds.neither m refl refl refl)
         on r place n z (SpeedGround.own b k g) = SpeedEnds.refusal b k (rw n (own-listed b s r place g)) z
         on r place n z (SpeedGround.badTrain b k w v e p) = SpeedEnds.refusal b k (rw (n, e) (late-listed b .0)) z
         on r place n z (SpeedGround.pastEnd b k w v h e p) = SpeedEnds.refusal b k (rw (n, e) (late-listed b .1)) z
 
-        go : Ending (Answerable kind s t x) {I = ℕ × ℕ} (λ p. SpeedGround kind s t x (p .0) (p .1)) → SpeedEnds kind (permittedSpeed kind s t x)
+        go : Ending (Answerable medium s t x) {I = ℕ × ℕ} (λ p. SpeedGround medium s t x (p .0) (p .1)) → SpeedEnds medium (permittedSpeed medium s t x)
         go (Ending.answered c) = rw (permitted-speed-value c) (SpeedEnds.success (c .brought) (c .named) refl refl (highest (c .brought) t x (c .values) (c .good)))
         go (grounded p g) =
             let e = permitted-speed-refused (p .0) (p .1) .1 g in
-            let n : permittedSpeed kind s t x .refusal ≡ p .0 = ap (λ (u : ℕ × ℕ). u .0) (e .0) in
+            let n : permittedSpeed medium s t x .refusal ≡ p .0 = ap (λ (u : ℕ × ℕ). u .0) (e .0) in
             let h = e .1 in
             on (p .0) (p .1) n (permitted-speed-none (λ d. omega arith)) g
 
@@ -149,7 +149,7 @@ module _ (kind : ℕ) (s : List ℕ) (t : Train) (x : ℕ) where
 pub packet-fives : (s : List ℕ) (t : Train) (x : ℕ) → Answerable 0 s t x → permittedSpeed 0 s t x .speed ≡ permittedSpeed 0 s t x .speed / 5 * 5
 packet-fives s t x c = rw (permitted-speed-value 0 s t x c) (go (c .brought) (c .named) (c .good))
   where
-    go : (b : Brought) → 0 ≡ kindOf b → SegmentValues b (c .values) → speedIn t x (sheetNumbers (c .values)) ≡ inFives (speedIn t x (sheetNumbers (c .values)))
+    go : (b : Brought) → 0 ≡ mediumOf b → SegmentValues b (c .values) → speedIn t x (sheetNumbers (c .values)) ≡ inFives (speedIn t x (sheetNumbers (c .values)))
     go Brought.packet e g = packet-speed-fives t x (c .values) g
     go Brought.sheet e g = absurd (omega arith)
 

@@ -13,7 +13,7 @@ use Rattle.grammar.specs.link.Link.{fromEitherSheet, toEitherPacket, toEitherSh
 use Rattle.grammar.proofs.link.Values.{either-sheet-taken}
 use Rattle.grammar.proofs.link.Segments.{segment-accepted, on-link}
 use Rattle.speed.specs.declared.Train.{Train}
-use Rattle.speed_question.specs.Question.{Brought, kindOf, noSpeed, speedOfValues, permittedSpeed}
+use Rattle.speed_question.specs.Question.{Brought, mediumOf, noSpeed, speedOfValues, permittedSpeed}
 use Rattle.speed_question.proofs.Asked.{asked}
 use Rattle.altitude.specs.Altitude.{altitudeOfRead, altitudeOf}
 use Rattle.convert.specs.Convert.{converted, fitted, packetToSheet, sheetToPacket}
@@ -40,7 +40,7 @@ module _ {limit : ℕ} (h : limit ≤ wireChanges) (s : List ℕ) (ok : Bytes s)
       ap (λ (r : Read). converted toEitherPacket r room) now ∙ ap (λ (b : List ℕ). fitted b room) (o .samePacket ∙ sym (same-packet h l))
 
   -- each speed is the one that it gave
-  pub stored-speed : (b : Brought) (t : Train) (x : ℕ) → readAt b limit s ≡ accepted l → permittedSpeed (kindOf b) s t x ≡ speedOfValues t x l
+  pub stored-speed : (b : Brought) (t : Train) (x : ℕ) → readAt b limit s ≡ accepted l → permittedSpeed (mediumOf b) s t x ≡ speedOfValues t x l
   stored-speed Brought.packet t x e = asked s t x Brought.packet refl ∙ ap (answerOf noSpeed (speedOfValues t x)) (higher-packet h s l e)
   stored-speed Brought.sheet t x e = asked s t x Brought.sheet refl ∙ ap (answerOf noSpeed (speedOfValues t x)) (higher-sheet h s l ok e)
 

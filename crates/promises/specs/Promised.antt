@@ -22,7 +22,7 @@ use Rattle.grammar.specs.link.Grounds.{EitherPacketValues, EitherSheetValues}
 use Rattle.speed.specs.declared.Train.{Train}
 use Rattle.speed.specs.Speed.{validTrain, heldSpeeds, elementsFrom, segmentLength, profileOf, inFives}
 use Rattle.speed_question.specs.declared.Speed.{Speed}
-use Rattle.speed_question.specs.Question.{Brought, packet, sheet, kindOf}
+use Rattle.speed_question.specs.Question.{Brought, packet, sheet, mediumOf}
 use Rattle.convert.specs.Convert.{Outcome}
 
 -- a good value of a field: of a packet's, and of a sheet's
@@ -69,10 +69,10 @@ ConvertiblePacket s room = Convertible EitherPacketValues toEitherPacket toEithe
 abbrev pub ConvertibleSheet : List ℕ → List ℕ → Type 0
 ConvertibleSheet s room = Convertible EitherSheetValues toEitherSheet toEitherPacket s room
 
--- the kind is that of what is brought, which is written of good values, the train is valid, and x is "from 0 to L_SP - 1"
-pub record Answerable (kind : ℕ) (s : List ℕ) (t : Train) (x : ℕ) : Type 0 where
+-- the medium is that of what is brought, which is written of good values, the train is valid, and x is "from 0 to L_SP - 1"
+pub record Answerable (medium : ℕ) (s : List ℕ) (t : Train) (x : ℕ) : Type 0 where
   pub brought : Brought
-  pub named : kind ≡ kindOf brought
+  pub named : medium ≡ mediumOf brought
   pub values : List Item
   pub good : SegmentValues brought values
   pub whole : s ≡ segmentOf brought values

@@ -8,7 +8,7 @@ use lib.ListN.{length}
 use Rattle.format.specs.Grounds.{Among}
 use Rattle.convert.specs.Convert.{Outcome}
 use Rattle.speed_question.specs.declared.Speed.{Speed}
-use Rattle.speed_question.specs.Question.{Brought, packet, sheet, kindOf, Neither}
+use Rattle.speed_question.specs.Question.{Brought, packet, sheet, mediumOf, Neither}
 use Rattle.altitude.specs.declared.Altitude.{Altitude}
 use Rattle.altitude.specs.Altitude.{centimetres}
 use Rattle.promises.specs.Refused.{speedRefusals}
@@ -26,11 +26,11 @@ abbrev pub highestSpeed : Brought → ℕ
 highestSpeed packet = 600
 highestSpeed sheet = 604
 
--- a speed, or "It returns its number with .. speed .. 0"; 15 for a kind that is neither, and for no other
-pub data SpeedEnds (kind : ℕ) (o : Speed) : Type 0 where
-  success : (b : Brought) → kind ≡ kindOf b → o .refusal ≡ 0 → o .place ≡ 0 → o .speed ≤ highestSpeed b → SpeedEnds kind o
-  refusal : (b : Brought) → kind ≡ kindOf b → Among (o .refusal) (speedRefusals b) → o .speed ≡ 0 → SpeedEnds kind o
-  neither : Neither kind → o .refusal ≡ 15 → o .place ≡ 0 → o .speed ≡ 0 → SpeedEnds kind o
+-- a speed, or "It returns its number with .. speed .. 0"; 15 for a medium that is neither, and for no other
+pub data SpeedEnds (medium : ℕ) (o : Speed) : Type 0 where
+  success : (b : Brought) → medium ≡ mediumOf b → o .refusal ≡ 0 → o .place ≡ 0 → o .speed ≤ highestSpeed b → SpeedEnds medium o
+  refusal : (b : Brought) → medium ≡ mediumOf b → Among (o .refusal) (speedRefusals b) → o .speed ≡ 0 → SpeedEnds medium o
+  neither : Neither medium → o .refusal ≡ 15 → o .place ≡ 0 → o .speed ≡ 0 → SpeedEnds medium o
 
 -- "Altitude is -100,000 to 948,575 cm", and 0 to 1,048,575 as it is sent
 pub data AltitudeEnds (refusals : List ℕ) (o : Altitude) : Type 0 where

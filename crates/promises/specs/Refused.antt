@@ -14,7 +14,7 @@ use Rattle.grammar.specs.link.Link.{toEitherPacket, toEitherSheet}
 use Rattle.grammar.specs.link.Grounds.{EitherPacketGround, EitherSheetGround, EitherPacketValues, EitherSheetValues}
 use Rattle.speed.specs.declared.Train.{Train}
 use Rattle.speed.specs.Speed.{validTrain, segmentLength}
-use Rattle.speed_question.specs.Question.{Brought, packet, sheet, kindOf, Neither}
+use Rattle.speed_question.specs.Question.{Brought, packet, sheet, mediumOf, Neither}
 use Rattle.promises.specs.Promised.{OfValues, SegmentOfValues}
 
 -- "Every refusal carries its place": what an answer says is the refusal r at this place, and r is not 0, which is success
@@ -33,15 +33,15 @@ SegmentGround packet = PacketGround segmentNumber (fields wireChanges)
 SegmentGround sheet = SheetGround wireChanges
 
 -- "speed questions judge 10, then 11"; "For .. 10 to 12 .. and, unless said, numbers above 13 it is 0"
-pub data SpeedGround (kind : ℕ) (s : List ℕ) (t : Train) (x r place : ℕ) : Type 0 where
+pub data SpeedGround (medium : ℕ) (s : List ℕ) (t : Train) (x r place : ℕ) : Type 0 where
   -- "15, first of all, for a kind that is neither": nothing is said of the segment, the train and x
-  neither : Neither kind → r ≡ 15 → place ≡ 0 → SpeedGround kind s t x r place
-  own : (b : Brought) → kind ≡ kindOf b → SegmentGround b s r place → SpeedGround kind s t x r place
+  neither : Neither medium → r ≡ 15 → place ≡ 0 → SpeedGround medium s t x r place
+  own : (b : Brought) → medium ≡ mediumOf b → SegmentGround b s r place → SpeedGround medium s t x r place
   -- "10: train length or cant deficiency not allowed"
-  badTrain : (b : Brought) → kind ≡ kindOf b → SegmentOfValues b s → validTrain t ≡ false → r ≡ 10 → place ≡ 0 → SpeedGround kind s t x r place
+  badTrain : (b : Brought) → medium ≡ mediumOf b → SegmentOfValues b s → validTrain t ≡ false → r ≡ 10 → place ≡ 0 → SpeedGround medium s t x r place
   -- "11: x at or past L_SP"
-  pastEnd : (b : Brought) → kind ≡ kindOf b → (w : SegmentOfValues b s) → validTrain t ≡ true → segmentLength (sheetNumbers (w .values)) ≤ x → r ≡ 11 → place ≡ 0
-      → SpeedGround kind s t x r place
+  pastEnd : (b : Brought) → medium ≡ mediumOf b → (w : SegmentOfValues b s) → validTrain t ≡ true → segmentLength (sheetNumbers (w .values)) ≤ x → r ≡ 11 → place ≡ 0
+      → SpeedGround medium s t x r place
 
 -- ---- by name, with the refusals that the C header lists
 

@@ -51,8 +51,8 @@ convertedSheets = refusedSheets ++ firstSheet ∷ [] ∷ tooManyBits ∷ []
 -- the segment is judged before the train: a valid train is told of each that is refused. Of one that is not, with L_SP 1:
 -- 10, "train length .. not allowed", by a train of no length; 11, "x at or past L_SP", at 1
 abbrev questions : ℕ → List (List ℕ) → List ℕ → List Speed
-questions kind [] s = permittedSpeed kind s (trainOf 0 80 false false false) 1 ∷ permittedSpeed kind s plain 1 ∷ []
-questions kind (r ∷ l) s = permittedSpeed kind r plain 0 ∷ questions kind l s
+questions medium [] s = permittedSpeed medium s (trainOf 0 80 false false false) 1 ∷ permittedSpeed medium s plain 1 ∷ []
+questions medium (r ∷ l) s = permittedSpeed medium r plain 0 ∷ questions medium l s
 
 -- 15, "a kind that is neither": 2, with no byte and a train of no length; then the refusals of a packet and of a sheet
 abbrev pub askedSpeeds : List Speed

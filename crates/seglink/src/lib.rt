@@ -26,12 +26,17 @@ pub extern "C" fn seglink_sheet_to_packet(sheet: &[u8], room: &mut [u8]) -> Conv
     convert_sheet::sheet_to_packet(sheet, room)
 }
 
-// The permitted speed at x for a train, from a packet, kind 0, or a sheet, kind 1: a refusal's number and place, or 0 and the speed in km/h.
+// The permitted speed at x for a train, from a packet, medium 0, or a sheet, medium 1: a refusal's number and place, or 0 and the speed in km/h.
 #[no_mangle]
-pub extern "C" fn seglink_permitted_speed(kind: u32, segment: &[u8], train: Train, x: u32) -> Speed
-    ensures { λ r. ⌜ r ≡ permittedSpeed kind (now (segment .entry)) train x ⌝ }
+pub extern "C" fn seglink_permitted_speed(
+    medium: u32,
+    segment: &[u8],
+    train: Train,
+    x: u32,
+) -> Speed
+    ensures { λ r. ⌜ r ≡ permittedSpeed medium (now (segment .entry)) train x ⌝ }
 {
-    speed_question::permitted_speed(kind, segment, train, x)
+    speed_question::permitted_speed(medium, segment, train, x)
 }
 
 // The altitude of a packet in signed centimetres: a refusal's number and place, or 0 and the altitude.

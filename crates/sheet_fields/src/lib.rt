@@ -8,11 +8,12 @@ ghost use Rattle.kinds.specs.Kinds as kind;
 ghost use Rattle.kinds.specs.Tables.{cantFigures};
 ghost use Rattle.format.specs.Format.{then};
 ghost use Rattle.sheet_fields.specs.Judging.{Standing, Took, Over, Lowers};
-use kinds::LOCATION;
-use kinds::OUT_OF_RANGE;
 use kinds::body;
 use kinds::header;
 use kinds::journey::DTcEndLocation;
+use kinds::refusals::CHANGE_LOCATION;
+use kinds::refusals::FIELD_VALUE;
+use kinds::refusals::SHEET_FORM;
 
 // The place after a part with the bits counted so far, round 2 to the 32, or a refusal and its place.
 pub enum SheetStep {
@@ -32,10 +33,10 @@ fn lowered(at: usize, n: u32, count: u32, v: u32, none: u32, width: u32) -> Shee
     ensures { λ r. ⌜ Lowers at n count v none width r ⌝ }
 {
     if count == 0 {
-        return SheetStep::Refused(verdict::NO_NUMBER, at);
+        return SheetStep::Refused(SHEET_FORM, at);
     }
     if v == none {
-        return SheetStep::Refused(OUT_OF_RANGE, at);
+        return SheetStep::Refused(FIELD_VALUE, at);
     }
     SheetStep::On(at + count as usize, std::num::wrapping_add_u32(n, width))
 }
@@ -55,7 +56,7 @@ pub fn ranged(
 {
     let found = numbers::found_at(s, at);
     if found.count == 0 {
-        return SheetValue::Refused(verdict::NO_NUMBER, at);
+        return SheetValue::Refused(SHEET_FORM, at);
     }
     let v = found.value;
     if v < least {
@@ -88,7 +89,7 @@ pub fn single(s: &[u8], at: usize, n: u32, width: u32, largest: u32) -> SheetVal
             return SheetValue::Is(v, at + 1, std::num::wrapping_add_u32(n, width));
         }
     }
-    ranged(s, at, n, width, 0, largest, OUT_OF_RANGE)
+    ranged(s, at, n, width, 0, largest, FIELD_VALUE)
 }
 
 // A change's location, after the last one and before the segment's end.
@@ -98,14 +99,14 @@ pub fn location(s: &[u8], at: usize, n: u32, last: u32, lsp: u32) -> SheetValue
 {
     let a = numbers::found_at(s, at);
     if a.count == 0 {
-        return SheetValue::Refused(verdict::NO_NUMBER, at);
+        return SheetValue::Refused(SHEET_FORM, at);
     }
     let v = a.value;
     if v <= last {
-        return SheetValue::Refused(LOCATION, at);
+        return SheetValue::Refused(CHANGE_LOCATION, at);
     }
     if lsp <= v {
-        return SheetValue::Refused(LOCATION, at);
+        return SheetValue::Refused(CHANGE_LOCATION, at);
     }
     SheetValue::Is(
         v,
@@ -121,14 +122,14 @@ pub fn after(s: &[u8], at: usize, n: u32, start: u32) -> SheetStep
 {
     let a = numbers::found_at(s, at);
     if a.count == 0 {
-        return SheetStep::Refused(verdict::NO_NUMBER, at);
+        return SheetStep::Refused(SHEET_FORM, at);
     }
     let v = a.value;
     if DTcEndLocation::LARGEST < v {
-        return SheetStep::Refused(OUT_OF_RANGE, at);
+        return SheetStep::Refused(FIELD_VALUE, at);
     }
     if v <= start {
-        return SheetStep::Refused(LOCATION, at);
+        return SheetStep::Refused(CHANGE_LOCATION, at);
     }
     SheetStep::On(
         at + a.count as usize,
@@ -143,7 +144,7 @@ pub fn operational(s: &[u8], at: usize, n: u32) -> SheetStep
 {
     let a = numbers::found_at(s, at);
     if a.count == 0 {
-        return SheetStep::Refused(verdict::NO_NUMBER, at);
+        return SheetStep::Refused(SHEET_FORM, at);
     }
     if fields::size::digits_good(a.value) {
         return SheetStep::On(
@@ -151,7 +152,7 @@ pub fn operational(s: &[u8], at: usize, n: u32) -> SheetStep
             std::num::wrapping_add_u32(n, header::NidOperational::WIDTH),
         );
     }
-    SheetStep::Refused(OUT_OF_RANGE, at)
+    SheetStep::Refused(FIELD_VALUE, at)
 }
 
 // V_STATIC or V_DIFF.
@@ -195,11 +196,11 @@ pub fn voltage(s: &[u8], at: usize, n: u32) -> SheetValue
 {
     let a = numbers::found_at(s, at);
     if a.count == 0 {
-        return SheetValue::Refused(verdict::NO_NUMBER, at);
+        return SheetValue::Refused(SHEET_FORM, at);
     }
     let v = fields::lower::volts_place(a.value);
     if v == fields::lower::NO_VOLTAGE {
-        return SheetValue::Refused(OUT_OF_RANGE, at);
+        return SheetValue::Refused(FIELD_VALUE, at);
     }
     SheetValue::Is(
         v,
@@ -232,7 +233,7 @@ pub fn no_current(s: &[u8], at: usize, n: u32) -> SheetStep
 {
     let a = numbers::found_at(s, at);
     if a.count == 0 {
-        return SheetStep::Refused(verdict::NO_NUMBER, at);
+        return SheetStep::Refused(SHEET_FORM, at);
     }
     if a.value == 0 {
         return SheetStep::On(
@@ -240,5 +241,5 @@ pub fn no_current(s: &[u8], at: usize, n: u32) -> SheetStep
             std::num::wrapping_add_u32(n, body::MCurrent::WIDTH),
         );
     }
-    SheetStep::Refused(OUT_OF_RANGE, at)
+    SheetStep::Refused(FIELD_VALUE, at)
 }

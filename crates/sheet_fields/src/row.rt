@@ -6,7 +6,7 @@ ghost use Rattle.sheet_fields.specs.Judging.{Standing, Over};
 use crate::SheetStep;
 use crate::SheetValue;
 use crate::ranged;
-use kinds::OUT_OF_RANGE;
+use kinds::refusals::FIELD_VALUE;
 
 // The fields of these widths, each at most its largest value.
 pub fn row(s: &[u8], at: usize, n: u32, widths: &[u32], most: &[u32]) -> SheetStep
@@ -17,7 +17,7 @@ pub fn row(s: &[u8], at: usize, n: u32, widths: &[u32], most: &[u32]) -> SheetSt
     let mut m = n;
     let mut i = 0;
     while i < widths.len() {
-        match ranged(s, to, m, widths[i], 0, most[i], OUT_OF_RANGE) {
+        match ranged(s, to, m, widths[i], 0, most[i], FIELD_VALUE) {
             SheetValue::Refused(r, place) => {
                 return SheetStep::Refused(r, place);
             }

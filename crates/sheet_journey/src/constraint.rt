@@ -4,7 +4,6 @@ ghost use Rattle.format.specs.Format.{then, times};
 ghost use Rattle.kinds.specs.journey.Kinds as kind;
 ghost use Rattle.grammar.specs.journey.Journey as journey;
 ghost use Rattle.sheet_fields.specs.Judging.{Standing, Over};
-use kinds::OUT_OF_RANGE;
 use kinds::journey::DTcEndLocation;
 use kinds::journey::DTcStartLocation;
 use kinds::journey::QLowAdhesionRate;
@@ -12,6 +11,7 @@ use kinds::journey::QTcFront;
 use kinds::journey::QTcRange;
 use kinds::journey::QTcType;
 use kinds::journey::VSpeedLevel;
+use kinds::refusals::FIELD_VALUE;
 use sheet_fields::SheetStep;
 use sheet_fields::SheetValue;
 use sheet_fields::after;
@@ -24,7 +24,7 @@ fn up_to(s: &[u8], at: usize, n: u32, width: u32, most: u32) -> SheetStep
     requires { ⌜ Standing (now s) at ⌝ }
     ensures { λ r. ⌜ Over (then (upTo width most)) (now (s .entry)) at n r ⌝ }
 {
-    match ranged(s, at, n, width, 0, most, OUT_OF_RANGE) {
+    match ranged(s, at, n, width, 0, most, FIELD_VALUE) {
         SheetValue::Refused(r, place) => SheetStep::Refused(r, place),
         SheetValue::Is(_, to, m) => SheetStep::On(to, m),
     }
@@ -53,7 +53,7 @@ fn stretch(s: &[u8], at: usize, n: u32, range: u32) -> SheetStep
         DTcStartLocation::WIDTH,
         0,
         DTcStartLocation::most(range),
-        OUT_OF_RANGE,
+        FIELD_VALUE,
     ) {
         SheetValue::Refused(r, place) => SheetStep::Refused(r, place),
         SheetValue::Is(start, at2, n2) => end(s, at2, n2, range, start),
@@ -99,7 +99,7 @@ fn constraint(s: &[u8], at: usize, n: u32) -> SheetStep
     requires { ⌜ Standing (now s) at ⌝ }
     ensures { λ r. ⌜ Over journey.temporaryConstraint (now (s .entry)) at n r ⌝ }
 {
-    match ranged(s, at, n, QTcType::WIDTH, 0, QTcType::LARGEST, OUT_OF_RANGE) {
+    match ranged(s, at, n, QTcType::WIDTH, 0, QTcType::LARGEST, FIELD_VALUE) {
         SheetValue::Refused(r, place) => SheetStep::Refused(r, place),
         SheetValue::Is(of, at2, n2) => match ranged(
             s,
@@ -108,7 +108,7 @@ fn constraint(s: &[u8], at: usize, n: u32) -> SheetStep
             QTcRange::WIDTH,
             0,
             QTcRange::LARGEST,
-            OUT_OF_RANGE,
+            FIELD_VALUE,
         ) {
             SheetValue::Refused(r, place) => SheetStep::Refused(r, place),
             SheetValue::Is(range, at3, n3) => match stretch(s, at3, n3, range) {

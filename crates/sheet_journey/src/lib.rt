@@ -9,10 +9,10 @@ ghost use Rattle.grammar.specs.journey.Parts as parts;
 ghost use Rattle.sheet_fields.specs.Judging.{Standing, Over};
 use crate::point::points;
 use grammar::journey::CONSTRAINTS;
-use kinds::OUT_OF_RANGE;
 use kinds::body::NIter;
 use kinds::journey::NIterSp;
 use kinds::journey::QJpStatus;
+use kinds::refusals::FIELD_VALUE;
 use sheet_fields::SheetStep;
 use sheet_fields::SheetValue;
 use sheet_fields::operational;
@@ -24,7 +24,7 @@ fn constraints(s: &[u8], at: usize, n: u32) -> SheetStep
     requires { ⌜ Standing (now s) at ⌝ }
     ensures { λ r. ⌜ Over (parts.constraintList journey.constraints) (now (s .entry)) at n r ⌝ }
 {
-    match ranged(s, at, n, NIter::WIDTH, 0, CONSTRAINTS, OUT_OF_RANGE) {
+    match ranged(s, at, n, NIter::WIDTH, 0, CONSTRAINTS, FIELD_VALUE) {
         SheetValue::Refused(r, place) => SheetStep::Refused(r, place),
         SheetValue::Is(count, at2, n2) => crate::constraint::constraints(s, at2, n2, count),
     }
@@ -54,7 +54,7 @@ fn segment(s: &[u8], at: usize, n: u32) -> SheetStep
             NIter::WIDTH,
             0,
             NIter::LARGEST,
-            OUT_OF_RANGE,
+            FIELD_VALUE,
         ) {
             SheetValue::Refused(r, place) => SheetStep::Refused(r, place),
             SheetValue::Is(count, at3, n3) => match points(s, at3, n3, count) {
@@ -100,7 +100,7 @@ fn body(s: &[u8], at: usize, n: u32) -> SheetStep
         QJpStatus::WIDTH,
         0,
         QJpStatus::LARGEST,
-        OUT_OF_RANGE,
+        FIELD_VALUE,
     ) {
         SheetValue::Refused(r, place) => SheetStep::Refused(r, place),
         SheetValue::Is(_, at2, n2) => match ranged(
@@ -110,7 +110,7 @@ fn body(s: &[u8], at: usize, n: u32) -> SheetStep
             NIterSp::WIDTH,
             0,
             NIterSp::LARGEST,
-            OUT_OF_RANGE,
+            FIELD_VALUE,
         ) {
             SheetValue::Refused(r, place) => SheetStep::Refused(r, place),
             SheetValue::Is(count, at3, n3) => segments(s, at3, n3, count),

@@ -4,8 +4,8 @@ ghost use Rattle.grammar.specs.rows.Rows as rows;
 ghost use Rattle.grammar.specs.journey.Journey as journey;
 ghost use Rattle.grammar.specs.journey.Parts as parts;
 ghost use Rattle.sheet_fields.specs.Judging.{Standing, Over};
-use kinds::OUT_OF_RANGE;
 use kinds::journey::QStopSkipPasses;
+use kinds::refusals::FIELD_VALUE;
 use sheet_fields::SheetStep;
 use sheet_fields::SheetValue;
 use sheet_fields::ranged;
@@ -48,7 +48,7 @@ fn point(s: &[u8], at: usize, n: u32) -> SheetStep
             QStopSkipPasses::WIDTH,
             0,
             QStopSkipPasses::LARGEST,
-            OUT_OF_RANGE,
+            FIELD_VALUE,
         ) {
             SheetValue::Refused(r, place) => SheetStep::Refused(r, place),
             SheetValue::Is(stop, at3, n3) => stopping_row(s, at3, n3, stop),

@@ -9,10 +9,11 @@ ghost use Rattle.verdict.specs.Verdict.{sheetVerdict};
 ghost use Rattle.sheet_fields.specs.Judging.{Standing, Over};
 ghost use Rattle.sheet_judge.specs.Whole.{afterPart, numbersPart};
 use grammar::link::Tree;
-use kinds::OUT_OF_RANGE;
-use kinds::PACKET_NUMBER;
 use kinds::body;
 use kinds::header;
+use kinds::refusals::FIELD_VALUE;
+use kinds::refusals::PACKET_NUMBER;
+use kinds::refusals::SHEET_FORM;
 use sheet_fields::SheetStep;
 use sheet_fields::SheetValue;
 use sheet_fields::operational;
@@ -65,7 +66,7 @@ fn run(s: &[u8], at: usize, n: u32, first: u32, end: u32) -> SheetStep
     while i < end {
         let width = widths[i as usize];
         let most = largest[i as usize];
-        match ranged(s, to, m, width, 0, most, OUT_OF_RANGE) {
+        match ranged(s, to, m, width, 0, most, FIELD_VALUE) {
             SheetValue::Refused(r, place) => {
                 return SheetStep::Refused(r, place);
             }
@@ -95,7 +96,7 @@ fn segment(s: &[u8], at: usize, n: u32) -> SheetStep
                 body::LSp::WIDTH,
                 body::LSp::LEAST,
                 body::LSp::LARGEST,
-                OUT_OF_RANGE,
+                FIELD_VALUE,
             ) {
                 SheetValue::Refused(r, place) => SheetStep::Refused(r, place),
                 SheetValue::Is(lsp, at4, n4) => match run(s, at4, n4, 10, 13) {
@@ -155,7 +156,7 @@ pub fn judge_sheet(tree: Tree, s: &[u8]) -> SheetVerdict
             if at == s.len() {
                 return SheetVerdict::PacketBits(n as usize);
             }
-            SheetVerdict::Refused(verdict::NO_NUMBER, at as u32)
+            SheetVerdict::Refused(SHEET_FORM, at as u32)
         }
     }
 }

@@ -11,8 +11,8 @@ ghost use Rattle.sheet_fields.specs.Judging.{Standing, Over};
 use fields::tables;
 use grammar::segment::Part;
 use grammar::segment::WIRE_CHANGES;
-use kinds::OUT_OF_RANGE;
 use kinds::body;
+use kinds::refusals::FIELD_VALUE;
 use sheet_fields::SheetStep;
 use sheet_fields::SheetValue;
 use sheet_fields::class;
@@ -104,7 +104,7 @@ fn wire(s: &[u8], at: usize, n: u32) -> SheetStep
             body::NidCTraction::WIDTH,
             0,
             most_traction(u),
-            OUT_OF_RANGE,
+            FIELD_VALUE,
         ) {
             SheetValue::Refused(r, place) => SheetStep::Refused(r, place),
             SheetValue::Is(_, at3, n3) => SheetStep::On(at3, n3),

@@ -1,4 +1,4 @@
--- The question by its kind: what is brought by 0 or 1 is answered as before, and a kind that is neither is refused, first of all.
+-- The question by its medium: what is brought by 0 or 1 is answered as before, and a medium that is neither is refused, first of all.
 -- Assumes nothing.
 use mathlib.Core.Path.{_≡_, refl}
 use mathlib.Core.List.{List}
@@ -10,24 +10,24 @@ use Rattle.format.specs.Format.{answerOf}
 use Rattle.grammar.specs.segment.Segment.{wireChanges}
 use Rattle.grammar.specs.segment.Judgement.{fromPacket, fromSheet}
 use Rattle.speed.specs.declared.Train.{Train}
-use Rattle.speed_question.specs.Question.{Brought, packet, sheet, kindOf, Neither, noSpeed, speedOfValues, speedFrom, permittedSpeed}
+use Rattle.speed_question.specs.Question.{Brought, packet, sheet, mediumOf, Neither, noSpeed, speedOfValues, speedFrom, permittedSpeed}
 
--- a kind is 0 or 1, or neither
-pub either-kind : {C : Type 0} (kind : ℕ) → ((b : Brought) → kind ≡ kindOf b → C) → (Neither kind → C) → C
-either-kind kind f g =
-    by-cases (eqb kind 0) (λ d. f packet (eqb-true kind 0 d))
-    (λ d. by-cases (eqb kind 1) (λ e. f sheet (eqb-true kind 1 e)) (λ e. g (eqb-false kind 0 d, eqb-false kind 1 e)))
+-- a medium is 0 or 1, or neither
+pub either-medium : {C : Type 0} (medium : ℕ) → ((b : Brought) → medium ≡ mediumOf b → C) → (Neither medium → C) → C
+either-medium medium f g =
+    by-cases (eqb medium 0) (λ d. f packet (eqb-true medium 0 d))
+    (λ d. by-cases (eqb medium 1) (λ e. f sheet (eqb-true medium 1 e)) (λ e. g (eqb-false medium 0 d, eqb-false medium 1 e)))
 
 module _ (s : List ℕ) (t : Train) (x : ℕ) where
-  pub asked : {kind : ℕ} (b : Brought) → kind ≡ kindOf b → permittedSpeed kind s t x ≡ speedFrom b s t x
+  pub asked : {medium : ℕ} (b : Brought) → medium ≡ mediumOf b → permittedSpeed medium s t x ≡ speedFrom b s t x
   unfolding permittedSpeed
   asked packet e = rw e
   asked sheet e = rw e
 
   -- "15, first of all, for a kind that is neither"
-  pub neither-first : {kind : ℕ} → Neither kind → permittedSpeed kind s t x ≡ noSpeed 15 0
+  pub neither-first : {medium : ℕ} → Neither medium → permittedSpeed medium s t x ≡ noSpeed 15 0
   unfolding permittedSpeed
-  neither-first {kind} n = rw (ne-eqb kind 0 (n .0), ne-eqb kind 1 (n .1))
+  neither-first {medium} n = rw (ne-eqb medium 0 (n .0), ne-eqb medium 1 (n .1))
 
   -- "Answers stay the same for each kind": what speed from a packet and speed from a sheet were
   pub same-answers : (permittedSpeed 0 s t x ≡ answerOf noSpeed (speedOfValues t x) (fromPacket wireChanges s)) × (permittedSpeed 1 s t x ≡ answerOf noSpeed (speedOfValues t x) (fromSheet wireChanges s))

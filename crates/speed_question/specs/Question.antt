@@ -1,4 +1,4 @@
--- The question on speed, as a total function of the kind, the bytes, the train and the place.
+-- The question on speed, as a total function of the medium, the bytes, the train and the place.
 -- Assumes nothing.
 use mathlib.Core.Path.{_≡_}
 use mathlib.Core.Bool.{cond}
@@ -33,13 +33,13 @@ pub data Brought : Type 0 where
   sheet : Brought
 
 -- "0 or 1"
-abbrev pub kindOf : Brought → ℕ
-kindOf packet = 0
-kindOf sheet = 1
+abbrev pub mediumOf : Brought → ℕ
+mediumOf packet = 0
+mediumOf sheet = 1
 
 -- "a kind that is neither"
 abbrev pub Neither : ℕ → Type 0
-Neither kind = (kind ≡ kindOf packet → ⊥) × (kind ≡ kindOf sheet → ⊥)
+Neither medium = (medium ≡ mediumOf packet → ⊥) × (medium ≡ mediumOf sheet → ⊥)
 
 -- "A packet is judged", "A sheet is judged": the values of what is brought, or its refusal
 abbrev pub readAs : Brought → List ℕ → Read
@@ -52,4 +52,4 @@ speedFrom b s t x = answerOf noSpeed (speedOfValues t x) (readAs b s)
 
 -- "15, first of all, for a kind that is neither"; "numbers above 13 it is 0"
 unfoldable pub permittedSpeed : ℕ → List ℕ → Train → ℕ → Speed
-permittedSpeed kind s t x = cond (eqb kind (kindOf packet)) (speedFrom packet s t x) (cond (eqb kind (kindOf sheet)) (speedFrom sheet s t x) (noSpeed 15 0))
+permittedSpeed medium s t x = cond (eqb medium (mediumOf packet)) (speedFrom packet s t x) (cond (eqb medium (mediumOf sheet)) (speedFrom sheet s t x) (noSpeed 15 0))

@@ -3,6 +3,9 @@
 ghost use mathlib.Core.Path.{_≡_};
 ghost use Rattle.speed_question.specs.Question.{Brought, judgedSpeed, speedFrom, permittedSpeed};
 use grammar::link::Tree;
+use kinds::refusals::PAST_END;
+use kinds::refusals::TRAIN_VALUE;
+use kinds::refusals::UNKNOWN_KIND;
 use speed::Train;
 use verdict::PacketVerdict;
 use verdict::SheetVerdict;
@@ -19,13 +22,6 @@ pub struct Speed {
 pub const PACKET: u32 = 0;
 
 pub const SHEET: u32 = 1;
-
-// The refusals of a question: the train, the place, and the kind.
-pub const BAD_TRAIN: u32 = 10;
-
-pub const PAST_END: u32 = 11;
-
-pub const UNKNOWN_KIND: u32 = 15;
 
 fn answer(refusal: u32, place: u32, speed: u32) -> Speed
     ensures { λ r. ⌜ r ≡ record { refusal = refusal; place = place; speed = speed } ⌝ }
@@ -47,7 +43,7 @@ fn refusal_of(train: Train, x: u32, lsp: u32) -> u32
         }
         return PAST_END;
     }
-    BAD_TRAIN
+    TRAIN_VALUE
 }
 
 // From a packet: its speeds times 5.
@@ -84,13 +80,13 @@ fn from_sheet(sheet: &[u8], train: Train, x: u32) -> Speed
 }
 
 // The permitted speed at x for a train, in a segment that is brought as a packet or as a sheet.
-pub fn permitted_speed(kind: u32, segment: &[u8], train: Train, x: u32) -> Speed
-    ensures { λ r. ⌜ r ≡ permittedSpeed kind (now (segment .entry)) train x ⌝ }
+pub fn permitted_speed(medium: u32, segment: &[u8], train: Train, x: u32) -> Speed
+    ensures { λ r. ⌜ r ≡ permittedSpeed medium (now (segment .entry)) train x ⌝ }
 {
-    if kind == PACKET {
+    if medium == PACKET {
         return from_packet(segment, train, x);
     }
-    if kind == SHEET {
+    if medium == SHEET {
         return from_sheet(segment, train, x);
     }
     answer(UNKNOWN_KIND, 0, 0)

@@ -5,18 +5,14 @@ ghost use lib.ListN.{length, drop};
 ghost use Rattle.bits.specs.Bits.{bitsOfBytes};
 ghost use Rattle.verdict.specs.frame.Framed.{frameOf, oneOrEnd};
 use kinds::header;
+use kinds::refusals::PACKET_LENGTH;
+use kinds::refusals::PACKET_NUMBER;
+use kinds::refusals::SHORT_PACKET;
 
 pub enum Frame {
     End(usize),
     Refused(u32),
 }
-
-// The refusals of a frame.
-pub const TOO_SHORT: u32 = 1;
-
-pub const OTHER_SIZE: u32 = 3;
-
-pub const PADDING: u32 = 7;
 
 // The bytes of a header, and the bits before its field NID_OPERATIONAL.
 pub const HEADER: usize = 15;
@@ -28,16 +24,16 @@ pub fn judge_frame(s: &[u8], number: u32) -> Frame
     ensures { λ r. ⌜ r ≡ frameOf number (now (s .entry)) ⌝ }
 {
     if s.len() < HEADER {
-        return Frame::Refused(TOO_SHORT);
+        return Frame::Refused(SHORT_PACKET);
     }
     if bits::read_field(s, 0, header::NidPacketAto::WIDTH) != number {
-        return Frame::Refused(kinds::PACKET_NUMBER);
+        return Frame::Refused(PACKET_NUMBER);
     }
     let body = bits::read_field(s, 8, header::LPacketAto::WIDTH) as usize;
     if s.len() == HEADER + (body + 7) / 8 {
         Frame::End(8 * HEADER + body)
     } else {
-        Frame::Refused(OTHER_SIZE)
+        Frame::Refused(PACKET_LENGTH)
     }
 }
 

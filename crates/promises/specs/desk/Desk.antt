@@ -50,9 +50,9 @@ changeSheet front next =
 abbrev pub changePacket : ℕ → ℕ → List ℕ
 changePacket front next = sheetToPacket (changeSheet front next) (room 43) .room
 
--- "one question": its kind, segment, train and x, and the refusal and the speed that are due
+-- "one question": its medium, segment, train and x, and the refusal and the speed that are due
 abbrev pub told : ℕ → List ℕ → Train → ℕ → ℕ → ℕ → Case
-told kind s t x r v = record { said = speedSaid (permittedSpeed kind s t x); due = speedSaid (record { refusal = r; place = 0; speed = v }) }
+told medium s t x r v = record { said = speedSaid (permittedSpeed medium s t x); due = speedSaid (record { refusal = r; place = 0; speed = v }) }
 
 -- ---- A4: "Cant deficiency falls to the next lower class"
 
@@ -94,7 +94,7 @@ journeyPacket = 0x04 ∷ 0x00 ∷ 0x0B ∷ replicate 14 0
 abbrev pub journeySheetBytes : List ℕ
 journeySheetBytes = 0x04 ∷ replicate 7 0
 
--- one segment with one timing point: its latest arrival's seconds in three groups, its kind of stop, and what follows the daylight saving
+-- one segment with one timing point: its latest arrival's seconds in three groups, its Q_Stop_Skip_Passes, and what follows the daylight saving
 abbrev pub pointSheet : List ℕ → ℕ → List ℕ → List ℕ
 pointSheet seconds stop rest = 0x04 ∷ replicate 6 0 ++ 0x01 ∷ replicate 5 0 ++ 0x01 ∷ 0x00 ∷ 0x00 ∷ seconds ++ 0x00 ∷ 0x00 ∷ stop ∷ 0x00 ∷ 0x00 ∷ rest
 

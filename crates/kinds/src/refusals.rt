@@ -1,0 +1,46 @@
+// All refusal numbers, with the names that the C header has. 0 is success. The header says the ground and the place of each.
+
+// A packet has fewer than 15 bytes.
+pub const SHORT_PACKET: u32 = 1;
+
+// The packet number is neither 4 nor 6, or is 4 where a segment is needed.
+pub const PACKET_NUMBER: u32 = 2;
+
+// The packet's bytes are not 15 + L_PACKET_ATO / 8, rounded up.
+pub const PACKET_LENGTH: u32 = 3;
+
+// A field is outside its range or set, or not 0 where it is not used.
+pub const FIELD_VALUE: u32 = 4;
+
+// A change's location does not rise, is 0, or is at or past L_SP; or a temporary constraint's start is not below its end.
+pub const CHANGE_LOCATION: u32 = 5;
+
+// A field does not fit in the body's remaining bits.
+pub const BODY_BITS: u32 = 6;
+
+// A padding bit is 1.
+pub const PADDING_BIT: u32 = 7;
+
+// The result is longer than the lent room, or a packet's deliveries together are.
+pub const SHORT_ROOM: u32 = 8;
+
+// A sheet ends too soon, has bytes left, or a number is not in its shortest form or not below 4,294,967,296.
+pub const SHEET_FORM: u32 = 9;
+
+// The train's length or cant deficiency is not allowed.
+pub const TRAIN_VALUE: u32 = 10;
+
+// x is at or past L_SP.
+pub const PAST_END: u32 = 11;
+
+// A sheet's body would exceed 65,535 bits.
+pub const LONG_BODY: u32 = 12;
+
+// Bits of the body are left after the last field.
+pub const BITS_LEFT: u32 = 13;
+
+// An intake's sheet is asked for before a completion or after the next delivery, or with the packet's room cut short.
+pub const TOO_EARLY: u32 = 14;
+
+// The segment is brought neither as a packet, 0, nor as a sheet, 1.
+pub const UNKNOWN_KIND: u32 = 15;
