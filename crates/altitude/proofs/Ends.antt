@@ -1,5 +1,4 @@
 -- The altitudes at both ends and at zero, and the document's sample packet.
--- Assumes nothing.
 use mathlib.Core.Path.{_≡_, refl}
 use lib.IntN.{pos, negsuc}
 use Rattle.bits.specs.Bits.{fieldAt}

@@ -1,5 +1,4 @@
 -- The altitude's field in an accepted packet: the twenty bits from the bit 233 on.
--- Assumes nothing.
 use mathlib.Core.Path.{_≡_, refl, sym, ap, _∙_}
 use mathlib.Core.Bool.{Bool}
 use mathlib.Core.List.{List}
@@ -19,16 +18,16 @@ use Rattle.format.specs.Format.{accepted, refused, valuesOf}
 use Rattle.format.proofs.Media.{packet-only}
 use Rattle.grammar.specs.segment.Segment.{body, fields, sheetFields, wireChanges}
 use Rattle.grammar.specs.segment.Judgement.{fromPacket}
-use Rattle.format.specs.Places.{bitsBetween}
+use Rattle.format.specs.internal.Places.{bitsBetween}
 use Rattle.format.proofs.Places.{rest-length}
 use Rattle.format.specs.Media.{sheet}
 use Rattle.verdict.specs.declared.PacketVerdict.the-variants.{SheetBytes, Refused}
 use Rattle.verdict.specs.declared.frame.Frame.{Frame}
 use Rattle.verdict.specs.declared.frame.Frame.the-variants as Frame
-use Rattle.verdict.specs.Verdict.{sizeFrom, packetVerdict}
+use Rattle.verdict.specs.internal.Verdict.{sizeFrom, packetVerdict}
 use Rattle.grammar.specs.declared.link.Tree.the-variants.{Segment}
-use Rattle.grammar.specs.link.Trees.{treeSheetFields}
-use Rattle.verdict.specs.frame.Framed.{frameOf}
+use Rattle.grammar.specs.internal.link.Trees.{treeSheetFields}
+use Rattle.verdict.specs.internal.frame.Framed.{frameOf}
 use Rattle.verdict.proofs.frame.Framing.{whole}
 use Rattle.verdict.proofs.Sizes.{packet-sorts}
 use Rattle.verdict.proofs.Accepted.{verdict-accepted, verdict-refused, parts, accepted-frame}

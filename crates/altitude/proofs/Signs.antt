@@ -1,5 +1,4 @@
 -- A value of twenty bits as a signed number of 32 bits, before and after 100,000 is taken from it.
--- Assumes nothing.
 use mathlib.Core.Path.{_≡_}
 use Prim.Native.Nat.{ℕ, _<_, _^_}
 use native.Mathlib.Decide.{decLt}

@@ -1,5 +1,4 @@
 -- Where a value stands in bits that were written of values: past each field in front, and at its own.
--- Assumes nothing.
 use mathlib.Core.Path.{_≡_, sym, ap, _∙_}
 use mathlib.Core.Bool.{Bool}
 use mathlib.Core.List.{List}

@@ -1,5 +1,4 @@
 -- The altitude of a packet in signed centimetres, as a total function of its bytes.
--- Assumes nothing.
 use mathlib.Core.List.{List}
 use Prim.Native.Nat.{ℕ}
 use lib.IntN.{ℤ, pos, _-ℤ_}

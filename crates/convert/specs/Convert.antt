@@ -1,5 +1,4 @@
 -- The two conversions: an answer and the whole room, for any bytes and any room.
--- Assumes nothing.
 use mathlib.Core.Bool.{cond}
 use mathlib.Core.List.{List, _++_}
 use Prim.Native.Nat.{ℕ}

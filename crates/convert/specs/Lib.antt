@@ -1,2 +1,2 @@
 pub mod Convert
-pub mod Writers
+pub mod internal

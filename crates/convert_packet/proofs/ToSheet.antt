@@ -1,5 +1,4 @@
 -- From an accepted packet to its sheet: what the writers are handed, and what they leave.
--- Assumes nothing.
 use mathlib.Core.Path.{_≡_, refl, sym, ap, _∙_}
 use mathlib.Core.List.{List, [], _∷_, _++_}
 use Prim.Native.Nat.{ℕ, _+_, _<_, _≤_}
@@ -19,21 +18,21 @@ use Rattle.grammar.specs.journey.Journey.{journeyFields}
 use Rattle.grammar.specs.declared.link.Tree.{Tree}
 use Rattle.grammar.specs.declared.link.Tree.the-variants.{Segment, Journey}
 use Rattle.grammar.specs.link.Link.{treeNumber, treeFields, treeOf, fromEitherPacket, toEitherSheet}
-use Rattle.grammar.specs.link.Trees.{treeSheetFields, treePacket}
+use Rattle.grammar.specs.internal.link.Trees.{treeSheetFields, treePacket}
 use Rattle.grammar.proofs.link.Trees.{link-lawful}
 use Rattle.grammar.proofs.link.Values.{tree-sheet, tree-packet-values}
 use Rattle.grammar.proofs.link.Ends.{either-sheet-size}
 use Rattle.verdict.specs.declared.PacketVerdict.the-variants.{SheetBytes, Refused}
 use Rattle.verdict.specs.declared.frame.Frame.{Frame}
 use Rattle.verdict.specs.declared.frame.Frame.the-variants as Frame
-use Rattle.verdict.specs.Verdict.{sizeFrom, packetVerdict}
-use Rattle.verdict.specs.frame.Framed.{frameOf}
+use Rattle.verdict.specs.internal.Verdict.{sizeFrom, packetVerdict}
+use Rattle.verdict.specs.internal.frame.Framed.{frameOf}
 use Rattle.verdict.proofs.frame.Framing.{whole}
 use Rattle.verdict.proofs.Sizes.{packet-sorts}
 use Rattle.verdict.proofs.Accepted.{verdict-accepted, verdict-refused, accepted-frame, Parts, parts}
 use Rattle.convert.specs.Convert.{Outcome, refusedWith, successWith, fitted, converted, packetToSheet}
-use Rattle.convert.specs.Writers.{sheetOf, SheetWritable, fieldsOf, FieldsWritable, treeToSheet}
-use Rattle.sheet_write_journey.specs.Sheet.{JourneyWritable}
+use Rattle.convert.specs.internal.Writers.{sheetOf, SheetWritable, fieldsOf, FieldsWritable, treeToSheet}
+use Rattle.sheet_write_journey.specs.internal.Sheet.{JourneyWritable}
 
 -- bytes written at the front of a room that holds them
 pub done-placed : (bytes room : List ℕ) (n : ℕ) (cells : List ℕ) → n ≡ length bytes → length bytes ≤ length room → cells ≡ sets room 0 bytes

@@ -7,7 +7,7 @@ ghost use lib.Seq.{sets};
 ghost use Rattle.grammar.specs.segment.Frame.{packetNumber};
 ghost use Rattle.grammar.specs.link.Link.{treeNumber, treeOf};
 ghost use Rattle.convert.specs.Convert.{packetToSheet};
-ghost use Rattle.convert.specs.Writers.{sheetOf, SheetWritable, fieldsOf, FieldsWritable, treeToSheet};
+ghost use Rattle.convert.specs.internal.Writers.{sheetOf, SheetWritable, fieldsOf, FieldsWritable, treeToSheet};
 use convert::Converted;
 use convert::done;
 use convert::refused;

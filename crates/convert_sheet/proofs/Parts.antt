@@ -1,5 +1,4 @@
 -- A room whose front and whose rest are lent one after the other.
--- Assumes nothing.
 use mathlib.Core.Path.{_≡_}
 use mathlib.Core.List.{List, [], _++_, append-nil}
 use Prim.Native.Nat.{ℕ, _-_}

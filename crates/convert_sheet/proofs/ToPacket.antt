@@ -1,5 +1,4 @@
 -- From an accepted sheet to its packet: the header's fields, the body's, and the room that they make.
--- Assumes nothing.
 use mathlib.Core.Path.{_≡_, refl, sym, ap, _∙_}
 use mathlib.Core.Bool.{Bool, _&&_}
 use mathlib.Core.List.{List, [], _∷_, _++_, append-assoc}
@@ -13,12 +12,12 @@ use lib.Seq.{drop-drop, length-take-le, take-all, take-at, drop-append-add, drop
 use Rattle.bits.specs.Bits.{Bytes, bitsOf, bytesOfBits}
 use Rattle.bits.proofs.Padding.{bytes-append}
 use Rattle.numbers.specs.Numbers.{groupsIn}
-use Rattle.bits.specs.write.Filling.{Filled, Filling}
+use Rattle.bits.specs.internal.write.Filling.{Filled, Filling}
 use Rattle.kinds.specs.declared.Item.{Item}
 use Rattle.kinds.specs.Kind.{when}
 use Rattle.format.specs.Format.{Format, Read, accepted, read, write, valuesOf}
 use Rattle.format.specs.Media.{packet, sheet}
-use Rattle.format.specs.Place.{after}
+use Rattle.format.specs.internal.Place.{after}
 use Rattle.bits.proofs.Tests.{by-cases, and-left, and-right}
 use Rattle.format.specs.Conforming.{Conforming, also, InSheet}
 use Rattle.format.proofs.Media.{sheet-again, sheet-only}
@@ -26,26 +25,26 @@ use Rattle.grammar.specs.segment.Frame.{frame, packetOfBits, numberItem}
 use Rattle.grammar.specs.segment.Judgement.{afterNumber}
 use Rattle.grammar.proofs.segment.Framing.{frame-length, framed-length}
 use Rattle.format.specs.Format.{end, refused, answerOf}
-use Rattle.format.specs.Pass.{pass}
-use Rattle.format.specs.Tasks.{Told, recording}
+use Rattle.format.specs.internal.Pass.{pass}
+use Rattle.format.specs.internal.Tasks.{Told, recording}
 use Rattle.grammar.specs.segment.Segment.{lists, body}
-use Rattle.grammar.specs.segment.Parts.{kindAt, runs, headerPart}
+use Rattle.grammar.specs.internal.segment.Parts.{kindAt, runs, headerPart}
 use Rattle.grammar.specs.journey.Journey.{journeyBody}
 use Rattle.grammar.specs.declared.link.Tree.{Tree}
 use Rattle.grammar.specs.declared.link.Tree.the-variants.{Segment, Journey}
 use Rattle.grammar.specs.link.Link.{treeNumber, treeBody, treeFields, linkBits, withinCount, toEitherPacket, fromEitherSheet}
-use Rattle.grammar.specs.link.Trees.{treeSheetFields, treeSheet, treeOfSheet}
+use Rattle.grammar.specs.internal.link.Trees.{treeSheetFields, treeSheet, treeOfSheet}
 use Rattle.grammar.proofs.link.Values.{tree-packet, count-accepted}
 use Rattle.grammar.proofs.link.Ends.{bits-is, tree-bits}
 use Rattle.grammar.proofs.link.Sheets as link
 use Rattle.packet_write_segment.specs.declared.elements.PacketSpot.{PacketSpot}
-use Rattle.packet_write_segment.specs.elements.Writing.{writer, Ready, Wrote}
+use Rattle.packet_write_segment.specs.internal.elements.Writing.{writer, Ready, Wrote}
 use Rattle.packet_write_segment.proofs.elements.Writing.{run-told}
 use Rattle.verdict.specs.declared.SheetVerdict.the-variants.{PacketBits, Refused}
-use Rattle.verdict.specs.Verdict.{sizeFrom, sheetVerdict}
+use Rattle.verdict.specs.internal.Verdict.{sizeFrom, sheetVerdict}
 use Rattle.convert.specs.Convert.{Outcome, refusedWith, fitted, converted, sheetToPacket}
-use Rattle.convert.specs.Writers.{bitsOfSheet, SheetAccepted, bodyRead, bodyBitsOf, BodyAt, Headed, sheetJudged, treeToPacket}
-use Rattle.convert_sheet.specs.Counted.{countedVerdict, treeBodyPart}
+use Rattle.convert.specs.internal.Writers.{bitsOfSheet, SheetAccepted, bodyRead, bodyBitsOf, BodyAt, Headed, sheetJudged, treeToPacket}
+use Rattle.convert_sheet.specs.internal.Counted.{countedVerdict, treeBodyPart}
 use Rattle.verdict.proofs.Sizes.{sheet-sorts}
 use Rattle.verdict.proofs.Accepted.{verdict-accepted, verdict-refused}
 

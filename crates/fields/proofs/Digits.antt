@@ -1,5 +1,4 @@
 -- NID_OPERATIONAL's digits have their bits, and no more.
--- Assumes nothing.
 use mathlib.Core.Path.{_≡_}
 use mathlib.Core.Bool.{true}
 use Prim.Native.Nat.{ℕ, zero, suc, _-_, _/_, _%_, _^_, _<_}

@@ -1,5 +1,4 @@
 -- The kind's law, proved for every kind: lowering undoes raising, allowed values fit the width, what is lowered is allowed.
--- Assumes nothing.
 use mathlib.Core.Path.{_≡_, refl, sym, ap}
 use mathlib.Core.Bool.{Bool, true, false, _&&_, cond}
 use mathlib.Core.List.{List}

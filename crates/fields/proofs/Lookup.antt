@@ -1,5 +1,4 @@
 -- A table looked up, one entry after the other; and its rule: a figure stands where it is found, and its place is found again.
--- Assumes nothing.
 use mathlib.Core.Path.{_≡_, refl, sym, ap, _∙_}
 use mathlib.Core.Bool.{Bool, true, false, not, _&&_}
 use mathlib.Core.List.{List, [], _∷_}

@@ -1,2 +1,1 @@
-pub mod lower
-pub mod size
+pub mod internal

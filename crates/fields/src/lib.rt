@@ -3,7 +3,7 @@ pub mod lower;
 pub mod size;
 
 ghost use mathlib.Core.Path.{_≡_};
-ghost use Rattle.kinds.specs.Rules.{meaning};
+ghost use Rattle.kinds.specs.internal.Rules.{meaning};
 
 pub mod tables;
 

@@ -2,7 +2,7 @@
 ghost use mathlib.Core.Path.{_≡_};
 ghost use Rattle.kinds.specs.Tables.{cantFigures};
 ghost use Rattle.kinds.specs.Kinds.{speed, ncCdDiff, ncDiff, class, mVoltage, mCurrent};
-ghost use Rattle.fields.specs.lower.Lowered.{lowered};
+ghost use Rattle.fields.specs.internal.lower.Lowered.{lowered};
 use crate::tables;
 use kinds::body;
 

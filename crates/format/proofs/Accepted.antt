@@ -1,5 +1,4 @@
 -- A field of an accepted medium, at a place: its value, and what is accepted after it.
--- Assumes nothing.
 use mathlib.Core.Path.{_≡_, refl}
 use mathlib.Core.List.{List, _∷_}
 use Prim.Native.Nat.{ℕ, _+_}
@@ -7,7 +6,7 @@ use lib.ListN.{length}
 use Rattle.kinds.specs.declared.Item.{Item}
 use Rattle.kinds.specs.Kind.{Kind}
 use Rattle.format.specs.Format.{Format, field, accepted, Medium, follow, read}
-use Rattle.format.specs.Places.{Taken}
+use Rattle.format.specs.internal.Places.{Taken}
 use Rattle.format.proofs.Generic.{never, with-accepted}
 use Rattle.format.proofs.Passing.{Seen, stepAt}
 

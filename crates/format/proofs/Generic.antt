@@ -1,5 +1,4 @@
 -- Reading and writing, for any format and any medium that takes what it puts: read after write, and write after read.
--- Assumes nothing.
 use mathlib.Core.Path.{_≡_, refl, ap, _∙_}
 use mathlib.Core.List.{List, [], _∷_, _++_}
 use Prim.Native.Nat.{ℕ, _+_}

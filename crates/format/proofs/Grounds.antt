@@ -1,5 +1,4 @@
 -- Refused exactly on a ground, for any tree and any medium that takes what it puts and stops exactly at its faults; and so in both media.
--- Assumes nothing.
 use mathlib.Core.Path.{_≡_, refl, sym, ap, _∙_}
 use mathlib.Core.Bool.{Bool}
 use mathlib.Core.List.{List, [], _∷_, _++_, append-assoc}

@@ -1,5 +1,4 @@
 -- Formats of lawful kinds: from a packet to its sheet and back, from a sheet to its packet, and the same packet exactly for the same packet values.
--- Assumes nothing.
 use mathlib.Core.Path.{_≡_, refl, sym, ap, _∙_}
 use mathlib.Core.Bool.{Bool, true}
 use mathlib.Core.List.{List, [], _∷_, _++_}

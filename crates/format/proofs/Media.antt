@@ -1,5 +1,4 @@
 -- The two media are lawful: a packet's bits and a sheet's groups are taken as they are put, and no others are.
--- Assumes nothing.
 use mathlib.Core.Path.{_≡_, refl}
 use mathlib.Core.Bool.{Bool, true}
 use mathlib.Core.List.{List, [], _∷_, _++_}

@@ -1,5 +1,4 @@
 -- A pass is a reading and what is made of its values; and a pass at a place, field by field.
--- Assumes nothing.
 use mathlib.Core.Path.{_≡_, refl, _∙_}
 use mathlib.Core.List.{List, [], _∷_}
 use Prim.Native.Nat.{ℕ, _+_, _-_, _≤_}
@@ -23,11 +22,11 @@ use Rattle.kinds.specs.Judged.{valueInPacket, numberInSheet}
 use Rattle.format.specs.Format.{Format, end, field, Read, accepted, refused, FieldStep, step, stop, Medium, with, follow, read, answerOf}
 use Rattle.format.specs.Media as media
 use Rattle.format.specs.Media.{takeBits, putBits, takeGroups, putGroups, packet, sheet}
-use Rattle.format.specs.Places as places
-use Rattle.format.specs.Places.{Taken, bitsBetween, Placed, takenAt, bitsTaken, numberTaken}
+use Rattle.format.specs.internal.Places as places
+use Rattle.format.specs.internal.Places.{Taken, bitsBetween, Placed, takenAt, bitsTaken, numberTaken}
 use Rattle.format.proofs.Places.{rest-length}
 use Rattle.format.proofs.Media.{from-sheet}
-use Rattle.format.specs.Pass.{Task, ofStep, ofTaken, pass, made}
+use Rattle.format.specs.internal.Pass.{Task, ofStep, ofTaken, pass, made}
 
 module _ {A X B : Type 0} (m : Medium A) (t : Task X B) where
   -- a pass is a reading, and what is made of the values

@@ -1,5 +1,4 @@
 -- A field taken at a place, by cases; and what is left of a packet at a place.
--- Assumes nothing.
 use mathlib.Core.Path.{_≡_}
 use mathlib.Core.List.{List, []}
 use Prim.Native.Nat.{ℕ, _+_, _-_, _≤_, _<_}
@@ -14,7 +13,7 @@ use Rattle.numbers.specs.declared.Number.the-variants.{Value, Bad}
 use Rattle.numbers.specs.Numbers.{numberIn, groupsIn}
 use Rattle.kinds.specs.Kind.{Kind}
 use Rattle.kinds.specs.Judged.{valueInPacket, numberInSheet}
-use Rattle.format.specs.Places.{Taken, bitsBetween, Placed, takenAt, bitsTaken, numberTaken}
+use Rattle.format.specs.internal.Places.{Taken, bitsBetween, Placed, takenAt, bitsTaken, numberTaken}
 
 module _ (k : Kind) (s : List ℕ) (at : ℕ) where
   pub bits-short : (stop : ℕ) → stop - at < k .width → Taken.Refused 6 ≡ bitsTaken k s at stop

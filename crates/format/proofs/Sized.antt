@@ -1,5 +1,4 @@
 -- How long what is written of a format is, at least and at most: counted once for any costs of its fields, and so for any medium.
--- Assumes nothing.
 use mathlib.Core.Path.{_≡_}
 use mathlib.Core.Bool.{true}
 use mathlib.Core.List.{List}

@@ -1,5 +1,4 @@
 -- What each task makes of the values that are read.
--- Assumes nothing.
 use mathlib.Core.Path.{_≡_, sym, ap, _∙_}
 use mathlib.Core.List.{List, [], _∷_, _++_, append-assoc, append-nil}
 use Prim.Native.Nat.{ℕ, _+_, _%_, _<_}
@@ -8,8 +7,8 @@ use native.Mathlib.Omega.{arith}
 use lib.ListN.{length, length-append}
 use Rattle.kinds.specs.declared.Item.{Item}
 use Rattle.format.specs.Format.{Format, end, field, Medium, write}
-use Rattle.format.specs.Pass.{made}
-use Rattle.format.specs.Tasks.{counting, countingWithin, recording}
+use Rattle.format.specs.internal.Pass.{made}
+use Rattle.format.specs.internal.Tasks.{counting, countingWithin, recording}
 
 module _ {A : Type 0} (out : Medium A) where
   pub made-count : {C : Type 0} (answer : ℕ → C) (refusal : ℕ → ℕ → C) (f : Format) (l : List Item) (n : ℕ) → made (counting out answer refusal) f l n ≡ n + length (write out f l)

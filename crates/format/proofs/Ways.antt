@@ -1,5 +1,4 @@
 -- Steps over the parts of a tree, whatever is carried: one after another, a field and what depends on its value, a loop.
--- Assumes nothing.
 use mathlib.Core.Path.{_≡_, refl, ap, _∙_}
 use mathlib.Core.List.{List}
 use Prim.Native.Nat.{ℕ, zero, suc, _-_, _≤_, _<_}
@@ -7,9 +6,9 @@ use native.Mathlib.Omega.{arith}
 use Rattle.kinds.specs.declared.Item.{Item}
 use Rattle.kinds.specs.Kind.{Kind}
 use Rattle.format.specs.Format.{Format, field, times, Medium}
-use Rattle.format.specs.Places.{Taken}
-use Rattle.format.specs.Pass.{Task}
-use Rattle.format.specs.Ways.{Way, passing, Went, Got, Over, Took, Gave, Left, Ahead}
+use Rattle.format.specs.internal.Places.{Taken}
+use Rattle.format.specs.internal.Pass.{Task}
+use Rattle.format.specs.internal.Ways.{Way, passing, Went, Got, Over, Took, Gave, Left, Ahead}
 use Rattle.format.proofs.Passing.{Seen, pass-field}
 
 -- ---- one more of the parts that are left, and none

@@ -1,5 +1,4 @@
 -- A tree of kinds that allow more: what the narrower one accepts, the wider one accepts with the same values, and both write the same of any values.
--- Assumes nothing.
 use mathlib.Core.Path.{_≡_, refl, ap, ap₂, _∙_}
 use mathlib.Core.Bool.{true}
 use mathlib.Core.List.{List, [], _∷_, _++_}

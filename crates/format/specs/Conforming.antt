@@ -1,5 +1,4 @@
 -- A conforming list of values, said of the tree and the values alone: one good value for each field, and no more.
--- Assumes nothing.
 use mathlib.Core.Path.{_≡_}
 use mathlib.Core.Bool.{true}
 use mathlib.Core.List.{List, [], _∷_}

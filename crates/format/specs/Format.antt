@@ -1,5 +1,4 @@
 -- Formats, and what it is to read and to write one in any medium.
--- Assumes nothing.
 use mathlib.Core.List.{List, [], _∷_, _++_, map}
 use Prim.Native.Nat.{ℕ, zero, suc, _+_}
 use lib.ListN.{length}

@@ -1,5 +1,4 @@
 -- The grounds of a refusal, for any tree and any medium: what stands in front of the fault, the fault, and its place. No reader is run.
--- Assumes nothing.
 use mathlib.Core.Path.{_≡_}
 use mathlib.Core.Bool.{Bool, false}
 use mathlib.Core.List.{List, [], _∷_, _++_}

@@ -1,9 +1,5 @@
-pub mod Format
-pub mod Media
 pub mod Conforming
+pub mod Format
 pub mod Grounds
-pub mod Place
-pub mod Places
-pub mod Pass
-pub mod Ways
-pub mod Tasks
+pub mod Media
+pub mod internal

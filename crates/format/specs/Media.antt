@@ -1,5 +1,4 @@
 -- The two media: a packet's bits, and a sheet's groups.
--- Assumes nothing.
 use mathlib.Core.Bool.{Bool, cond}
 use mathlib.Core.List.{List}
 use Prim.Native.Nat.{ℕ}

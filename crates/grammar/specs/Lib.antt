@@ -1,4 +1,4 @@
+pub mod internal
 pub mod journey
 pub mod link
-pub mod rows
 pub mod segment

@@ -1,3 +1,2 @@
 -- The definitions of the module journey.
 pub mod Journey
-pub mod Parts

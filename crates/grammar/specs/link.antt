@@ -1,4 +1,3 @@
 -- The definitions of the module link.
 pub mod Link
-pub mod Trees
 pub mod Grounds

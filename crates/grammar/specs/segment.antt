@@ -4,5 +4,4 @@ pub mod Frame
 pub mod Judgement
 pub mod Grounds
 pub mod Desk
-pub mod Parts
 pub mod Ends

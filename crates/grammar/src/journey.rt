@@ -1,6 +1,6 @@
 // The tree of a journey is definitions; the code has the tables of its rows of fields, and the most temporary constraints.
 ghost use mathlib.Core.Path.{_≡_};
-ghost use Rattle.grammar.specs.journey.Parts.{headerWidths, headerMost, segmentWidths, segmentMost, arrivalWidths, arrivalMost, stoppingWidths, stoppingMost};
+ghost use Rattle.grammar.specs.internal.journey.Parts.{headerWidths, headerMost, segmentWidths, segmentMost, arrivalWidths, arrivalMost, stoppingWidths, stoppingMost};
 use kinds::body::MSpVersion;
 use kinds::body::NidC;
 use kinds::body::NidSp;

@@ -1,5 +1,4 @@
 -- What the steps of the intake come to, over plain values.
--- Assumes nothing.
 use mathlib.Core.Path.{_≡_, refl}
 use mathlib.Core.Bool.{and-false}
 use mathlib.Core.List.{List, [], _++_, append-nil}
@@ -15,10 +14,10 @@ use Rattle.format.specs.Format.{Read, accepted, refused}
 use Rattle.format.specs.Media.{sheet}
 use Rattle.grammar.specs.segment.Frame.{packetNumber}
 use Rattle.grammar.specs.link.Link.{treeOf, fromEitherPacket}
-use Rattle.grammar.specs.link.Trees.{treeSheetFields}
+use Rattle.grammar.specs.internal.link.Trees.{treeSheetFields}
 use Rattle.verdict.specs.declared.PacketVerdict.{PacketVerdict}
 use Rattle.verdict.specs.declared.PacketVerdict.the-variants as PacketVerdict
-use Rattle.verdict.specs.Verdict.{verdictOf, sizeFrom, packetVerdict}
+use Rattle.verdict.specs.internal.Verdict.{verdictOf, sizeFrom, packetVerdict}
 use Rattle.convert.specs.declared.Converted.{Converted}
 use Rattle.convert.specs.Convert.{Outcome, packetToSheet}
 use Rattle.intake.specs.declared.Intake.{Intake}

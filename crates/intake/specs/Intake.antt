@@ -1,5 +1,4 @@
 -- The intake of a packet in deliveries: what a delivery, the completion and a question make of the state and of every byte of the room. Every value of the state has its outcome.
--- Assumes nothing.
 use mathlib.Core.Bool.{Bool, cond, _&&_}
 use mathlib.Core.List.{List, _++_}
 use Prim.Native.Nat.{ℕ, _+_}

@@ -1,5 +1,4 @@
 -- Kinds that depend on an earlier field.
--- Assumes nothing.
 use mathlib.Core.Path.{_≡_, refl}
 use Prim.Native.Nat.{ℕ, zero, suc}
 use Rattle.kinds.specs.Kinds.{ncDiff, class, mostTraction}

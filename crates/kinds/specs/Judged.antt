@@ -1,5 +1,4 @@
 -- A value judged by its kind, from a packet and from a sheet.
--- Assumes nothing.
 use mathlib.Core.Bool.{cond}
 use mathlib.Core.Option.{Option, none, some}
 use Prim.Native.Nat.{ℕ}

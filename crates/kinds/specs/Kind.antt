@@ -1,5 +1,4 @@
 -- A kind of field: what it keeps with it, and the two ways between a sheet's number and a packet's value.
--- Assumes nothing.
 use mathlib.Core.Bool.{Bool, true, false, _&&_}
 use mathlib.Core.Option.{Option, none, some}
 use Prim.Native.Nat.{ℕ}

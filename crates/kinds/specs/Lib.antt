@@ -1,6 +1,6 @@
-pub mod Kind
-pub mod Tables
-pub mod Kinds
 pub mod Judged
-pub mod Rules
+pub mod Kind
+pub mod Kinds
+pub mod Tables
+pub mod internal
 pub mod journey

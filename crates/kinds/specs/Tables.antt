@@ -1,5 +1,4 @@
 -- The two tables of figures, and the kind of a field that is a place in a table.
--- Assumes nothing.
 use mathlib.Core.Bool.{cond}
 use mathlib.Core.List.{List, [], _∷_}
 use mathlib.Core.Option.{Option, none, some}

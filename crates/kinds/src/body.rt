@@ -1,7 +1,7 @@
 // The field kinds of a segment, in the order of a packet's body.
 ghost use mathlib.Core.Path.{_≡_};
 ghost use Rattle.kinds.specs.Kinds.{nidC, nidSp, mSpVersion, lSp, dEoAOffset, qUtcOffset, mSpAltitude, speed, qFront, nIter, qDiff, ncCdDiff, ncDiff, class, dLocation, mVoltage, nidCTraction, mCurrent};
-ghost use Rattle.kinds.specs.Rules.{Keeps, meaning};
+ghost use Rattle.kinds.specs.internal.Rules.{Keeps, meaning};
 use crate::Rule;
 use crate::refusals::FIELD_VALUE;
 use crate::up_to;

@@ -1,6 +1,6 @@
 // The field kinds of a packet's header, in its order.
 ghost use Rattle.kinds.specs.Kinds.{nidPacketAto, lPacketAto, nidOperational, nidEngine, tTimestampDate, tTimestampSeconds, nPacketCounter};
-ghost use Rattle.kinds.specs.Rules.{Keeps};
+ghost use Rattle.kinds.specs.internal.Rules.{Keeps};
 use crate::Rule;
 use crate::refusals::PACKET_NUMBER;
 use crate::up_to;

@@ -3,7 +3,7 @@ ghost use mathlib.Core.Bool.{_||_};
 ghost use mathlib.Core.Path.{_≡_};
 ghost use lib.Dec.{eqb};
 ghost use Rattle.kinds.specs.Kind.{upTo};
-ghost use Rattle.kinds.specs.Rules.{Keeps, meaning};
+ghost use Rattle.kinds.specs.internal.Rules.{Keeps, meaning};
 ghost use Rattle.kinds.specs.journey.Kinds as kind;
 ghost use Rattle.kinds.specs.journey.Kinds.{mostAt, mostWhere};
 use crate::Rule;

@@ -6,7 +6,7 @@ pub mod refusals;
 
 ghost use mathlib.Core.Path.{_≡_};
 ghost use Rattle.kinds.specs.Kind.{upTo};
-ghost use Rattle.kinds.specs.Rules.{meaning};
+ghost use Rattle.kinds.specs.internal.Rules.{meaning};
 use crate::refusals::FIELD_VALUE;
 
 // A field's value: the sheet's number and the packet's.

@@ -1,6 +1,6 @@
 // A number of an accepted sheet, read. Its form and its size are not judged again.
 ghost use mathlib.Core.Path.{_≡_};
-ghost use Rattle.numbers.specs.accepted.Accepted.{There, Single, Reads};
+ghost use Rattle.numbers.specs.internal.accepted.Accepted.{There, Single, Reads};
 
 // A number, and the place after it.
 pub struct ReadNumber {

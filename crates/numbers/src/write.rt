@@ -3,7 +3,7 @@ ghost use mathlib.Core.Path.{_≡_};
 ghost use Prim.Native.Nat.{_+_, _≤_, _<_};
 ghost use lib.ListN.{length};
 ghost use Rattle.numbers.specs.Numbers.{groupsIn};
-ghost use Rattle.numbers.specs.Groups.{putNumber};
+ghost use Rattle.numbers.specs.internal.Groups.{putNumber};
 
 // How many groups v has, from the place of its highest one bit.
 pub fn groups(v: u32) -> u32

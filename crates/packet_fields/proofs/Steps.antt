@@ -1,5 +1,4 @@
 -- A field judged at its place: the three ends that it can have.
--- Assumes nothing.
 use mathlib.Core.Path.{_≡_, _∙_}
 use mathlib.Core.List.{List}
 use Prim.Native.Nat.{ℕ, _+_, _-_, _≤_, _<_}
@@ -11,15 +10,15 @@ use Rattle.numbers.specs.Numbers.{groupsIn}
 use Rattle.numbers.proofs.Counting.{count-some, count-five}
 use Rattle.kinds.specs.Kind.{Kind}
 use Rattle.kinds.specs.Judged.{valueInPacket}
-use Rattle.fields.specs.size.Counts.{bytesOf}
+use Rattle.fields.specs.internal.size.Counts.{bytesOf}
 use Rattle.format.specs.Format.{then}
-use Rattle.format.specs.Places.{Taken, Placed, takenAt, bitsTaken}
+use Rattle.format.specs.internal.Places.{Taken, Placed, takenAt, bitsTaken}
 use Rattle.format.proofs.Places.{bits-short, bits-whole}
 use Rattle.format.proofs.Passing.{packet-seen}
 use Rattle.format.proofs.Ways.{value-on, value-off, over-none, took-is, took-off}
 use Rattle.packet_fields.specs.declared.PacketStep.the-variants.{On, Refused}
 use Rattle.packet_fields.specs.declared.PacketValue.the-variants as PacketValue
-use Rattle.packet_fields.specs.Judging.{judging, Standing, Over, Took}
+use Rattle.packet_fields.specs.internal.Judging.{judging, Standing, Over, Took}
 
 module _ (s : List ℕ) (stop : ℕ) where
   placed : {at n : ℕ} → Standing s stop at n → Placed s at stop

@@ -3,10 +3,10 @@ pub mod row;
 
 ghost use Prim.Native.Nat.{_<_};
 ghost use Rattle.kinds.specs.Kinds.{nIter, dLocation};
-ghost use Rattle.kinds.specs.Rules.{meaning};
+ghost use Rattle.kinds.specs.internal.Rules.{meaning};
 ghost use Rattle.format.specs.Format.{then};
 ghost use Rattle.grammar.specs.segment.Segment as segment;
-ghost use Rattle.packet_fields.specs.Judging.{Standing, Wide, Took, Over};
+ghost use Rattle.packet_fields.specs.internal.Judging.{Standing, Wide, Took, Over};
 use kinds::Rule;
 use kinds::body;
 use kinds::refusals::BODY_BITS;

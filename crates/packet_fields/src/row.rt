@@ -1,9 +1,9 @@
 // Fields in a row judged at a place of a packet, with the bytes of their sheet counted. Nothing is written.
 ghost use mathlib.Core.Path.{_≡_};
 ghost use mathlib.Core.Bool.{true};
-ghost use Rattle.grammar.specs.rows.Rows as rows;
-ghost use Rattle.grammar.specs.rows.Rows.{fits};
-ghost use Rattle.packet_fields.specs.Judging.{Standing, Over};
+ghost use Rattle.grammar.specs.internal.rows.Rows as rows;
+ghost use Rattle.grammar.specs.internal.rows.Rows.{fits};
+ghost use Rattle.packet_fields.specs.internal.Judging.{Standing, Over};
 use crate::PacketStep;
 
 // The fields field by field, each from 0 to its largest value.

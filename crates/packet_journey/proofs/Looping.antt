@@ -1,14 +1,13 @@
 -- A segment of a journey in parts, and the whole in parts.
--- Assumes nothing.
 use mathlib.Core.Path.{ap, _∙_}
 use Prim.Native.Nat.{ℕ}
 use Rattle.format.specs.Format.{Format}
-use Rattle.format.specs.Ways.{Way, Went, Over}
-use Rattle.grammar.specs.segment.Parts.{kindAt, runs, headerPart}
+use Rattle.format.specs.internal.Ways.{Way, Went, Over}
+use Rattle.grammar.specs.internal.segment.Parts.{kindAt, runs, headerPart}
 use Rattle.grammar.specs.journey.Journey.{journeySegment, constraints}
-use Rattle.grammar.specs.journey.Parts.{segmentRest, journeyBodyPart, journeyPart}
+use Rattle.grammar.specs.internal.journey.Parts.{segmentRest, journeyBodyPart, journeyPart}
 use Rattle.grammar.proofs.journey.Parts.{segment-rows}
-use Rattle.packet_journey.specs.Head.{segmentHead}
+use Rattle.packet_journey.specs.internal.Head.{segmentHead}
 
 module _ {X B : Type 0} {w : Way X B} {at : ℕ} {x : X} where
   pub segment-over : {r : Went X} → Over w (λ f. segmentHead (λ v. segmentRest constraints v f)) at x r → Over w (journeySegment constraints) at x r

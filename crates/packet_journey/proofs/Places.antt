@@ -1,5 +1,4 @@
 -- A segment's head whose bits are all there: the step over it, from the bytes of its fields.
--- Assumes nothing.
 use mathlib.Core.Path.{_≡_, refl}
 use mathlib.Core.List.{List, [], _∷_}
 use Prim.Native.Nat.{ℕ, _+_, _*_, _-_, _/_, _%_, _≤_}
@@ -14,17 +13,17 @@ use Rattle.numbers.proofs.Counting.{count-five}
 use Rattle.kinds.specs.Kinds.{nIter}
 use Rattle.fields.proofs.size.Bytes as counts
 use Rattle.format.proofs.Ways.{gave-on, gave-took}
-use Rattle.grammar.specs.rows.Rows.{row}
-use Rattle.grammar.specs.journey.Parts.{segmentWidths, segmentMost}
+use Rattle.grammar.specs.internal.rows.Rows.{row}
+use Rattle.grammar.specs.internal.journey.Parts.{segmentWidths, segmentMost}
 use Rattle.grammar.proofs.journey.Parts.{segment-fits}
 use Rattle.packet_fields.specs.declared.PacketStep.the-variants.{On}
 use Rattle.packet_fields.specs.declared.PacketValue.the-variants as PacketValue
-use Rattle.packet_fields.specs.Judging.{Standing, Over, Took, Gave}
+use Rattle.packet_fields.specs.internal.Judging.{Standing, Over, Took, Gave}
 use Rattle.packet_fields.proofs.Steps.{took-some}
-use Rattle.packet_fields.specs.row.Values.{fieldsAt, rowBytes}
+use Rattle.packet_fields.specs.internal.row.Values.{fieldsAt, rowBytes}
 use Rattle.packet_fields.proofs.row.Whole.{bytes-some}
 use Rattle.packet_journey.proofs.point_bytes.Held.{all-bytes}
-use Rattle.packet_journey.specs.Head.{segmentHead}
+use Rattle.packet_journey.specs.internal.Head.{segmentHead}
 
 module _ (s : List ℕ) (stop : ℕ) {at n : ℕ} (h : Standing s stop at n) (room : 64 ≤ stop - at) {t : ℕ} (et : t ≡ fieldAt s (at + 42) 22)
     {a b c d : ℕ} (ea : a ≡ length (groupsIn (fieldAt s at 10))) (eb : b ≡ length (groupsIn (fieldAt s (at + 10) 32)))

@@ -1,3 +1,1 @@
-pub mod Head
-pub mod constraint_bytes
-pub mod point_bytes
+pub mod internal

@@ -3,7 +3,7 @@ ghost use Prim.Native.Nat.{_-_, _≤_};
 ghost use Rattle.format.specs.Format.{times};
 ghost use Rattle.grammar.specs.journey.Journey as journey;
 ghost use Rattle.grammar.specs.journey.Journey.{temporaryConstraint};
-ghost use Rattle.packet_fields.specs.Judging.{Standing, Over};
+ghost use Rattle.packet_fields.specs.internal.Judging.{Standing, Over};
 use kinds::Rule;
 use kinds::journey::DTcEndLocation;
 use kinds::journey::DTcStartLocation;

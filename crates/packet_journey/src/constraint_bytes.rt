@@ -1,7 +1,7 @@
 // How many bytes a temporary constraint's values have in the sheet, a few fields at once: 0 where one is refused.
 ghost use mathlib.Core.Path.{_≡_};
 ghost use Prim.Native.Nat.{_%_, _<_};
-ghost use Rattle.packet_journey.specs.constraint_bytes.Bytes.{stretchBytes, restrictionBytes};
+ghost use Rattle.packet_journey.specs.internal.constraint_bytes.Bytes.{stretchBytes, restrictionBytes};
 use kinds::body::MCurrent;
 use kinds::journey::DTcEndLocation;
 use kinds::journey::DTcStartLocation;

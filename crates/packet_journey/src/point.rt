@@ -1,10 +1,10 @@
 // A journey's timing points judged, with the bytes of their sheet counted. Nothing is written.
 ghost use Prim.Native.Nat.{_-_, _≤_};
 ghost use Rattle.format.specs.Format.{times};
-ghost use Rattle.grammar.specs.rows.Rows.{row};
+ghost use Rattle.grammar.specs.internal.rows.Rows.{row};
 ghost use Rattle.grammar.specs.journey.Journey.{timingPoint};
-ghost use Rattle.grammar.specs.journey.Parts.{arrivalWidths, arrivalMost, stoppingWidths, stoppingMost};
-ghost use Rattle.packet_fields.specs.Judging.{Standing, Over};
+ghost use Rattle.grammar.specs.internal.journey.Parts.{arrivalWidths, arrivalMost, stoppingWidths, stoppingMost};
+ghost use Rattle.packet_fields.specs.internal.Judging.{Standing, Over};
 use kinds::journey::NidTp;
 use kinds::journey::QStopSkipPasses;
 use packet_fields::PacketStep;

@@ -2,8 +2,8 @@
 ghost use mathlib.Core.List.{_++_};
 ghost use mathlib.Core.Path.{_≡_};
 ghost use Prim.Native.Nat.{_<_};
-ghost use Rattle.packet_fields.specs.row.Values.{parts, rowBytes};
-ghost use Rattle.packet_journey.specs.point_bytes.Windows.{latestWidths, latestMost, marksWidths, marksMost, doorsWidths, leavingWidths, eightMost};
+ghost use Rattle.packet_fields.specs.internal.row.Values.{parts, rowBytes};
+ghost use Rattle.packet_journey.specs.internal.point_bytes.Windows.{latestWidths, latestMost, marksWidths, marksMost, doorsWidths, leavingWidths, eightMost};
 use kinds::journey::QStopSkipPasses;
 use kinds::journey::QTpAlignment;
 use kinds::journey::QTpInformation;

@@ -1,5 +1,4 @@
 -- The verdict on a packet, from its frame and from the verdict on its fields, over what the code has of each.
--- Assumes nothing.
 use mathlib.Core.Path.{_≡_, sym, _∙_}
 use mathlib.Core.List.{List}
 use Prim.Native.Nat.{ℕ, _*_}
@@ -7,16 +6,16 @@ use lib.ListN.{length, drop}
 use Rattle.bits.specs.Bits.{bitsOfBytes}
 use Rattle.verdict.specs.declared.frame.Frame.{Frame}
 use Rattle.verdict.specs.declared.frame.Frame.the-variants as Frame
-use Rattle.verdict.specs.frame.Framed.{frameOf, oneOrEnd}
+use Rattle.verdict.specs.internal.frame.Framed.{frameOf, oneOrEnd}
 use Rattle.verdict.proofs.frame.Framing.{Whole, whole, packet-frame, packet-refused, packet-accepted, packet-padding}
 use Rattle.format.specs.Media.{sheet}
 use Rattle.kinds.specs.declared.Item.{Item}
 use Rattle.grammar.specs.declared.link.Tree.{Tree}
 use Rattle.grammar.specs.link.Link.{treeNumber, treeFields}
-use Rattle.grammar.specs.link.Trees.{treeSheetFields}
+use Rattle.grammar.specs.internal.link.Trees.{treeSheetFields}
 use Rattle.verdict.specs.declared.PacketVerdict.{PacketVerdict}
 use Rattle.verdict.specs.declared.PacketVerdict.the-variants.{SheetBytes, Refused}
-use Rattle.verdict.specs.Verdict.{sizeFrom, fieldsVerdict, packetVerdict}
+use Rattle.verdict.specs.internal.Verdict.{sizeFrom, fieldsVerdict, packetVerdict}
 use Rattle.verdict.proofs.Sizes.{packet-sorts}
 
 module _ (t : Tree) (s : List ℕ) {f : Frame} (framed : f ≡ frameOf (treeNumber t) s) where

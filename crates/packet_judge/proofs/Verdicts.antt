@@ -1,5 +1,4 @@
 -- The verdict on a packet's fields, from the step over every field.
--- Assumes nothing.
 use mathlib.Core.Path.{_≡_, refl, sym, ap, _∙_}
 use mathlib.Core.List.{List, [], _∷_}
 use Prim.Native.Nat.{ℕ, _≤_, _<_}
@@ -9,24 +8,24 @@ use lib.ListN.{length}
 use Rattle.kinds.specs.declared.Item.{Item}
 use Rattle.format.specs.Format.{Format, end, Read, accepted, refused, read, answerOf}
 use Rattle.format.specs.Media.{packet, sheet}
-use Rattle.format.specs.Places.{bitsBetween, Placed}
-use Rattle.format.specs.Pass.{pass, made}
+use Rattle.format.specs.internal.Places.{bitsBetween, Placed}
+use Rattle.format.specs.internal.Pass.{pass, made}
 use Rattle.format.proofs.Places.{rest-none, rest-some}
 use Rattle.format.proofs.Passing.{pass-read}
 use Rattle.format.proofs.Tasks.{made-count}
 use Rattle.grammar.specs.segment.Segment.{lists, body}
-use Rattle.grammar.specs.segment.Parts.{kindAt, runs}
+use Rattle.grammar.specs.internal.segment.Parts.{kindAt, runs}
 use Rattle.verdict.specs.declared.PacketVerdict.{PacketVerdict}
 use Rattle.verdict.specs.declared.PacketVerdict.the-variants as PacketVerdict
-use Rattle.verdict.specs.Verdict.{fieldsVerdict}
+use Rattle.verdict.specs.internal.Verdict.{fieldsVerdict}
 use Rattle.verdict.proofs.Sizes.{size-first}
 use Rattle.packet_fields.specs.declared.PacketStep.the-variants.{On, Refused}
-use Rattle.packet_fields.specs.Judging.{judging, verdictAt, Standing, Over}
+use Rattle.packet_fields.specs.internal.Judging.{judging, verdictAt, Standing, Over}
 use Rattle.grammar.specs.journey.Journey.{journeyBody}
 use Rattle.grammar.specs.declared.link.Tree.{Tree}
 use Rattle.grammar.specs.declared.link.Tree.the-variants.{Segment, Journey}
 use Rattle.grammar.specs.link.Link.{treeFields}
-use Rattle.packet_judge.specs.Whole.{treePart}
+use Rattle.packet_judge.specs.internal.Whole.{treePart}
 
 -- the tree is that part and nothing after it
 whole-part : (t : Tree) → treeFields t ≡ treePart t end

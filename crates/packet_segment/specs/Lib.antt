@@ -1,2 +1,1 @@
-pub mod element
-pub mod head
+pub mod internal

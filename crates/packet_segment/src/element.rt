@@ -2,10 +2,10 @@
 ghost use mathlib.Core.Path.{_≡_};
 ghost use Prim.Native.Nat.{_*_, _-_, _/_, _%_, _≤_, _<_};
 ghost use Rattle.grammar.specs.segment.Segment as segment;
-ghost use Rattle.grammar.specs.segment.Parts as parts;
-ghost use Rattle.grammar.specs.segment.Parts.{startOf};
-ghost use Rattle.packet_fields.specs.Judging.{Standing, Over, Gave};
-ghost use Rattle.packet_segment.specs.element.Profile.{profileHead, nameBytes, pastEntry};
+ghost use Rattle.grammar.specs.internal.segment.Parts as parts;
+ghost use Rattle.grammar.specs.internal.segment.Parts.{startOf};
+ghost use Rattle.packet_fields.specs.internal.Judging.{Standing, Over, Gave};
+ghost use Rattle.packet_segment.specs.internal.element.Profile.{profileHead, nameBytes, pastEntry};
 use grammar::segment::Part;
 use kinds::body;
 use kinds::refusals::FIELD_VALUE;

@@ -2,10 +2,10 @@
 ghost use mathlib.Core.Path.{_≡_};
 ghost use Prim.Native.Nat.{_-_, _≤_, _<_};
 ghost use lib.ListN.{length};
-ghost use Rattle.kinds.specs.Rules.{meaning};
-ghost use Rattle.grammar.specs.segment.Parts.{kindAt, runs, headerPart};
-ghost use Rattle.packet_fields.specs.Judging.{Standing, Over, Gave};
-ghost use Rattle.packet_segment.specs.head.Head.{headPart, PartBytes, Passed};
+ghost use Rattle.kinds.specs.internal.Rules.{meaning};
+ghost use Rattle.grammar.specs.internal.segment.Parts.{kindAt, runs, headerPart};
+ghost use Rattle.packet_fields.specs.internal.Judging.{Standing, Over, Gave};
+ghost use Rattle.packet_segment.specs.internal.head.Head.{headPart, PartBytes, Passed};
 use kinds::Rule;
 use kinds::body;
 use kinds::header;

@@ -1,9 +1,8 @@
 -- A segment's row in the three pieces in which it is put.
--- Assumes nothing.
 use mathlib.Core.Path.{refl}
 use lib.Dec.{lit≤}
-use Rattle.grammar.specs.rows.Rows.{row}
-use Rattle.grammar.specs.journey.Parts.{segmentWidths, segmentMost}
+use Rattle.grammar.specs.internal.rows.Rows.{row}
+use Rattle.grammar.specs.internal.journey.Parts.{segmentWidths, segmentMost}
 use Rattle.packet_write_journey.proofs.row.Three.{Three}
 
 pub segment-pieces : Three segmentWidths segmentMost 1 2 5 10 32 17

@@ -1,19 +1,18 @@
 -- The parts of a journey's body, step by step: what may be written next, and what is written once all steps are taken.
--- Assumes nothing.
 use mathlib.Core.List.{List}
 use Prim.Native.Nat.{ℕ}
 use Rattle.kinds.specs.Kinds.{nIter}
 use Rattle.format.specs.Format.{Format, field, times}
-use Rattle.grammar.specs.rows.Rows.{row}
+use Rattle.grammar.specs.internal.rows.Rows.{row}
 use Rattle.kinds.specs.journey.Kinds.{qJpStatus, nIterSp}
 use Rattle.grammar.specs.journey.Journey.{timingPoint, temporaryConstraint, journeySegment, constraints}
-use Rattle.grammar.specs.journey.Parts.{segmentWidths, segmentMost, constraintList, segmentRest, journeyBodyPart}
+use Rattle.grammar.specs.internal.journey.Parts.{segmentWidths, segmentMost, constraintList, segmentRest, journeyBodyPart}
 use Rattle.grammar.proofs.journey.Parts.{segment-rows}
 use Rattle.packet_write_segment.specs.declared.elements.PacketSpot.{PacketSpot}
-use Rattle.packet_write_segment.specs.elements.Writing.{Ready, Wrote}
+use Rattle.packet_write_segment.specs.internal.elements.Writing.{Ready, Wrote}
 use Rattle.packet_write_segment.proofs.elements.Writing.{Along, along-all, along-as, along-next, along-on, along-none}
 use Rattle.packet_write_journey.specs.declared.row.Given.{Given}
-use Rattle.packet_write_journey.specs.row.Alone.{Offers, Gives}
+use Rattle.packet_write_journey.specs.internal.row.Alone.{Offers, Gives}
 use Rattle.packet_write_journey.proofs.row.Alone.{along-offers, along-gives}
 
 -- ---- a segment

@@ -1,2 +1,1 @@
-pub mod constraint
-pub mod row
+pub mod internal

@@ -1,7 +1,7 @@
 // A temporary constraint of an accepted journey sheet, put into its packet. Nothing in the packet's layout depends on its type or its range.
 ghost use Rattle.grammar.specs.journey.Journey as tree;
-ghost use Rattle.packet_write_segment.specs.elements.Writing.{Ready, Wrote};
-ghost use Rattle.packet_write_journey.specs.constraint.Begun.{Begun};
+ghost use Rattle.packet_write_segment.specs.internal.elements.Writing.{Ready, Wrote};
+ghost use Rattle.packet_write_journey.specs.internal.constraint.Begun.{Begun};
 use crate::row::Given;
 use kinds::body::MCurrent;
 use kinds::journey::DTcEndLocation;

@@ -4,10 +4,10 @@ pub mod point;
 pub mod row;
 
 ghost use Rattle.format.specs.Format.{times};
-ghost use Rattle.packet_write_segment.specs.elements.Writing.{Ready, Wrote};
+ghost use Rattle.packet_write_segment.specs.internal.elements.Writing.{Ready, Wrote};
 ghost use Rattle.grammar.specs.journey.Journey as tree;
-ghost use Rattle.grammar.specs.journey.Parts.{segmentWidths, segmentMost, journeyBodyPart};
-ghost use Rattle.grammar.specs.rows.Rows.{row};
+ghost use Rattle.grammar.specs.internal.journey.Parts.{segmentWidths, segmentMost, journeyBodyPart};
+ghost use Rattle.grammar.specs.internal.rows.Rows.{row};
 use crate::constraint::constraint;
 use crate::point::point;
 use crate::row::number;

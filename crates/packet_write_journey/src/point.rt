@@ -1,8 +1,8 @@
 // A timing point of an accepted journey sheet, put into its packet: its rows of fields in pieces of at most 32 bits.
-ghost use Rattle.grammar.specs.rows.Rows.{row};
+ghost use Rattle.grammar.specs.internal.rows.Rows.{row};
 ghost use Rattle.grammar.specs.journey.Journey.{timingPoint};
-ghost use Rattle.grammar.specs.journey.Parts.{arrivalWidths, arrivalMost, stoppingWidths, stoppingMost};
-ghost use Rattle.packet_write_segment.specs.elements.Writing.{Ready, Wrote};
+ghost use Rattle.grammar.specs.internal.journey.Parts.{arrivalWidths, arrivalMost, stoppingWidths, stoppingMost};
+ghost use Rattle.packet_write_segment.specs.internal.elements.Writing.{Ready, Wrote};
 use crate::row::number;
 use crate::row::piece;
 use kinds::journey::NidTp;

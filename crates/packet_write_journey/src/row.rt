@@ -1,9 +1,9 @@
 // Fields of an accepted sheet whose numbers are their values, put into a packet: one alone, and those of a row in one piece.
 ghost use Prim.Native.Nat.{_^_, _≤_, _<_};
 ghost use Rattle.kinds.specs.Kind.{upTo};
-ghost use Rattle.packet_write_segment.specs.elements.Writing.{Ready, Wrote};
-ghost use Rattle.packet_write_journey.specs.row.Alone.{Offers, Gives};
-ghost use Rattle.packet_write_journey.specs.row.Pieces.{between, Puttable};
+ghost use Rattle.packet_write_segment.specs.internal.elements.Writing.{Ready, Wrote};
+ghost use Rattle.packet_write_journey.specs.internal.row.Alone.{Offers, Gives};
+ghost use Rattle.packet_write_journey.specs.internal.row.Pieces.{between, Puttable};
 use packet_write_segment::elements::PacketSpot;
 
 // A field's value, and the place after it.

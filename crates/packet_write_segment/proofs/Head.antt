@@ -1,5 +1,4 @@
 -- The fields before the speed profile: lawful kinds, whose numbers in the sheet are their values, and their widths.
--- Assumes nothing.
 use mathlib.Core.Path.{_≡_, refl}
 use mathlib.Core.List.{List, [], _∷_}
 use Prim.Native.Nat.{ℕ, zero, suc, _+_, _-_, _<_}
@@ -10,8 +9,8 @@ use lib.ListN.{getD}
 use Rattle.bits.proofs.Tests.{each-at}
 use Rattle.kinds.specs.Kind.{Kind, when}
 use Rattle.fields.proofs.Lawful.{LawfulKind, narrow, range-lawful, upTo-lawful, operational-lawful}
-use Rattle.grammar.specs.segment.Parts.{kindAt}
-use Rattle.packet_write_segment.specs.Widths.{widths}
+use Rattle.grammar.specs.internal.segment.Parts.{kindAt}
+use Rattle.packet_write_segment.specs.internal.Widths.{widths}
 
 pub record Plain (k : Kind) : Type 0 where
   pub lawful : LawfulKind k

@@ -2,9 +2,9 @@
 ghost use mathlib.Core.Path.{_≡_};
 ghost use Rattle.kinds.specs.Tables.{cantFigures};
 ghost use Rattle.grammar.specs.segment.Segment as segment;
-ghost use Rattle.grammar.specs.segment.Parts as parts;
-ghost use Rattle.grammar.specs.segment.Parts.{startOf};
-ghost use Rattle.packet_write_segment.specs.elements.Writing.{Ready, Wrote};
+ghost use Rattle.grammar.specs.internal.segment.Parts as parts;
+ghost use Rattle.grammar.specs.internal.segment.Parts.{startOf};
+ghost use Rattle.packet_write_segment.specs.internal.elements.Writing.{Ready, Wrote};
 use fields::tables;
 use grammar::segment::Part;
 use kinds::body;

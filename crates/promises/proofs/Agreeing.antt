@@ -1,5 +1,4 @@
 -- Sheets agree after lowering, field by field, exactly when they make one packet; a packet's values are lowered already.
--- Assumes nothing.
 use mathlib.Core.Path.{_≡_, refl, sym, ap, ap₂, _∙_}
 use mathlib.Core.List.{List, _∷_}
 use Prim.Native.Nat.{ℕ}

@@ -1,5 +1,4 @@
 -- The customer's first demand: "Whatever bytes come in, every public operation ends with an answer or the one refusal the rules name." Of a question on speed: `Speeds`.
--- Assumes nothing.
 use mathlib.Core.Path.{_≡_, ap}
 use mathlib.Core.List.{List}
 use mathlib.Core.Logic.{_↔_}

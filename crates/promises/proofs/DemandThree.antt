@@ -1,5 +1,4 @@
 -- The customer's third demand: "Two accepted sheets make the same packet exactly when they agree in every field after that lowering", and the speeds with it.
--- Assumes nothing.
 use mathlib.Core.Path.{_≡_, sym, ap, _∙_}
 use mathlib.Core.List.{List}
 use mathlib.Core.Logic.{_↔_}

@@ -1,5 +1,4 @@
 -- The ends of a journey are reached: no segment, and a body of 65,535 bits, in a packet of 8,207 bytes.
--- Assumes nothing.
 use mathlib.Core.Path.{_≡_, refl, _∙_}
 use mathlib.Core.List.{List, [], _∷_, _++_}
 use Prim.Native.Nat.{ℕ, _+_}

@@ -1,5 +1,4 @@
 -- "For 1, 2, 3, 8, 10 to 12, success and, unless said, numbers above 13 it is 0": the refusals that have no place, of every operation.
--- Assumes nothing.
 use mathlib.Core.Path.{_≡_, refl, sym, _∙_}
 use mathlib.Core.Bool.{true, false}
 use mathlib.Core.List.{List}

@@ -1,5 +1,4 @@
 -- The ranges that a caller may rely on: how long a result is, how high a speed or an altitude, and which refusals each operation has.
--- Assumes nothing.
 use mathlib.Core.Path.{_≡_, refl, sym, ap, _∙_}
 use mathlib.Core.Bool.{true, false}
 use mathlib.Core.List.{List}

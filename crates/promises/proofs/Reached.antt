@@ -1,5 +1,4 @@
 -- Each refusal that an operation lists is given: by one table of inputs for each operation.
--- Assumes nothing.
 use mathlib.Core.Path.{_≡_, refl}
 use mathlib.Core.List.{[], _∷_, _++_, map}
 use Rattle.format.specs.Format.{times}

@@ -1,5 +1,4 @@
 -- Refused exactly on a ground, whatever judges the input: conversions and the altitude; and the refusals that they have.
--- Assumes nothing.
 use mathlib.Core.Path.{_≡_, refl, sym, ap, _∙_}
 use mathlib.Core.Bool.{Bool, true, false, _&&_, _||_}
 use mathlib.Core.List.{List, [], _∷_}

@@ -1,5 +1,4 @@
 -- What is promised of a segment's sizes, beside those of whatever is on the link: a caller of segments sizes a room by these.
--- Assumes nothing.
 use mathlib.Core.Path.{_≡_, refl, sym, ap, _∙_}
 use mathlib.Core.Bool.{true, false}
 use mathlib.Core.List.{List, _∷_}
@@ -24,7 +23,7 @@ use Rattle.grammar.proofs.segment.Grounds.{packet-grounds, sheet-grounds, field
 use Rattle.grammar.specs.declared.link.Tree.{Tree}
 use Rattle.grammar.specs.declared.link.Tree.the-variants.{Segment}
 use Rattle.grammar.specs.link.Link.{linkBits, withinCount, fromEitherSheet, toEitherPacket, toEitherSheet}
-use Rattle.grammar.specs.link.Trees.{treeSheet, byNumber}
+use Rattle.grammar.specs.internal.link.Trees.{treeSheet, byNumber}
 use Rattle.grammar.proofs.link.Grounds.{segment-judged}
 use Rattle.grammar.proofs.link.Sheets.{sheet-by-tree}
 use Rattle.grammar.proofs.link.Segments.{on-link}

@@ -1,5 +1,4 @@
 -- The promises on speeds, of a packet and of a sheet by one law: when a question is answered and with what, and on which ground it is refused.
--- Assumes nothing.
 use mathlib.Core.Path.{_≡_, refl, sym, ap, _∙_}
 use mathlib.Core.Bool.{true, false}
 use mathlib.Core.List.{List}

@@ -1,5 +1,4 @@
 -- Where a field stands among the values of a tree: the values before it conform to the front of the tree.
--- Assumes nothing.
 use mathlib.Core.Path.{_≡_, refl, sym, _∙_}
 use mathlib.Core.List.{List, [], _∷_, _++_, append-assoc, map}
 use Prim.Native.Nat.{ℕ, _+_}
@@ -11,7 +10,7 @@ use Rattle.kinds.specs.Kinds.{mSpAltitude}
 use Rattle.format.specs.Format.{Format, field, then, sheetNumbers}
 use Rattle.format.specs.Conforming.{Conforming, also}
 use Rattle.format.specs.Grounds.{Front, here, past}
-use Rattle.format.specs.Place.{skip}
+use Rattle.format.specs.internal.Place.{skip}
 use Rattle.grammar.specs.segment.Segment.{body, fields, sheetFields, wireChanges}
 use Rattle.speed.specs.Speed.{segmentLength}
 use Rattle.altitude.specs.Altitude.{altitudeField}

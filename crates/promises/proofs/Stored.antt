@@ -1,5 +1,4 @@
 -- "stored packets and sheets read as before": what was accepted at a lower limit of wire changes is answered by each operation as it was then.
--- Assumes nothing.
 use mathlib.Core.Path.{_≡_, refl, sym, ap, _∙_}
 use mathlib.Core.List.{List}
 use Prim.Native.Nat.{ℕ, _≤_}

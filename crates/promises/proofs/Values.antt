@@ -1,5 +1,4 @@
 -- What the promises rest on: packets and sheets of good values, a conversion's outcomes, and the lowering of any tree's numbers.
--- Assumes nothing.
 use mathlib.Core.Path.{_≡_, refl, sym, ap, ap₂, _∙_}
 use mathlib.Core.Bool.{Bool, true, _&&_}
 use mathlib.Core.List.{List, [], _∷_, _++_}

@@ -1,5 +1,4 @@
 -- The words of the promises: what is converted, what is answered, and what lowering makes of a sheet's numbers.
--- Assumes nothing.
 use mathlib.Core.Path.{_≡_}
 use mathlib.Core.Bool.{Bool, true, cond}
 use mathlib.Core.List.{List, [], _∷_, _++_}

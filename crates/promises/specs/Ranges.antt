@@ -1,5 +1,4 @@
 -- What a caller may rely on, whatever bytes were handed over: a refusal of the listed ones with nothing else, or success within its range.
--- Assumes nothing.
 use mathlib.Core.Path.{_≡_}
 use mathlib.Core.List.{List}
 use Prim.Native.Nat.{ℕ, _≤_}

@@ -1,5 +1,4 @@
 -- The ground of each refusal of each public operation, with its place: 15 of a question, the input's own, then 8 of a conversion, 10 and 11 of a question. No operation is run.
--- Assumes nothing.
 use mathlib.Core.Path.{_≡_}
 use mathlib.Core.Bool.{true, false}
 use mathlib.Core.List.{List, [], _∷_}

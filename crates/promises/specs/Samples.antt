@@ -1,5 +1,4 @@
 -- An input for each refusal that an operation lists, in the order of the list; of a question on speed its answer.
--- Assumes nothing.
 use mathlib.Core.Bool.{false}
 use mathlib.Core.List.{List, [], _∷_, _++_}
 use Prim.Native.Nat.{ℕ, zero, suc}

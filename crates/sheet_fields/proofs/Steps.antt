@@ -1,5 +1,4 @@
 -- A field judged at a place of a sheet, from the number that is read there.
--- Assumes nothing.
 use mathlib.Core.Path.{_≡_, refl, sym, ap, subst}
 use mathlib.Core.Bool.{true, false}
 use mathlib.Core.List.{List, [], _∷_}
@@ -14,23 +13,23 @@ use Rattle.bits.proofs.Spelling.{length-bits}
 use Rattle.bits.proofs.Tests.{by-cases}
 use Rattle.numbers.specs.Numbers.{numberIn}
 use Rattle.numbers.specs.declared.Found.{Found}
-use Rattle.numbers.specs.Groups.{found}
+use Rattle.numbers.specs.internal.Groups.{found}
 use Rattle.numbers.proofs.Reading.{found-value, found-none, number-only}
 use Rattle.kinds.specs.declared.Item.{Item}
 use Rattle.kinds.specs.Kind.{Kind, range}
 use Rattle.kinds.specs.Kinds.{digits, nidOperational, class, dLocation, dEndAfter, noCurrent}
 use Rattle.fields.proofs.Lawful.{LawfulKind}
-use Rattle.fields.specs.lower.Lowered.{valueOr, lowered}
+use Rattle.fields.specs.internal.lower.Lowered.{valueOr, lowered}
 use Rattle.fields.proofs.lower.Lowering.{lowered-none}
 use Rattle.format.specs.Format.{then}
-use Rattle.format.specs.Places.{Taken, numberTaken}
+use Rattle.format.specs.internal.Places.{Taken, numberTaken}
 use Rattle.format.proofs.Places.{number-found, number-none}
 use Rattle.format.proofs.Passing.{sheet-seen}
 use Rattle.format.proofs.Ways.{value-on, value-off, over-none, took-is, took-off}
 use Rattle.sheet_fields.specs.declared.SheetStep.{SheetStep}
 use Rattle.sheet_fields.specs.declared.SheetStep.the-variants.{On, Refused}
 use Rattle.sheet_fields.specs.declared.SheetValue.the-variants as SheetValue
-use Rattle.sheet_fields.specs.Judging.{judging, Standing, Over, Took, Lowers}
+use Rattle.sheet_fields.specs.internal.Judging.{judging, Standing, Over, Took, Lowers}
 
 lowered-some : (k : Kind) (a v : ℕ) → v ≡ lowered k a → (v ≡ 2 ^ k .width → ⊥) → k .lower a ≡ some v
 lowered-some k a v l o = go (k .lower a) l

@@ -7,7 +7,7 @@ ghost use Rattle.kinds.specs.Kind.{range, upTo};
 ghost use Rattle.kinds.specs.Kinds as kind;
 ghost use Rattle.kinds.specs.Tables.{cantFigures};
 ghost use Rattle.format.specs.Format.{then};
-ghost use Rattle.sheet_fields.specs.Judging.{Standing, Took, Over, Lowers};
+ghost use Rattle.sheet_fields.specs.internal.Judging.{Standing, Took, Over, Lowers};
 use kinds::body;
 use kinds::header;
 use kinds::journey::DTcEndLocation;

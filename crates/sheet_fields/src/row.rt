@@ -1,8 +1,8 @@
 // A row of fields of a sheet judged, number by number.
 ghost use mathlib.Core.Path.{_≡_};
 ghost use lib.ListN.{length};
-ghost use Rattle.grammar.specs.rows.Rows as rows;
-ghost use Rattle.sheet_fields.specs.Judging.{Standing, Over};
+ghost use Rattle.grammar.specs.internal.rows.Rows as rows;
+ghost use Rattle.sheet_fields.specs.internal.Judging.{Standing, Over};
 use crate::SheetStep;
 use crate::SheetValue;
 use crate::ranged;

@@ -3,7 +3,7 @@ ghost use Rattle.kinds.specs.Kind.{upTo};
 ghost use Rattle.format.specs.Format.{then, times};
 ghost use Rattle.kinds.specs.journey.Kinds as kind;
 ghost use Rattle.grammar.specs.journey.Journey as journey;
-ghost use Rattle.sheet_fields.specs.Judging.{Standing, Over};
+ghost use Rattle.sheet_fields.specs.internal.Judging.{Standing, Over};
 use kinds::journey::DTcEndLocation;
 use kinds::journey::DTcStartLocation;
 use kinds::journey::QLowAdhesionRate;

@@ -3,10 +3,10 @@ pub mod constraint;
 pub mod point;
 
 ghost use Rattle.format.specs.Format.{times};
-ghost use Rattle.grammar.specs.rows.Rows as rows;
+ghost use Rattle.grammar.specs.internal.rows.Rows as rows;
 ghost use Rattle.grammar.specs.journey.Journey as journey;
-ghost use Rattle.grammar.specs.journey.Parts as parts;
-ghost use Rattle.sheet_fields.specs.Judging.{Standing, Over};
+ghost use Rattle.grammar.specs.internal.journey.Parts as parts;
+ghost use Rattle.sheet_fields.specs.internal.Judging.{Standing, Over};
 use crate::point::points;
 use grammar::journey::CONSTRAINTS;
 use kinds::body::NIter;

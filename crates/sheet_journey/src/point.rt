@@ -1,9 +1,9 @@
 // The timing points of a journey's sheet judged, number by number.
 ghost use Rattle.format.specs.Format.{times};
-ghost use Rattle.grammar.specs.rows.Rows as rows;
+ghost use Rattle.grammar.specs.internal.rows.Rows as rows;
 ghost use Rattle.grammar.specs.journey.Journey as journey;
-ghost use Rattle.grammar.specs.journey.Parts as parts;
-ghost use Rattle.sheet_fields.specs.Judging.{Standing, Over};
+ghost use Rattle.grammar.specs.internal.journey.Parts as parts;
+ghost use Rattle.sheet_fields.specs.internal.Judging.{Standing, Over};
 use kinds::journey::QStopSkipPasses;
 use kinds::refusals::FIELD_VALUE;
 use sheet_fields::SheetStep;

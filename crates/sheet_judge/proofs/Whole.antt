@@ -1,5 +1,4 @@
 -- The verdict on a sheet, from the step over every field, and the limits of the fields before the speed profile.
--- Assumes nothing.
 use mathlib.Core.Path.{_≡_, refl, sym, ap, _∙_}
 use mathlib.Core.List.{List, [], _∷_}
 use Prim.Native.Nat.{ℕ, zero, suc, _+_, _^_, _≤_, _<_}
@@ -12,29 +11,29 @@ use Rattle.kinds.specs.declared.Item.{Item}
 use Rattle.kinds.specs.Kind.{upTo}
 use Rattle.format.specs.Format.{Format, end, Read, accepted, refused, read, write, answerOf}
 use Rattle.format.specs.Media.{packet, sheet}
-use Rattle.format.specs.Pass.{pass, made}
+use Rattle.format.specs.internal.Pass.{pass, made}
 use Rattle.format.proofs.Media.{sheet-only}
 use Rattle.format.proofs.Passing.{pass-read}
 use Rattle.format.proofs.Tasks.{made-within}
 use Rattle.format.proofs.Sized.{size-most, lowered-priced}
 use Rattle.format.specs.Conforming.{Conforming, InSheet}
 use Rattle.grammar.specs.segment.Segment.{lists, body, fields, sheetFields, wireChanges}
-use Rattle.grammar.specs.segment.Parts.{kindAt, runs}
+use Rattle.grammar.specs.internal.segment.Parts.{kindAt, runs}
 use Rattle.grammar.proofs.segment.Ends.{sheet-bits}
 use Rattle.grammar.specs.journey.Journey.{journeyBody, journeyFields, journeySheet, constraints}
 use Rattle.grammar.proofs.journey.Ends as journey
 use Rattle.grammar.specs.declared.link.Tree.{Tree}
 use Rattle.grammar.specs.declared.link.Tree.the-variants.{Segment, Journey}
-use Rattle.grammar.specs.link.Trees.{treeSheetFields, treeSheet}
+use Rattle.grammar.specs.internal.link.Trees.{treeSheetFields, treeSheet}
 use Rattle.grammar.proofs.link.Places.{sheet-place}
 use Rattle.verdict.specs.declared.SheetVerdict.{SheetVerdict}
 use Rattle.verdict.specs.declared.SheetVerdict.the-variants as SheetVerdict
-use Rattle.verdict.specs.Verdict.{sizeFrom, sheetVerdict}
+use Rattle.verdict.specs.internal.Verdict.{sizeFrom, sheetVerdict}
 use Rattle.verdict.proofs.Sizes.{sheet-sorts}
 use Rattle.verdict.proofs.Accepted.{verdict-refused}
 use Rattle.sheet_fields.specs.declared.SheetStep.the-variants.{On, Refused}
-use Rattle.sheet_fields.specs.Judging.{judging, Over}
-use Rattle.sheet_judge.specs.Whole.{numbersPart}
+use Rattle.sheet_fields.specs.internal.Judging.{judging, Over}
+use Rattle.sheet_judge.specs.internal.Whole.{numbersPart}
 
 -- the tree is that part and nothing after it
 whole-part : (t : Tree) → treeSheetFields t ≡ numbersPart t end

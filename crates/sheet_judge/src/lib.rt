@@ -2,12 +2,12 @@
 
 ghost use mathlib.Core.Path.{_≡_};
 ghost use Prim.Native.Nat.{_-_};
-ghost use Rattle.grammar.specs.segment.Parts as parts;
-ghost use Rattle.grammar.specs.segment.Parts.{runs, Run};
+ghost use Rattle.grammar.specs.internal.segment.Parts as parts;
+ghost use Rattle.grammar.specs.internal.segment.Parts.{runs, Run};
 ghost use Rattle.grammar.specs.link.Link.{treeNumber};
-ghost use Rattle.verdict.specs.Verdict.{sheetVerdict};
-ghost use Rattle.sheet_fields.specs.Judging.{Standing, Over};
-ghost use Rattle.sheet_judge.specs.Whole.{afterPart, numbersPart};
+ghost use Rattle.verdict.specs.internal.Verdict.{sheetVerdict};
+ghost use Rattle.sheet_fields.specs.internal.Judging.{Standing, Over};
+ghost use Rattle.sheet_judge.specs.internal.Whole.{afterPart, numbersPart};
 use grammar::link::Tree;
 use kinds::body;
 use kinds::header;

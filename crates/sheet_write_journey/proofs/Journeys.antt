@@ -1,26 +1,25 @@
 -- The whole of an accepted journey, part after part.
--- Assumes nothing.
 use mathlib.Core.Path.{_≡_, refl}
 use mathlib.Core.List.{List, [], _∷_, _++_}
 use Prim.Native.Nat.{ℕ, _+_, _≤_}
 use lib.ListN.{length}
 use lib.Seq.{sets}
 use Rattle.bits.specs.Bits.{fieldAt}
-use Rattle.numbers.specs.Groups.{Put}
+use Rattle.numbers.specs.internal.Groups.{Put}
 use Rattle.kinds.specs.Kinds.{nidOperational}
 use Rattle.format.specs.Format.{Format, end, field, then, times}
-use Rattle.grammar.specs.rows.Rows.{row}
+use Rattle.grammar.specs.internal.rows.Rows.{row}
 use Rattle.kinds.specs.journey.Kinds.{qJpStatus, nIterSp}
 use Rattle.grammar.specs.journey.Journey.{journeyBody, journeyFields, journeySegment, constraints}
-use Rattle.grammar.specs.journey.Parts.{headerWidths, headerMost, journeyBodyPart, journeyPart}
+use Rattle.grammar.specs.internal.journey.Parts.{headerWidths, headerMost, journeyBodyPart, journeyPart}
 use Rattle.grammar.proofs.journey.Parts.{header-rows, header-fits}
-use Rattle.sheet_write_segment.specs.elements.Writing.{filled, PartWritable, Wrote}
+use Rattle.sheet_write_segment.specs.internal.elements.Writing.{filled, PartWritable, Wrote}
 use Rattle.sheet_write_segment.proofs.elements.Writing.{Along, along-here, along-on, along-none}
-use Rattle.sheet_write_journey.specs.row.Row.{Row, copied}
+use Rattle.sheet_write_journey.specs.internal.row.Row.{Row, copied}
 use Rattle.sheet_write_journey.proofs.row.Tree.{Rowing, rowing-none, rowing-as, rowing-row, rowing-field, rowing-here}
 use Rattle.sheet_write_segment.proofs.elements.Whole.{tree-writable, tree-held}
-use Rattle.sheet_write_journey.specs.rows.Widths.{headWidths}
-use Rattle.sheet_write_journey.specs.Sheet.{journeyOf, JourneyWritable}
+use Rattle.sheet_write_journey.specs.internal.rows.Widths.{headWidths}
+use Rattle.sheet_write_journey.specs.internal.Sheet.{journeyOf, JourneyWritable}
 
 parts : journeyFields constraints ≡ journeyPart end
 unfolding journeyFields journeyBody

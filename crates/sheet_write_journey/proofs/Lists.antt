@@ -1,5 +1,4 @@
 -- A segment of an accepted journey, part after part.
--- Assumes nothing.
 use mathlib.Core.Path.{_≡_, refl}
 use mathlib.Core.List.{List, []}
 use Prim.Native.Nat.{ℕ, _+_, _*_, _≤_, _<_}
@@ -10,18 +9,18 @@ use lib.ListN.{length}
 use Rattle.bits.specs.Bits.{fieldAt}
 use Rattle.bits.proofs.Fields.{field-small}
 use Rattle.numbers.specs.Numbers.{groupsIn}
-use Rattle.numbers.specs.Groups.{Put}
+use Rattle.numbers.specs.internal.Groups.{Put}
 use Rattle.kinds.specs.Kinds.{nIter}
 use Rattle.format.specs.Format.{field, times}
-use Rattle.grammar.specs.rows.Rows.{row}
+use Rattle.grammar.specs.internal.rows.Rows.{row}
 use Rattle.grammar.specs.journey.Journey.{timingPoint, temporaryConstraint, journeySegment}
-use Rattle.grammar.specs.journey.Parts.{segmentWidths, segmentMost, constraintList, segmentRest}
+use Rattle.grammar.specs.internal.journey.Parts.{segmentWidths, segmentMost, constraintList, segmentRest}
 use Rattle.grammar.proofs.journey.Parts.{segment-rows, segment-fits}
-use Rattle.sheet_write_segment.specs.elements.Writing.{putting, PartWritable, Wrote}
+use Rattle.sheet_write_segment.specs.internal.elements.Writing.{putting, PartWritable, Wrote}
 use Rattle.sheet_write_segment.proofs.elements.Writing.{Along, along-here, along-next, along-on, along-none, along-put, field-here, field-read}
-use Rattle.sheet_write_journey.specs.row.Row.{Row, copied}
+use Rattle.sheet_write_journey.specs.internal.row.Row.{Row, copied}
 use Rattle.sheet_write_journey.proofs.row.Tree.{Rowing, rowing-none, rowing-as, rowing-row, rowing-field, rowing-here}
-use Rattle.sheet_write_journey.specs.rows.Widths.{startWidths}
+use Rattle.sheet_write_journey.specs.internal.rows.Widths.{startWidths}
 
 module _ (s : List ℕ) (stop limit : ℕ) {at : ℕ} {p : Put} (h : PartWritable (journeySegment limit) s stop at p) where
   start-rowing : (n : ℕ) → n ≡ fieldAt s (at + 59) 5 → Rowing s stop at p (journeySegment limit) (segmentRest limit n) startWidths

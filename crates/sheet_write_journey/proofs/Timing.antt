@@ -1,21 +1,20 @@
 -- A timing point of an accepted journey, and one more of those that are left.
--- Assumes nothing.
 use mathlib.Core.Path.{_≡_, refl}
 use mathlib.Core.List.{List, [], _∷_, _++_}
 use Prim.Native.Nat.{ℕ, _+_, _-_, _<_}
 use Rattle.bits.specs.Bits.{fieldAt}
-use Rattle.numbers.specs.Groups.{Put}
+use Rattle.numbers.specs.internal.Groups.{Put}
 use Rattle.format.specs.Format.{Format, field, times}
-use Rattle.grammar.specs.rows.Rows.{row}
+use Rattle.grammar.specs.internal.rows.Rows.{row}
 use Rattle.kinds.specs.journey.Kinds.{qStopSkipPasses}
 use Rattle.grammar.specs.journey.Journey.{timingPoint}
-use Rattle.grammar.specs.journey.Parts.{arrivalWidths, arrivalMost, stoppingWidths, stoppingMost}
+use Rattle.grammar.specs.internal.journey.Parts.{arrivalWidths, arrivalMost, stoppingWidths, stoppingMost}
 use Rattle.grammar.proofs.journey.Parts.{point-rows, arrival-fits, stopping-fits}
-use Rattle.sheet_write_segment.specs.elements.Writing.{PartWritable, Wrote}
+use Rattle.sheet_write_segment.specs.internal.elements.Writing.{PartWritable, Wrote}
 use Rattle.sheet_write_segment.proofs.elements.Writing.{Along, along-none, times-next, times-on}
-use Rattle.sheet_write_journey.specs.row.Row.{Row, copied}
+use Rattle.sheet_write_journey.specs.internal.row.Row.{Row, copied}
 use Rattle.sheet_write_journey.proofs.row.Tree.{Rowing, rowing-none, rowing-row, rowing-field, rowing-as, rowing-here}
-use Rattle.sheet_write_journey.specs.rows.Widths.{pointWidths}
+use Rattle.sheet_write_journey.specs.internal.rows.Widths.{pointWidths}
 
 -- ---- a timing point is a row
 

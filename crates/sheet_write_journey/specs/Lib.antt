@@ -1,4 +1,1 @@
-pub mod Sheet
-pub mod constraint
-pub mod row
-pub mod rows
+pub mod internal

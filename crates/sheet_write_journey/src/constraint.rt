@@ -2,9 +2,9 @@
 ghost use mathlib.Core.Path.{_≡_};
 ghost use Prim.Native.Nat.{_+_};
 ghost use Rattle.grammar.specs.journey.Journey.{temporaryConstraint};
-ghost use Rattle.sheet_write_segment.specs.elements.Writing.{filled, PartWritable, Wrote};
-ghost use Rattle.sheet_write_journey.specs.row.Row.{putAll, Row, copied};
-ghost use Rattle.sheet_write_journey.specs.constraint.Numbers.{startWidths, restrictionAt, RestrictionFits};
+ghost use Rattle.sheet_write_segment.specs.internal.elements.Writing.{filled, PartWritable, Wrote};
+ghost use Rattle.sheet_write_journey.specs.internal.row.Row.{putAll, Row, copied};
+ghost use Rattle.sheet_write_journey.specs.internal.constraint.Numbers.{startWidths, restrictionAt, RestrictionFits};
 use crate::row::number;
 use crate::row::one;
 use kinds::body::VStatic;

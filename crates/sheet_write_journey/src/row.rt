@@ -4,8 +4,8 @@ ghost use mathlib.Core.Path.{_≡_};
 ghost use Prim.Native.Nat.{_+_, _<_, _≤_};
 ghost use lib.ListN.{length};
 ghost use Rattle.numbers.specs.Numbers.{groupsIn};
-ghost use Rattle.sheet_write_segment.specs.elements.Writing.{filled, putting};
-ghost use Rattle.sheet_write_journey.specs.row.Row.{putAll, FitAll, Row, copied};
+ghost use Rattle.sheet_write_segment.specs.internal.elements.Writing.{filled, putting};
+ghost use Rattle.sheet_write_journey.specs.internal.row.Row.{putAll, FitAll, Row, copied};
 
 // A number of one group, put at the byte n; the place after it.
 pub fn one(room: &mut [u8], n: usize, v: u32) -> usize

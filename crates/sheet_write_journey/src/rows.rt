@@ -2,9 +2,9 @@
 ghost use mathlib.Core.Path.{_≡_};
 ghost use Prim.Native.Nat.{_+_};
 ghost use Rattle.bits.specs.Bits.{fieldAt};
-ghost use Rattle.sheet_write_segment.specs.elements.Writing.{filled};
-ghost use Rattle.sheet_write_journey.specs.row.Row.{Row, copied};
-ghost use Rattle.sheet_write_journey.specs.rows.Widths.{headWidths, countWidths, startWidths, versionWidths, pointWidths, choiceWidths, closingWidths};
+ghost use Rattle.sheet_write_segment.specs.internal.elements.Writing.{filled};
+ghost use Rattle.sheet_write_journey.specs.internal.row.Row.{Row, copied};
+ghost use Rattle.sheet_write_journey.specs.internal.rows.Widths.{headWidths, countWidths, startWidths, versionWidths, pointWidths, choiceWidths, closingWidths};
 use crate::row::four;
 use crate::row::moment;
 use crate::row::number;

@@ -1,5 +1,4 @@
 -- What writing every field of an accepted packet comes to: the room with the packet's numbers in it.
--- Assumes nothing.
 use mathlib.Core.Path.{_≡_, refl}
 use mathlib.Core.List.{List}
 use Prim.Native.Nat.{ℕ, _+_, _*_, _≤_, _<_}
@@ -8,15 +7,15 @@ use lib.ListN.{length}
 use lib.Seq.{sets}
 use Rattle.bits.specs.Bits.{fieldAt}
 use Rattle.numbers.specs.Numbers.{groupsIn}
-use Rattle.numbers.specs.Groups.{Put}
+use Rattle.numbers.specs.internal.Groups.{Put}
 use Rattle.kinds.specs.Kinds.{lSp}
 use Rattle.format.specs.Format.{Format, field}
 use Rattle.grammar.specs.segment.Segment.{fields, wireChanges}
-use Rattle.grammar.specs.segment.Parts.{runs, headerPart, bodyPart, threeLists}
+use Rattle.grammar.specs.internal.segment.Parts.{runs, headerPart, bodyPart, threeLists}
 use Rattle.grammar.proofs.segment.Parts.{header-part}
 use Rattle.grammar.specs.declared.link.Tree.the-variants.{Segment}
-use Rattle.convert.specs.Writers.{fieldsOf, FieldsWritable}
-use Rattle.sheet_write_segment.specs.elements.Writing.{putting, filled, PartWritable, Wrote}
+use Rattle.convert.specs.internal.Writers.{fieldsOf, FieldsWritable}
+use Rattle.sheet_write_segment.specs.internal.elements.Writing.{putting, filled, PartWritable, Wrote}
 use Rattle.sheet_write_segment.proofs.elements.Whole.{tree-writable, tree-held}
 use Rattle.sheet_write_segment.proofs.elements.Writing.{Along, along-all, along-here, along-next, along-on, along-none, along-put, field-here, field-read}
 

@@ -1,5 +1,4 @@
 -- The fields before the speed profile, one after another; and one more change of a list.
--- Assumes nothing.
 use mathlib.Core.Path.{_≡_, refl, _∙_}
 use mathlib.Core.List.{List, [], _∷_}
 use Prim.Native.Nat.{ℕ, zero, suc, _+_, _*_, _-_, _≤_, _<_}
@@ -7,14 +6,14 @@ use native.Mathlib.Omega.{arith}
 use lib.ListN.{length, getD}
 use Rattle.bits.specs.Bits.{fieldAt}
 use Rattle.numbers.specs.Numbers.{groupsIn}
-use Rattle.numbers.specs.Groups.{Put}
+use Rattle.numbers.specs.internal.Groups.{Put}
 use Rattle.kinds.specs.Kind.{Kind}
 use Rattle.kinds.specs.Kinds.{mSpAltitude, dLocation}
 use Rattle.format.specs.Format.{Format, field, then}
 use Rattle.grammar.specs.segment.Segment.{changes}
-use Rattle.grammar.specs.segment.Parts.{headKinds, kindAt, runs}
+use Rattle.grammar.specs.internal.segment.Parts.{headKinds, kindAt, runs}
 use Rattle.grammar.proofs.segment.Parts.{changes-more, kind-wide}
-use Rattle.sheet_write_segment.specs.elements.Writing.{putting, PartWritable, Wrote}
+use Rattle.sheet_write_segment.specs.internal.elements.Writing.{putting, PartWritable, Wrote}
 use Rattle.sheet_write_segment.proofs.elements.Writing.{Along, along-all, along-as, along-here, along-next, along-on, along-none, along-put, wrote-on, field-here, field-read}
 
 -- ---- the fields before the speed profile

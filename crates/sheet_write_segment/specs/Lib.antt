@@ -1,1 +1,1 @@
-pub mod elements
+pub mod internal

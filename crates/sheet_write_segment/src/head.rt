@@ -2,8 +2,8 @@
 ghost use mathlib.Core.Path.{_≡_};
 ghost use Prim.Native.Nat.{_+_, _<_};
 ghost use Rattle.format.specs.Format.{then};
-ghost use Rattle.grammar.specs.segment.Parts.{kindAt, runs};
-ghost use Rattle.sheet_write_segment.specs.elements.Writing.{filled, PartWritable, Wrote};
+ghost use Rattle.grammar.specs.internal.segment.Parts.{kindAt, runs};
+ghost use Rattle.sheet_write_segment.specs.internal.elements.Writing.{filled, PartWritable, Wrote};
 use kinds::body;
 use kinds::header;
 

@@ -1,5 +1,4 @@
 -- A permitted speed is at most 604 km/h: every speed of a sheet's values is, and the lowest of some is one of them.
--- Assumes nothing.
 use mathlib.Core.Path.{_≡_, refl}
 use mathlib.Core.Bool.{Bool, true, false, cond, _&&_}
 use mathlib.Core.List.{List, [], _∷_}

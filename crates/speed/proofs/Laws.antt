@@ -1,5 +1,4 @@
 -- At every place of a segment some element holds; the permitted speed of lowered elements is the permitted speed, lowered; what the code asks of a train.
--- Assumes nothing.
 use mathlib.Core.Path.{_≡_, refl, sym, ap, _∙_}
 use mathlib.Core.Bool.{Bool, true, false, cond, _&&_}
 use mathlib.Core.List.{List, [], _∷_, map}
@@ -15,7 +14,7 @@ use Rattle.bits.proofs.Tests.{by-cases}
 use Rattle.kinds.specs.Kinds.{class}
 use Rattle.kinds.specs.Tables.{cantFigures, place}
 use Rattle.fields.proofs.Lookup.{place-small}
-use Rattle.fields.specs.lower.Lowered.{valueOr, lowered}
+use Rattle.fields.specs.internal.lower.Lowered.{valueOr, lowered}
 use Rattle.speed.specs.declared.Train.{Train}
 use Rattle.speed.specs.Speed.{found, figure, validTrain, belongs, memberships, Entry, Element, isNotAbove, notAbove, greatestFigure, isOf, figureSpeeds, cantSpeeds, namedSpeeds, lowest, instead, elementSpeed, endBefore, holds, heldSpeeds, permitted, inFives, entryInFives, elementInFives}
 

@@ -1,5 +1,4 @@
 -- The speed from lowered values is the speed, lowered: through the segment's tree, element by element.
--- Assumes nothing.
 use mathlib.Core.Path.{_≡_, refl, sym, ap, ap₂, _∙_}
 use mathlib.Core.Bool.{Bool, true, false}
 use mathlib.Core.List.{List, _∷_, map}

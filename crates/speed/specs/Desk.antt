@@ -1,5 +1,4 @@
 -- The desk cases on speed, and a train of each sort at one element: one table of questions, each with its answer.
--- Assumes nothing.
 use mathlib.Core.Bool.{Bool, true, false}
 use mathlib.Core.List.{List, [], _∷_, _++_}
 use Prim.Native.Nat.{ℕ}

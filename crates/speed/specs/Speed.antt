@@ -1,5 +1,4 @@
 -- Permitted speed, from the numbers of a segment's sheet.
--- Assumes nothing.
 use mathlib.Core.Bool.{Bool, true, false, cond, _&&_}
 use mathlib.Core.List.{List, [], _∷_, map}
 use mathlib.Core.Option.{Option, none, some}

@@ -1,5 +1,4 @@
 -- One speed more, and one element more: what stands for those before stands for it too.
--- Assumes nothing.
 use mathlib.Core.Path.{_≡_, ap, _∙_}
 use mathlib.Core.Bool.{Bool, true, false, cond, _&&_}
 use mathlib.Core.List.{List, [], _∷_}
@@ -15,7 +14,7 @@ use Rattle.speed.specs.declared.Train.{Train}
 use Rattle.speed.specs.Speed.{Entry, Element, belongs, memberships, notAbove, greatestFigure, greatestSpeeds, namedSpeeds, instead, elementSpeed, holds}
 use Rattle.speed_element.specs.declared.Lows.{Lows}
 use Rattle.speed_element.specs.declared.Open.{Open}
-use Rattle.speed_element.specs.Elements.{none, insteadFrom, lowestFrom, counted, Distant, folded, counts, noFigure, foldedEntry, cantFrom, cantOf, noLows, Kept, speedFrom, speedOf, Worked, OneMore, elementWith}
+use Rattle.speed_element.specs.internal.Elements.{none, insteadFrom, lowestFrom, counted, Distant, folded, counts, noFigure, foldedEntry, cantFrom, cantOf, noLows, Kept, speedFrom, speedOf, Worked, OneMore, elementWith}
 
 -- ---- one speed more
 

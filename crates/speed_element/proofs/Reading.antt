@@ -1,5 +1,4 @@
 -- The parts of an accepted speed profile in any medium: field after field, entry after entry, element after element.
--- Assumes nothing.
 use mathlib.Core.Path.{_≡_, refl, sym, ap, _∙_}
 use mathlib.Core.Bool.{true, false, cond}
 use mathlib.Core.List.{List, [], _∷_}
@@ -12,15 +11,15 @@ use Rattle.kinds.specs.Kind.{Kind}
 use Rattle.kinds.specs.Kinds.{qDiff, class, speed, qFront, nIter, dLocation}
 use Rattle.format.specs.Format.{Format, field, then, sheetNumbers}
 use Rattle.grammar.specs.segment.Segment.{entries, profile, changes, part}
-use Rattle.grammar.specs.segment.Parts.{entry}
+use Rattle.grammar.specs.internal.segment.Parts.{entry}
 use Rattle.grammar.proofs.segment.Parts.{entries-more, changes-more}
 use Rattle.speed.specs.declared.Train.{Train}
 use Rattle.speed.specs.Speed.{Element, elementSpeed, endBefore, holds, heldSpeeds, permitted, entriesOf, afterEntries, elementOf, afterElement, changesFrom, elementsFrom}
 use Rattle.speed_element.specs.declared.Lows.{Lows}
 use Rattle.speed_element.specs.declared.Following.{Following}
 use Rattle.speed_element.specs.declared.Open.{Open}
-use Rattle.speed_element.specs.Elements.{none, noLows, insteadFrom, speedFrom, Worked, OneMore, elementWith, elementAs}
-use Rattle.speed_element.specs.Reading.{Readable, Past, Passes, FieldRead, EntryRead, Opened, Opens, ElementRead, Ended, ChangeRead, NextRead, ChangesRead, ProfileRead}
+use Rattle.speed_element.specs.internal.Elements.{none, noLows, insteadFrom, speedFrom, Worked, OneMore, elementWith, elementAs}
+use Rattle.speed_element.specs.internal.Reading.{Readable, Past, Passes, FieldRead, EntryRead, Opened, Opens, ElementRead, Ended, ChangeRead, NextRead, ChangesRead, ProfileRead}
 use Rattle.speed_element.proofs.Lowest.{cant-last, speed-first, held-more}
 
 -- one more number is gone

@@ -5,7 +5,7 @@ ghost use mathlib.Core.Bool.{_&&_};
 ghost use mathlib.Core.List.{[]};
 ghost use Prim.Native.Nat.{min, _<_};
 ghost use Rattle.speed.specs.Speed.{holds};
-ghost use Rattle.speed_element.specs.Elements.{none, counted, Distant, cantOf, noLows, insteadFrom, Kept, Worked, OneMore, elementWith};
+ghost use Rattle.speed_element.specs.internal.Elements.{none, counted, Distant, cantOf, noLows, insteadFrom, Kept, Worked, OneMore, elementWith};
 use speed::Train;
 
 // Stands for no speed, as every number from it on. Speeds are below it, so that the lowest of it and another is the other, and no flag goes along.

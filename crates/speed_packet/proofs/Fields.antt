@@ -1,5 +1,4 @@
 -- A field of an accepted packet, and fields that stand side by side in one window.
--- Assumes nothing.
 use mathlib.Core.Path.{_≡_, refl, sym, ap, _∙_}
 use mathlib.Core.Bool.{true, false, cond}
 use mathlib.Core.List.{List}
@@ -20,18 +19,18 @@ use Rattle.kinds.specs.Kinds.{qDiff, class, speed, qFront, nIter}
 use Rattle.kinds.specs.Tables.{cantFigures}
 use Rattle.format.specs.Format.{Format, field, then, sheetNumbers}
 use Rattle.format.specs.Media.{packet}
-use Rattle.format.specs.Places.{Taken, bitsBetween, takenAt, bitsTaken}
+use Rattle.format.specs.internal.Places.{Taken, bitsBetween, takenAt, bitsTaken}
 use Rattle.format.proofs.Places.{bits-short, bits-whole}
 use Rattle.format.proofs.Passing.{packet-seen}
 use Rattle.format.proofs.Accepted.{Accepts, field-accepted}
 use Rattle.grammar.specs.segment.Segment.{entries, profile}
-use Rattle.grammar.specs.segment.Parts.{entry}
+use Rattle.grammar.specs.internal.segment.Parts.{entry}
 use Rattle.grammar.proofs.segment.Parts.{class-width}
 use Rattle.speed.specs.Speed.{afterEntries}
-use Rattle.speed_element.specs.Elements.{none, Kept}
-use Rattle.speed_element.specs.Reading.{Readable, Past, Passes, FieldRead}
+use Rattle.speed_element.specs.internal.Elements.{none, Kept}
+use Rattle.speed_element.specs.internal.Reading.{Readable, Past, Passes, FieldRead}
 use Rattle.speed_element.proofs.Reading.{entriesEnd, readable-field, entry-passes, entries-pass}
-use Rattle.speed_packet.specs.Asking.{endOf, Reads}
+use Rattle.speed_packet.specs.internal.Asking.{endOf, Reads}
 
 category-raised : (q v : ℕ) → 0 < q → class q .allowed v ≡ true → class q .raise v < 3
 category-raised zero v h e = absurd (omega arith)

@@ -1,5 +1,4 @@
 -- The fields of an accepted packet, from the first to the speed profile.
--- Assumes nothing.
 use mathlib.Core.Path.{_≡_, refl, sym, ap, _∙_}
 use mathlib.Core.List.{List, _∷_}
 use Prim.Native.Nat.{ℕ, _+_, _*_, _-_, _/_, _^_, _≤_, _<_}
@@ -21,9 +20,9 @@ use Rattle.grammar.specs.segment.Judgement.{fromPacket}
 use Rattle.grammar.proofs.segment.Framing.{padded-accepted}
 use Rattle.speed.specs.declared.Train.{Train}
 use Rattle.speed.specs.Speed.{segmentLength, profileOf, speedIn}
-use Rattle.speed_element.specs.Reading.{Readable, Past, ProfileRead}
+use Rattle.speed_element.specs.internal.Reading.{Readable, Past, ProfileRead}
 use Rattle.speed_element.proofs.Reading.{past-here, then-past, then-is}
-use Rattle.speed_packet.specs.Asking.{AcceptedPacket, numbersOfPacket, Reads}
+use Rattle.speed_packet.specs.internal.Asking.{AcceptedPacket, numbersOfPacket, Reads}
 use Rattle.speed_packet.proofs.Fields.{field-read, field-fits}
 
 module _ (s : List ℕ) where

@@ -1,5 +1,4 @@
 -- The answer of a question: by the refusal of the train and the place, and by the verdict on the packet or the sheet.
--- Assumes nothing.
 use mathlib.Core.Path.{_≡_, sym, ap, ap₂, _∙_}
 use mathlib.Core.Bool.{true, false}
 use mathlib.Core.List.{List}
@@ -12,11 +11,11 @@ use Rattle.format.specs.Format.{accepted, refused, valuesOf, answerOf, sheetNum
 use Rattle.format.specs.Media.{packet, sheet}
 use Rattle.grammar.specs.segment.Segment.{fields, sheetFields, wireChanges}
 use Rattle.grammar.specs.declared.link.Tree.the-variants.{Segment}
-use Rattle.grammar.specs.link.Trees.{treeSheetFields}
+use Rattle.grammar.specs.internal.link.Trees.{treeSheetFields}
 use Rattle.grammar.specs.segment.Judgement.{fromPacket, fromSheet}
 use Rattle.verdict.specs.declared.PacketVerdict.the-variants as PacketVerdict
 use Rattle.verdict.specs.declared.SheetVerdict.the-variants as SheetVerdict
-use Rattle.verdict.specs.Verdict.{sizeFrom, packetVerdict, sheetVerdict}
+use Rattle.verdict.specs.internal.Verdict.{sizeFrom, packetVerdict, sheetVerdict}
 use Rattle.verdict.proofs.Sizes.{packet-sorts, sheet-sorts}
 use Rattle.verdict.proofs.Accepted.{verdict-accepted, verdict-refused}
 use Rattle.speed.specs.declared.Train.{Train}

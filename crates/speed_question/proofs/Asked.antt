@@ -1,5 +1,4 @@
 -- The question by its medium: what is brought by 0 or 1 is answered as before, and a medium that is neither is refused, first of all.
--- Assumes nothing.
 use mathlib.Core.Path.{_≡_, refl}
 use mathlib.Core.List.{List}
 use Prim.Native.Nat.{ℕ}

@@ -1,5 +1,4 @@
 -- The question on speed, as a total function of the medium, the bytes, the train and the place.
--- Assumes nothing.
 use mathlib.Core.Path.{_≡_}
 use mathlib.Core.Bool.{cond}
 use mathlib.Core.List.{List}

@@ -1,5 +1,4 @@
 -- A run of numbers passed over byte by byte: the place is within one of them, or after the last.
--- Assumes nothing.
 use mathlib.Core.Path.{_≡_, refl}
 use mathlib.Core.List.{List}
 use Prim.Native.Nat.{ℕ, _+_, _-_, _/_, _≤_, _<_}
@@ -9,9 +8,9 @@ use lib.Dec.{ltb}
 use lib.ListN.{length, getD}
 use Rattle.bits.specs.Bits.{Bytes}
 use Rattle.bits.proofs.Tests.{by-cases}
-use Rattle.grammar.specs.segment.Parts.{kindAt, runs}
-use Rattle.speed_element.specs.Reading.{Readable}
-use Rattle.speed_sheet.specs.Asking.{numberEnd, Reads}
+use Rattle.grammar.specs.internal.segment.Parts.{kindAt, runs}
+use Rattle.speed_element.specs.internal.Reading.{Readable}
+use Rattle.speed_sheet.specs.internal.Asking.{numberEnd, Reads}
 use Rattle.speed_sheet.proofs.Groups.{NumberHere, number-some, number-inside, group-at}
 use Rattle.speed_sheet.proofs.Numbers.{known}
 use Rattle.speed_sheet.proofs.Parts.{Running, running-readable, running-next}

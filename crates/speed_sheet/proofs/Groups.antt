@@ -1,5 +1,4 @@
 -- The groups of a number one after another: each but the last says that another follows.
--- Assumes nothing.
 use mathlib.Core.Path.{_≡_, refl, sym, ap, _∙_}
 use mathlib.Core.List.{List, [], _∷_}
 use Prim.Native.Nat.{ℕ, zero, suc, _+_, _-_, _/_, _%_, _^_, _≤_, _<_}
@@ -12,11 +11,11 @@ use Rattle.bits.specs.Bits.{Bytes}
 use Rattle.bits.proofs.Tests.{by-cases}
 use Rattle.numbers.specs.declared.Number.the-variants.{Value}
 use Rattle.numbers.specs.Numbers.{numberIn, groupsOf, groupsIn}
-use Rattle.numbers.specs.Groups.{counted}
+use Rattle.numbers.specs.internal.Groups.{counted}
 use Rattle.numbers.proofs.Counting.{last-group, more-groups, fewer, some-group, count-some}
 use Rattle.numbers.proofs.Reading.{Spelled, number-only}
 use Rattle.format.proofs.Media.{bytes-drop}
-use Rattle.speed_sheet.specs.Asking.{countedAt}
+use Rattle.speed_sheet.specs.internal.Asking.{countedAt}
 
 -- of n groups, the one at i is the byte b
 pub record Group (n i b : ℕ) : Type 0 where

@@ -1,5 +1,4 @@
 -- A number of an accepted sheet, as the code reads it: with its groups counted.
--- Assumes nothing.
 use mathlib.Core.Path.{_≡_, refl, sym, ap, _∙_}
 use mathlib.Core.List.{List, _++_}
 use mathlib.Core.Option.{Option, none, some}
@@ -13,7 +12,7 @@ use Rattle.numbers.specs.declared.Number.the-variants.{Value, Bad}
 use Rattle.numbers.specs.Numbers.{numberIn, groupsIn}
 use Rattle.bits.proofs.Tests.{by-cases}
 use Rattle.numbers.specs.declared.Found.{Found}
-use Rattle.numbers.specs.Groups.{counted, found}
+use Rattle.numbers.specs.internal.Groups.{counted, found}
 use Rattle.numbers.proofs.Reading.{found-counted, number-only, number-end}
 use Rattle.numbers.proofs.Counting.{last-group, more-groups}
 use Rattle.kinds.specs.declared.Item.{Item}
@@ -21,14 +20,14 @@ use Rattle.kinds.specs.Kind.{Kind}
 use Rattle.kinds.specs.Judged.{fieldWith}
 use Rattle.format.specs.Format.{Format, field, sheetNumbers}
 use Rattle.format.specs.Media.{sheet}
-use Rattle.format.specs.Places as places
-use Rattle.format.specs.Places.{Taken, takenAt, numberTaken}
+use Rattle.format.specs.internal.Places as places
+use Rattle.format.specs.internal.Places.{Taken, takenAt, numberTaken}
 use Rattle.format.proofs.Media.{bytes-drop}
 use Rattle.format.proofs.Passing.{sheet-seen}
 use Rattle.format.proofs.Accepted.{Accepts, field-accepted}
-use Rattle.speed_element.specs.Reading.{Past, FieldRead}
+use Rattle.speed_element.specs.internal.Reading.{Past, FieldRead}
 use Rattle.speed_element.proofs.Reading.{first-left}
-use Rattle.speed_sheet.specs.Asking.{countedAt, NumberAt, Reads}
+use Rattle.speed_sheet.specs.internal.Asking.{countedAt, NumberAt, Reads}
 
 -- what is taken of a number
 record NumberTaken (k : Kind) (s : List ℕ) (at : ℕ) (i : Item) (to : ℕ) : Type 0 where

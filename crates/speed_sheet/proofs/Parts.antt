@@ -1,5 +1,4 @@
 -- The parts of an accepted sheet, from the numbers that the code reads.
--- Assumes nothing.
 use mathlib.Core.Path.{_≡_, refl, sym, ap, _∙_}
 use mathlib.Core.Bool.{Bool, true, false, _&&_}
 use mathlib.Core.List.{List}
@@ -21,15 +20,15 @@ use Rattle.format.specs.Format.{Format, end, field, then, read, valuesOf, sheet
 use Rattle.format.specs.Media.{sheet}
 use Rattle.grammar.specs.segment.Segment.{entries, profile, voltage, current, part, lists, body, fields, sheetFields, wireChanges}
 use Rattle.grammar.specs.segment.Judgement.{fromSheet}
-use Rattle.grammar.specs.segment.Parts.{entry, kindAt, runs, threeLists}
+use Rattle.grammar.specs.internal.segment.Parts.{entry, kindAt, runs, threeLists}
 use Rattle.grammar.proofs.segment.Parts.{runs-more, runs-none}
 use Rattle.speed.specs.declared.Train.{Train}
 use Rattle.speed.specs.Speed.{speedIn}
 use Rattle.speed.proofs.Lowering.{when-is}
-use Rattle.speed_element.specs.Elements.{none, Kept}
-use Rattle.speed_element.specs.Reading.{Readable, Past, Passes, FieldRead, ProfileRead}
+use Rattle.speed_element.specs.internal.Elements.{none, Kept}
+use Rattle.speed_element.specs.internal.Reading.{Readable, Past, Passes, FieldRead, ProfileRead}
 use Rattle.speed_element.proofs.Reading.{readable-field, past-here, then-past, then-is, passes-past}
-use Rattle.speed_sheet.specs.Asking.{AcceptedSheet, numbersOfSheet, countedAt, NumberAt, numberEnd, shortEnd, entryEnd, Reads, HeadRead}
+use Rattle.speed_sheet.specs.internal.Asking.{AcceptedSheet, numbersOfSheet, countedAt, NumberAt, numberEnd, shortEnd, entryEnd, Reads, HeadRead}
 use Rattle.speed_sheet.proofs.Numbers.{valueOr, field-read, field-any, known}
 
 class-highest : (q : ℕ) → class q .highest < 16384

@@ -1,5 +1,4 @@
 -- An accepted packet's sheet: its bytes, its numbers, and how many changes its speed profile has.
--- Assumes nothing.
 use mathlib.Core.Path.{_≡_, refl, ap, _∙_}
 use mathlib.Core.List.{List, _∷_, _++_}
 use Prim.Native.Nat.{ℕ, zero, suc, _≤_}
@@ -26,9 +25,9 @@ use Rattle.grammar.specs.link.Link.{toEitherSheet}
 use Rattle.grammar.proofs.link.Segments.{segment-accepted, segment-sheet-of}
 use Rattle.convert.specs.Convert.{Outcome, successWith, fitted, converted, packetToSheet}
 use Rattle.speed.specs.Speed.{afterEntries, afterElement}
-use Rattle.text.specs.sheet.Numbers.{numbersIn}
-use Rattle.text.specs.lines.Changes.{changesOf}
-use Rattle.text.specs.Writers.{PacketAccepted}
+use Rattle.text.specs.internal.sheet.Numbers.{numbersIn}
+use Rattle.text.specs.internal.lines.Changes.{changesOf}
+use Rattle.text.specs.internal.Writers.{PacketAccepted}
 use Rattle.text.proofs.sheet.Reading.{numbers-written}
 
 -- ---- "N_ITER 5 (0 to 31), then that many changes"

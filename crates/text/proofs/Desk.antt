@@ -1,5 +1,4 @@
 -- The samples of the listing, and the lines of refusals.
--- Assumes nothing.
 use mathlib.Core.Path.{_≡_, refl}
 use mathlib.Core.List.{[]}
 use lib.ListN.{take}

@@ -1,5 +1,4 @@
 -- "no longer input can pass rule 3": what is past 8,208 bytes changes nothing.
--- Assumes nothing.
 use mathlib.Core.Path.{_≡_, refl, ap, _∙_}
 use mathlib.Core.Bool.{cond}
 use mathlib.Core.List.{List, [], _∷_}

@@ -1,5 +1,4 @@
 -- Each number of a listing is the number of the value that stands where the tree has its field.
--- Assumes nothing.
 use mathlib.Core.Path.{_≡_, refl, ap}
 use mathlib.Core.List.{List, [], _∷_, _++_}
 use Prim.Native.Nat.{ℕ, zero, suc}

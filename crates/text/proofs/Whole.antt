@@ -1,5 +1,4 @@
 -- The whole listing: by the altitude's answer, and never longer than 1,669 bytes.
--- Assumes nothing.
 use mathlib.Core.Path.{_≡_, refl, sym, ap, _∙_}
 use mathlib.Core.List.{List, _++_}
 use Prim.Native.Nat.{ℕ, zero, suc, _+_, _*_, _≤_}
@@ -17,9 +16,9 @@ use Rattle.altitude.specs.declared.Altitude.{Altitude}
 use Rattle.altitude.specs.Altitude.{centimetres, altitudeField, altitudeOfRead, altitudeOf}
 use Rattle.text.specs.words.Words.{Laid}
 use Rattle.text.specs.lines.Lines.{segmentLine, elementLine, elementLines, lines}
-use Rattle.text.specs.lines.Changes.{changesOf}
+use Rattle.text.specs.internal.lines.Changes.{changesOf}
 use Rattle.text.specs.Listing.{refusedLine, listed, listingOf, Listed, listingIn}
-use Rattle.text.specs.Writers.{PacketAccepted}
+use Rattle.text.specs.internal.Writers.{PacketAccepted}
 use Rattle.text.proofs.words.Putting.{decimal-short}
 use Rattle.text.proofs.lines.Laying.{element-short, segment-short}
 use Rattle.text.proofs.Accepted.{few-changes}

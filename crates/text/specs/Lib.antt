@@ -1,7 +1,6 @@
-pub mod Listing
 pub mod Desk
+pub mod Listing
 pub mod Names
-pub mod Writers
+pub mod internal
 pub mod lines
-pub mod sheet
 pub mod words

@@ -1,5 +1,4 @@
 -- The listing of a packet: the text that the program writes, as a total function of the packet's bytes.
--- Assumes nothing.
 use mathlib.Core.List.{List, _++_}
 use Prim.Native.Nat.{ℕ}
 use lib.ListN.{length, drop}

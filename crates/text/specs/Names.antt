@@ -1,5 +1,4 @@
 -- The listing by its fields: each number that is printed is the number of the value that stands where the tree has its field.
--- Assumes nothing.
 use mathlib.Core.Path.{_≡_}
 use mathlib.Core.List.{List, [], _∷_, _++_}
 use Prim.Native.Nat.{ℕ, suc}

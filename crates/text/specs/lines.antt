@@ -1,3 +1,2 @@
 -- The definitions of the module lines.
 pub mod Lines
-pub mod Changes

@@ -12,7 +12,7 @@ ghost use Rattle.grammar.specs.segment.Judgement.{fromPacket};
 ghost use Rattle.text.specs.words.Words.{Laid};
 ghost use Rattle.text.specs.lines.Lines.{lines};
 ghost use Rattle.text.specs.Listing.{refusedLine, listingIn};
-ghost use Rattle.text.specs.Writers.{PacketAccepted};
+ghost use Rattle.text.specs.internal.Writers.{PacketAccepted};
 
 // The bytes of a room that holds any listing.
 pub const ROOM: usize = 2048;

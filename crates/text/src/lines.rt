@@ -2,10 +2,10 @@
 ghost use Prim.Native.Nat.{_+_, _*_, _≤_};
 ghost use lib.ListN.{length, drop};
 ghost use Rattle.speed.specs.Speed.{elementOf, afterElement, changesFrom};
-ghost use Rattle.text.specs.sheet.Numbers.{numbersIn, NumbersAt};
+ghost use Rattle.text.specs.internal.sheet.Numbers.{numbersIn, NumbersAt};
 ghost use Rattle.text.specs.words.Words.{Laid};
 ghost use Rattle.text.specs.lines.Lines.{namesText, measures, segmentLine, elementLine, elementLines, lines};
-ghost use Rattle.text.specs.lines.Changes.{changesOf};
+ghost use Rattle.text.specs.internal.lines.Changes.{changesOf};
 use crate::sheet::number;
 use crate::sheet::past;
 use crate::words::put_labelled;

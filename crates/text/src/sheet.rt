@@ -2,7 +2,7 @@
 ghost use mathlib.Core.Path.{_≡_};
 ghost use Prim.Native.Nat.{_≤_};
 ghost use lib.ListN.{length, drop, getD};
-ghost use Rattle.text.specs.sheet.Numbers.{numbersIn, NumbersAt};
+ghost use Rattle.text.specs.internal.sheet.Numbers.{numbersIn, NumbersAt};
 use numbers::Number;
 
 // The number at the byte at, and 0 where there is none.

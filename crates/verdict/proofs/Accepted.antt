@@ -1,5 +1,4 @@
 -- What a verdict tells of what was read; and the frame and the fields of an accepted packet.
--- Assumes nothing.
 use mathlib.Core.Path.{_≡_, refl, sym, ap, _∙_}
 use mathlib.Core.List.{List, _∷_}
 use Prim.Native.Nat.{ℕ}
@@ -11,13 +10,13 @@ use Rattle.format.specs.Media.{packet}
 use Rattle.grammar.specs.segment.Frame.{firstOne, numberItem}
 use Rattle.grammar.specs.declared.link.Tree.{Tree}
 use Rattle.grammar.specs.link.Link.{treeNumber, treeFields}
-use Rattle.grammar.specs.link.Trees.{treePacket}
+use Rattle.grammar.specs.internal.link.Trees.{treePacket}
 use Rattle.grammar.proofs.segment.Framing.{padded-accepted}
-use Rattle.format.specs.Places.{bitsBetween}
+use Rattle.format.specs.internal.Places.{bitsBetween}
 use Rattle.verdict.specs.declared.PacketVerdict.the-variants as PacketVerdict
 use Rattle.verdict.specs.declared.frame.Frame.the-variants as Frame
-use Rattle.verdict.specs.Verdict.{verdictOf}
-use Rattle.verdict.specs.frame.Framed.{frameOf}
+use Rattle.verdict.specs.internal.Verdict.{verdictOf}
+use Rattle.verdict.specs.internal.frame.Framed.{frameOf}
 use Rattle.verdict.proofs.frame.Framing.{packet-frame, packet-fields}
 use Rattle.verdict.proofs.Sizes.{Sorts, packet-sorts}
 

@@ -1,5 +1,4 @@
 -- The size of what is written of the values that are read, and the two sorts of a verdict.
--- Assumes nothing.
 use mathlib.Core.Path.{_≡_, refl}
 use mathlib.Core.List.{List, _∷_}
 use Prim.Native.Nat.{ℕ}
@@ -12,10 +11,10 @@ use Rattle.grammar.specs.segment.Frame.{numberItem}
 use Rattle.grammar.specs.declared.link.Tree.{Tree}
 use Rattle.grammar.specs.declared.link.Tree.the-variants.{Segment, Journey}
 use Rattle.grammar.specs.link.Link.{treeNumber, treeFields}
-use Rattle.grammar.specs.link.Trees.{treeSheetFields}
+use Rattle.grammar.specs.internal.link.Trees.{treeSheetFields}
 use Rattle.verdict.specs.declared.PacketVerdict.the-variants as PacketVerdict
 use Rattle.verdict.specs.declared.SheetVerdict.the-variants as SheetVerdict
-use Rattle.verdict.specs.Verdict.{sizeFrom}
+use Rattle.verdict.specs.internal.Verdict.{sizeFrom}
 
 number-byte : (t : Tree) → length (groupsIn (treeNumber t)) ≡ 1
 unfolding groupsIn

@@ -3,7 +3,7 @@ ghost use mathlib.Core.Path.{_≡_};
 ghost use Prim.Native.Nat.{_+_, _*_, _^_, _≤_, _<_};
 ghost use lib.ListN.{length, drop};
 ghost use Rattle.bits.specs.Bits.{bitsOfBytes};
-ghost use Rattle.verdict.specs.frame.Framed.{frameOf, oneOrEnd};
+ghost use Rattle.verdict.specs.internal.frame.Framed.{frameOf, oneOrEnd};
 use kinds::header;
 use kinds::refusals::PACKET_LENGTH;
 use kinds::refusals::PACKET_NUMBER;

@@ -1,5 +1,4 @@
 -- One field more after the bits that are put: the number of what waits, and the bytes.
--- Assumes nothing.
 use mathlib.Core.Path.{_≡_, refl, sym, ap, ap₂, _∙_}
 use mathlib.Core.Bool.{Bool}
 use mathlib.Core.List.{List, [], _∷_, _++_}
@@ -14,7 +13,7 @@ use Rattle.bits.specs.Bits.{bitsOf, number, fill, pack, bytesOfBits}
 use Rattle.bits.proofs.Spelling.{length-bits, number-bits, number-small, number-append}
 use Rattle.bits.proofs.Padding.{length-fill, fill-add, zeros, length-zeros, fill-zeros, zero-bits, pack-add, take-pack, pack-front, length-pack}
 use Rattle.bits.proofs.Cells.{sets-append, take-cells}
-use Rattle.bits.specs.write.Filling.{bytesIn, Filled, Filling}
+use Rattle.bits.specs.internal.write.Filling.{bytesIn, Filled, Filling}
 
 -- ---- bytes of a number
 

@@ -1,6 +1,6 @@
 -- `to_sheet::write_sheet` meets its contract.
 use Rattle.numbers.specs.Numbers.{groupsIn}
-use Rattle.numbers.specs.Groups.{Put}
+use Rattle.numbers.specs.internal.Groups.{Put}
 use lib.Seq.{length-sets}
 use lib.ListN.{length}
 use Rattle.verdict.proofs.Accepted.{accepted-frame}

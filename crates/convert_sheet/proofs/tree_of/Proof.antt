@@ -1,6 +1,6 @@
 -- `to_packet::tree_of` meets its contract.
 use mathlib.Core.Path.{ap, sym, _∙_}
-use Rattle.grammar.specs.link.Trees.{byNumber}
+use Rattle.grammar.specs.internal.link.Trees.{byNumber}
 use borrow.Author.Needs.{needs}
 use Rattle.convert_sheet.proofs.tree_of.Statement.{statement}
 use Rattle.convert_sheet.proofs.tree_of.Tie as tie

@@ -1,5 +1,4 @@
 -- What the code's tests make of a number is what its kind makes of it; and what is known of the one number that is made.
--- Assumes nothing.
 use mathlib.Core.Path.{_≡_, refl, ap, _∙_}
 use mathlib.Core.Bool.{Bool, true, _&&_}
 use mathlib.Core.Option.{Option, none, some}
@@ -14,7 +13,7 @@ use Rattle.kinds.specs.Tables.{cantFigures, place}
 use Rattle.kinds.specs.Kinds.{speed, ncCdDiff, ncDiff, class, mCurrent}
 use Rattle.fields.proofs.Lawful.{LawfulKind, value-small}
 use Rattle.fields.proofs.Lookup.{place-small, place-again, place-stands, cants-distinct}
-use Rattle.fields.specs.lower.Lowered.{valueOr, lowered}
+use Rattle.fields.specs.internal.lower.Lowered.{valueOr, lowered}
 
 -- ---- a value, or none
 

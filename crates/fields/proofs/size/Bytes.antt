@@ -1,5 +1,4 @@
 -- The bytes of a value in the sheet: 0 exactly where it is refused.
--- Assumes nothing.
 use mathlib.Core.Path.{_≡_, refl, sym, ap, _∙_}
 use mathlib.Core.Bool.{Bool, true, false, cond, _&&_, and-false}
 use mathlib.Core.List.{List}
@@ -16,7 +15,7 @@ use Rattle.kinds.specs.Kind.{Kind}
 use Rattle.kinds.specs.Kinds.{ncCdDiff, ncDiff, class, mostTraction, mCurrent}
 use Rattle.kinds.specs.Tables.{cantFigures, volts}
 use Rattle.kinds.specs.Judged.{valueInPacket}
-use Rattle.fields.specs.size.Counts.{bytesOf, mostClass}
+use Rattle.fields.specs.internal.size.Counts.{bytesOf, mostClass}
 
 module _ (k : Kind) (v : ℕ) where
   -- a value that is allowed, and one that is not

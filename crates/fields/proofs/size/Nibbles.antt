@@ -1,5 +1,4 @@
 -- All digits of a number tested at once: a digit above nine has its top bit and, of its three others, 2 or more; F has 7.
--- Assumes nothing.
 use mathlib.Core.Path.{_≡_, refl, sym, ap, _∙_}
 use mathlib.Core.Bool.{Bool, true, false, _&&_}
 use Prim.Native.Nat.{ℕ, zero, suc, _+_, _*_, _/_, _%_, _^_, _≤_, _<_}

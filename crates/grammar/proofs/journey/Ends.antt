@@ -1,5 +1,4 @@
 -- The ends of a journey: 11 bits of a body at least, 8 bytes of a sheet at least, and at most 15,226 bytes of a sheet whose packet's body has at most 65,535 bits; and that they are reached.
--- Assumes nothing.
 use mathlib.Core.Path.{_≡_}
 use mathlib.Core.Bool.{true}
 use mathlib.Core.List.{List, [], _∷_}
@@ -21,10 +20,10 @@ use Rattle.format.specs.Conforming.{Conforming, InSheet}
 use Rattle.format.proofs.Lawful.{Lawful}
 use Rattle.format.proofs.Sized.{Measured, within, lawful}
 use Rattle.grammar.specs.segment.Segment.{header}
-use Rattle.grammar.specs.rows.Rows.{row, fits}
+use Rattle.grammar.specs.internal.rows.Rows.{row, fits}
 use Rattle.grammar.proofs.rows.Measured.{no-row, first-fits, first-lawful, sum}
 use Rattle.grammar.specs.journey.Journey.{timingPoint, temporaryConstraint, journeySegment, journeyBody, journeyFields, journeySheet}
-use Rattle.grammar.specs.journey.Parts.{headerWidths, headerMost, segmentWidths, segmentMost, arrivalWidths, arrivalMost, stoppingWidths, stoppingMost}
+use Rattle.grammar.specs.internal.journey.Parts.{headerWidths, headerMost, segmentWidths, segmentMost, arrivalWidths, arrivalMost, stoppingWidths, stoppingMost}
 use Rattle.grammar.proofs.journey.Parts.{header-rows, segment-rows, point-rows, header-fits, segment-fits, arrival-fits, stopping-fits}
 use Rattle.grammar.proofs.journey.Tree.{Costs, end-width, level-width, constraint-groups, start-lawful, end-lawful, front-lawful, level-lawful, adhesion-lawful, fields-measured, sheet-measured}
 use Rattle.grammar.proofs.journey.Weighed.{Weighed, empty, more, looser, weighs}

@@ -1,5 +1,4 @@
 -- The parts of a journey's tree are rows of fields, and each row's largest values fit its widths.
--- Assumes nothing.
 use mathlib.Core.Path.{_≡_, refl}
 use mathlib.Core.Bool.{true}
 use Prim.Native.Nat.{ℕ}
@@ -8,10 +7,10 @@ use Rattle.bits.proofs.Tests.{by-cases}
 use Rattle.kinds.specs.Kinds.{nidOperational, nIter}
 use Rattle.format.specs.Format.{Format, field, then}
 use Rattle.grammar.specs.segment.Segment.{header}
-use Rattle.grammar.specs.rows.Rows.{row, fits}
+use Rattle.grammar.specs.internal.rows.Rows.{row, fits}
 use Rattle.kinds.specs.journey.Kinds.{qStopSkipPasses}
 use Rattle.grammar.specs.journey.Journey.{timingPoint, journeySegment}
-use Rattle.grammar.specs.journey.Parts.{headerWidths, headerMost, segmentWidths, segmentMost, arrivalWidths, arrivalMost, stoppingWidths, stoppingMost, segmentRest}
+use Rattle.grammar.specs.internal.journey.Parts.{headerWidths, headerMost, segmentWidths, segmentMost, arrivalWidths, arrivalMost, stoppingWidths, stoppingMost, segmentRest}
 
 pub header-rows : (f : Format) → header f ≡ then nidOperational (row headerWidths headerMost f)
 unfolding row

@@ -1,5 +1,4 @@
 -- The journey's tree, measured once for any costs of its kinds; so its kinds are lawful, and its size is known in any medium.
--- Assumes nothing.
 use mathlib.Core.Path.{_≡_, refl}
 use mathlib.Core.Bool.{Bool, true, false, _||_}
 use Prim.Native.Nat.{ℕ, zero, suc, _+_, _*_, _-_, _^_, _≤_, _<_}
@@ -19,7 +18,7 @@ use Rattle.format.proofs.Sized.{Measured, over, plus, within}
 use Rattle.grammar.proofs.rows.Measured.{sum, row-measured}
 use Rattle.kinds.specs.journey.Kinds.{journeyNumber, qJpStatus, nIterSp, qStopSkipPasses, qTcType, qTcRange, mostWhere, dTcStartLocation, dTcEndLocation, qTcFront, vSpeedLevel, qLowAdhesionRate}
 use Rattle.grammar.specs.journey.Journey.{timingPoint, temporaryConstraint, journeySegment, journeyBody, journeyFields, journeySheet}
-use Rattle.grammar.specs.journey.Parts.{headerWidths, headerMost, segmentWidths, segmentMost, arrivalWidths, arrivalMost, stoppingWidths, stoppingMost}
+use Rattle.grammar.specs.internal.journey.Parts.{headerWidths, headerMost, segmentWidths, segmentMost, arrivalWidths, arrivalMost, stoppingWidths, stoppingMost}
 use Rattle.grammar.proofs.journey.Parts.{header-rows, segment-rows, point-rows, header-fits, segment-fits, arrival-fits, stopping-fits}
 
 -- a value up to a limit

@@ -1,5 +1,4 @@
 -- How long the sheet of a tree is at most, by the bits of its packet: p bytes weigh no more than q bits, but for what the tree itself adds or leaves. A law for any tree.
--- Assumes nothing.
 use mathlib.Core.Path.{_≡_}
 use mathlib.Core.Bool.{true}
 use mathlib.Core.List.{List}

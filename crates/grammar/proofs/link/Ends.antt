@@ -1,5 +1,4 @@
 -- The ends of what is on the link: how long a packet and a sheet are, whichever of the two it is.
--- Assumes nothing.
 use mathlib.Core.Path.{_≡_, ap}
 use mathlib.Core.Bool.{_||_}
 use mathlib.Core.List.{List, _∷_}
@@ -25,7 +24,7 @@ use Rattle.grammar.proofs.journey.Ends as journey
 use Rattle.grammar.specs.declared.link.Tree.{Tree}
 use Rattle.grammar.specs.declared.link.Tree.the-variants.{Segment, Journey}
 use Rattle.grammar.specs.link.Link.{treeNumber, treeFields, treeOf, linkNumber, linkFields, numberAmong, linkBits, toEitherPacket, toEitherSheet}
-use Rattle.grammar.specs.link.Trees.{treeSheetFields}
+use Rattle.grammar.specs.internal.link.Trees.{treeSheetFields}
 use Rattle.grammar.specs.link.Grounds.{EitherSheetValues}
 use Rattle.grammar.proofs.link.Trees.{tree-again}
 use Rattle.grammar.proofs.link.Values.{tree-packet, tree-sheet}

@@ -1,5 +1,4 @@
 -- A packet and a sheet of the link are refused exactly on their grounds, and the refusals are those listed.
--- Assumes nothing.
 use mathlib.Core.Path.{_≡_, refl, sym, ap, _∙_}
 use mathlib.Core.List.{List, [], _∷_, _++_}
 use mathlib.Core.Logic.{_↔_}

@@ -1,5 +1,4 @@
 -- How far from the start of a packet and of a sheet a refusal's place can be.
--- Assumes nothing.
 use mathlib.Core.Path.{_≡_}
 use mathlib.Core.List.{List}
 use Prim.Native.Nat.{ℕ, _^_, _<_}
@@ -15,7 +14,7 @@ use Rattle.grammar.specs.journey.Journey.{journeyFields, journeySheet, c
 use Rattle.grammar.proofs.journey.Ends as journey
 use Rattle.grammar.specs.declared.link.Tree.{Tree}
 use Rattle.grammar.specs.declared.link.Tree.the-variants.{Segment, Journey}
-use Rattle.grammar.specs.link.Trees.{treeSheetFields, treeSheet}
+use Rattle.grammar.specs.internal.link.Trees.{treeSheetFields, treeSheet}
 
 -- no sheet of either tree, however long, is judged past byte 359,318
 pub sheet-place : (t : Tree) (s : List ℕ) (r place : ℕ) → Bytes s → treeSheet t s ≡ refused r place → place < 2 ^ 32

@@ -1,5 +1,4 @@
 -- Where a segment is accepted, it is accepted on the link, with the same values, sheet and packet.
--- Assumes nothing.
 use mathlib.Core.Path.{_≡_, sym, ap, subst, _∙_}
 use mathlib.Core.Bool.{_&&_}
 use mathlib.Core.Option.{none, some}

@@ -1,5 +1,4 @@
 -- A sheet of the link is read by the tree of its first number, and what is written of the values of a tree is its own.
--- Assumes nothing.
 use mathlib.Core.Path.{_≡_, refl}
 use mathlib.Core.Bool.{false, _&&_}
 use mathlib.Core.List.{List}
@@ -15,7 +14,7 @@ use Rattle.numbers.specs.Numbers.{numberIn, groupsIn}
 use Rattle.format.specs.Format.{read, follow}
 use Rattle.format.specs.Media.{sheet, numbered}
 use Rattle.grammar.specs.link.Link.{treeFields, treeOf, linkNumber, linkFields}
-use Rattle.grammar.specs.link.Trees.{treeNumberKind, treeSheet, byNumber, treeOfSheet}
+use Rattle.grammar.specs.internal.link.Trees.{treeNumberKind, treeSheet, byNumber, treeOfSheet}
 
 -- a number that is not n is not from n to n
 other : (a n : ℕ) → (a ≡ n → ⊥) → (leb n a && leb a n) ≡ false

@@ -1,5 +1,4 @@
 -- The packet number and its tree, either way round; both trees are lawful, and so is the one from the packet number on.
--- Assumes nothing.
 use mathlib.Core.Path.{_≡_, refl}
 use mathlib.Core.Bool.{true}
 use mathlib.Core.List.{List}

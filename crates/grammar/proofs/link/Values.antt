@@ -1,5 +1,4 @@
 -- Packets and sheets of the link: what is accepted is written of good values, and what is written of good values is accepted.
--- Assumes nothing.
 use mathlib.Core.Path.{_≡_, refl, sym, ap, subst, _∙_}
 use mathlib.Core.List.{List, _∷_, _++_}
 use Prim.Native.Nat.{ℕ, _+_, _-_, _≤_}
@@ -20,7 +19,7 @@ use Rattle.grammar.specs.segment.Frame.{packetNumber, numberItem, unfram
 use Rattle.grammar.proofs.segment.Framing.{framed-number, framed-again, framed-only}
 use Rattle.grammar.specs.declared.link.Tree.{Tree}
 use Rattle.grammar.specs.link.Link.{treeNumber, treeFields, treeOf, linkFields, linkBits, fromEitherPacket, withinCount, fromEitherSheet, toEitherPacket, toEitherSheet}
-use Rattle.grammar.specs.link.Trees.{treePacket}
+use Rattle.grammar.specs.internal.link.Trees.{treePacket}
 use Rattle.grammar.specs.link.Grounds.{EitherPacketValues, EitherSheetValues}
 use Rattle.grammar.proofs.link.Trees.{tree-again, tree-number, tree-byte, number-again, tree-least}
 

@@ -1,5 +1,4 @@
 -- A row of fields, measured: its fields are lawful, and cost what the sums of their kinds' costs are.
--- Assumes nothing.
 use mathlib.Core.Path.{_≡_}
 use mathlib.Core.Bool.{true, false, _&&_}
 use mathlib.Core.List.{List, [], _∷_}
@@ -12,7 +11,7 @@ use Rattle.kinds.specs.Kind.{Kind, upTo}
 use Rattle.fields.proofs.Lawful.{LawfulKind, upTo-lawful}
 use Rattle.format.specs.Format.{Format}
 use Rattle.format.proofs.Sized.{Measured, plus}
-use Rattle.grammar.specs.rows.Rows.{row, fits}
+use Rattle.grammar.specs.internal.rows.Rows.{row, fits}
 
 pub no-row : {C : Type 0} → false ≡ true → C
 no-row e = absurd (let z : _≡_ {A = ℕ} 0 1 = cc in omega arith)

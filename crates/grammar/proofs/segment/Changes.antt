@@ -1,9 +1,8 @@
 -- One change of a list, in any pass: a location, an element, and what is left of the list.
--- Assumes nothing.
 use Prim.Native.Nat.{ℕ, _-_, _<_}
 use Rattle.kinds.specs.Kinds.{dLocation}
 use Rattle.format.specs.Format.{Format, field}
-use Rattle.format.specs.Ways.{Way, Went, Got, Over, Took, Left}
+use Rattle.format.specs.internal.Ways.{Way, Went, Got, Over, Took, Left}
 use Rattle.format.proofs.Ways.{left-as, left-on, left-off, left-value, left-refused}
 use Rattle.grammar.specs.segment.Segment.{changes}
 use Rattle.grammar.proofs.segment.Parts.{changes-more}

@@ -1,5 +1,4 @@
 -- The desk cases that are conversions, by one statement over the definitions.
--- Assumes nothing.
 use mathlib.Core.Path.{_≡_, refl}
 use mathlib.Core.List.{map}
 use Rattle.bits.specs.Bits.{fieldAt}

@@ -1,5 +1,4 @@
 -- No segment of any limit of wire changes is smaller or larger than the ends: the bits of a body, the bytes of a packet and of a sheet.
--- Assumes nothing.
 use mathlib.Core.Path.{_≡_, refl}
 use mathlib.Core.List.{List}
 use Prim.Native.Nat.{ℕ, zero, suc, _+_, _≤_}

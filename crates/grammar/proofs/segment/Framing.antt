@@ -1,5 +1,4 @@
 -- The frame, for every format whose bits L_PACKET_ATO can count: a framed packet is read as its values, and nothing else is accepted.
--- Assumes nothing.
 use mathlib.Core.Path.{_≡_, refl, sym, ap, ap₂, _∙_}
 use mathlib.Core.Bool.{Bool, true, false}
 use mathlib.Core.List.{List, [], _∷_, _++_, append-assoc}

@@ -1,5 +1,4 @@
 -- A packet and a sheet are refused exactly on their grounds, each input has values or one ground, and the refusals are those listed.
--- Assumes nothing.
 use mathlib.Core.Path.{_≡_, refl, sym, ap, _∙_}
 use mathlib.Core.Bool.{Bool, true, false}
 use mathlib.Core.List.{List, [], _∷_, _++_}

@@ -1,5 +1,4 @@
 -- What is accepted at a limit of wire changes is accepted at any higher one, with the same values, sheet and packet.
--- Assumes nothing.
 use mathlib.Core.Path.{_≡_, refl, sym, ap}
 use mathlib.Core.Bool.{true}
 use mathlib.Core.List.{List}

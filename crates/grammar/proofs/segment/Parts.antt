@@ -1,5 +1,4 @@
 -- The parts of a segment's tree: one more of each that repeats, and the whole tree in parts.
--- Assumes nothing.
 use mathlib.Core.Path.{_≡_, refl}
 use mathlib.Core.Bool.{Bool, true, _&&_}
 use Prim.Native.Nat.{ℕ, zero, suc, _+_, _-_, _≤_, _<_}
@@ -10,7 +9,7 @@ use Rattle.bits.proofs.Tests.{and-left, and-right, each-at}
 use Rattle.kinds.specs.Kinds.{class, dLocation}
 use Rattle.format.specs.Format.{Format, end, field, then}
 use Rattle.grammar.specs.segment.Segment.{entries, changes, lists, body, fields, sheetFields, wireChanges}
-use Rattle.grammar.specs.segment.Parts.{entry, kindAt, runs, headerPart, bodyPart, sheetPart}
+use Rattle.grammar.specs.internal.segment.Parts.{entry, kindAt, runs, headerPart, bodyPart, sheetPart}
 
 -- ---- one more
 

@@ -1,5 +1,4 @@
 -- The ends at every limit of wire changes up to 31: no segment is outside them, and one is at each; 23 and today's limit are instances.
--- Assumes nothing.
 use mathlib.Core.Path.{_≡_, refl, ap, _∙_}
 use mathlib.Core.Bool.{Bool, true, false, _&&_}
 use mathlib.Core.List.{List, [], _∷_, _++_}

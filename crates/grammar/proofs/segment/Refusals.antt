@@ -1,5 +1,4 @@
 -- A refusal of a packet or a sheet is one of those listed, and so not 0.
--- Assumes nothing.
 use mathlib.Core.Path.{_≡_, refl}
 use mathlib.Core.Bool.{Bool, true, _&&_}
 use mathlib.Core.List.{List, [], _∷_}

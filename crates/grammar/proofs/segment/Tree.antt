@@ -1,5 +1,4 @@
 -- The segment's tree, measured once for any costs of its kinds; so its kinds are lawful, and its size is known in any medium.
--- Assumes nothing.
 use mathlib.Core.Path.{_≡_}
 use mathlib.Core.Bool.{true}
 use Prim.Native.Nat.{ℕ, zero, suc, _+_, _*_, _^_, _≤_, _<_}

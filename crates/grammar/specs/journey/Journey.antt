@@ -1,5 +1,4 @@
 -- The fields of a journey, in the order of document 02 and of 002's journey table, over the limit of temporary constraints.
--- Assumes nothing.
 use Prim.Native.Nat.{ℕ}
 use Rattle.kinds.specs.Kinds.{nidC, nidSp, mSpVersion, nIter, noCurrent}
 use Rattle.format.specs.Format.{Format, end, field, then, times}

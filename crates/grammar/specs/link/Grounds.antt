@@ -1,5 +1,4 @@
 -- The ground of each refusal of a packet and of a sheet on the link, whichever of the two it is. No reader is run.
--- Assumes nothing.
 use mathlib.Core.Path.{_≡_}
 use mathlib.Core.List.{List, [], _∷_}
 use Prim.Native.Nat.{ℕ, _+_, _≤_, _<_}

@@ -1,5 +1,4 @@
 -- Both packets of the link: the packet number decides which body follows, in packets and in sheets.
--- Assumes nothing.
 use mathlib.Core.Bool.{Bool, cond, _||_}
 use mathlib.Core.List.{List, [], _∷_}
 use Prim.Native.Nat.{ℕ, _-_}

@@ -1,5 +1,4 @@
 -- The desk cases of document 01 that are conversions: one table of questions, each with its answer.
--- Assumes nothing.
 use mathlib.Core.List.{List, [], _∷_, _++_}
 use Prim.Native.Nat.{ℕ}
 use lib.ListN.{replicate, take, drop}

@@ -1,5 +1,4 @@
 -- The ends of a segment's sizes, as one statement over the limit of wire changes.
--- Assumes nothing.
 use mathlib.Core.Path.{_≡_}
 use mathlib.Core.List.{List}
 use Prim.Native.Nat.{ℕ, _+_, _*_, _/_, _≤_}

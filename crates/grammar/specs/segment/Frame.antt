@@ -1,5 +1,4 @@
 -- A packet's frame: packet number, L_PACKET_ATO, the fields' bits and padding; and its refusals 1, 2, 3 and 7.
--- Assumes nothing.
 use mathlib.Core.Bool.{Bool, true, false, cond}
 use mathlib.Core.List.{List, [], _∷_, _++_}
 use mathlib.Core.Option.{Option, none, some}

@@ -1,5 +1,4 @@
 -- The ground of each refusal of a packet and of a sheet, in the document's order, for any packet number and tree. No reader is run.
--- Assumes nothing.
 use mathlib.Core.Path.{_≡_}
 use mathlib.Core.Bool.{Bool, true, cond}
 use mathlib.Core.List.{List, [], _∷_, _++_}

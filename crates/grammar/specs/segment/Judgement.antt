@@ -1,5 +1,4 @@
 -- The judgement of a packet and of a sheet, and the packet and the sheet of the values, as total functions over the limit of wire changes.
--- Assumes nothing.
 use mathlib.Core.List.{List, [], _∷_}
 use Prim.Native.Nat.{ℕ}
 use Rattle.kinds.specs.declared.Item.{Item}

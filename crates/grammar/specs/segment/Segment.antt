@@ -1,5 +1,4 @@
 -- The fields of a segment, in the document's order, over the limit of wire changes.
--- Assumes nothing.
 use Prim.Native.Nat.{ℕ, zero, suc}
 use Rattle.kinds.specs.Kinds.{nidPacketAto, nidOperational, nidEngine, tTimestampDate, tTimestampSeconds, nPacketCounter, nidC, nidSp, mSpVersion, lSp, dEoAOffset, qUtcOffset, mSpAltitude, speed, qFront, nIter, qDiff, class, dLocation, mVoltage, nidCTraction, mCurrent}
 use Rattle.format.specs.Format.{Format, end, field, then}

@@ -1,5 +1,4 @@
 -- The field kinds of a journey, in the order of the packet.
--- Assumes nothing.
 use mathlib.Core.Bool.{Bool, cond, _||_}
 use Prim.Native.Nat.{ℕ}
 use lib.Dec.{eqb}

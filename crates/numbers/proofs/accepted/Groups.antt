@@ -1,5 +1,4 @@
 -- A number read group by group: what is left of it, and what the groups so far come to.
--- Assumes nothing.
 use mathlib.Core.Path.{_≡_, refl, sym, _∙_}
 use mathlib.Core.List.{List}
 use Prim.Native.Nat.{ℕ, zero, suc, _+_, _*_, _/_, _%_, _-_, _^_, _≤_, _<_}
@@ -12,7 +11,7 @@ use Rattle.bits.proofs.Tests.{by-cases}
 use Rattle.numbers.specs.declared.Number.{Number}
 use Rattle.numbers.specs.declared.Number.the-variants.{Value, Bad}
 use Rattle.numbers.specs.Numbers.{joined, groupsAt, below, numberOf, numberIn, groupsIn}
-use Rattle.numbers.specs.accepted.Accepted.{There, Reads}
+use Rattle.numbers.specs.internal.accepted.Accepted.{There, Reads}
 use Rattle.numbers.proofs.Counting.{last-count, count-more}
 use Rattle.numbers.proofs.Reading.{number-none, number-end, number-last, number-more}
 

@@ -6,7 +6,7 @@ use lib.ListN.{drop}
 use borrow.Author.Tests.{ltb-true}
 use Rattle.bits.proofs.Cells.{whole-part}
 use Rattle.numbers.specs.Numbers.{numberIn}
-use Rattle.numbers.specs.Groups.{counted, found}
+use Rattle.numbers.specs.internal.Groups.{counted, found}
 use Rattle.numbers.proofs.Reading.{number-end, number-below, short-product, short-value, counted-short, found-is}
 use native.Mathlib.Omega.{arith}
 use borrow.Author.Needs.{needs}

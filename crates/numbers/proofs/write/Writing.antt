@@ -1,5 +1,4 @@
 -- The loop that writes a number: what stands, and what is left to write from the place i on, make the whole.
--- Assumes nothing.
 use mathlib.Core.Path.{_≡_, refl, sym, ap, _∙_}
 use mathlib.Core.Bool.{Bool, true, false}
 use mathlib.Core.List.{List, [], _∷_}
@@ -14,7 +13,7 @@ use lib.ListN.{length, set, length-set}
 use lib.Seq.{sets, set-set, set-comm}
 use Rattle.bits.proofs.Tests.{by-cases}
 use Rattle.numbers.specs.Numbers.{groupsOf, groupsIn}
-use Rattle.numbers.specs.Groups.{Put, putNumber}
+use Rattle.numbers.specs.internal.Groups.{Put, putNumber}
 use Rattle.numbers.proofs.Counting.{last-group, more-groups, fewer, some-group}
 
 not-one : (g x : ℕ) → g ≡ 0 → 128 ≤ x → x < 128 ^ suc g → ⊥

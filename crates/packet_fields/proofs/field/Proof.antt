@@ -2,7 +2,7 @@
 use native.Mathlib.Omega.{arith}
 use mathlib.Core.Path.{refl, sym}
 use denote.Ref.{now}
-use Rattle.kinds.specs.Rules.{meaning}
+use Rattle.kinds.specs.internal.Rules.{meaning}
 use Rattle.packet_fields.proofs.Steps.{took-short, took-none, took-some}
 use borrow.Author.Needs.{needs}
 use Rattle.packet_fields.proofs.field.Statement.{statement}

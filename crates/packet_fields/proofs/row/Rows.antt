@@ -1,5 +1,4 @@
 -- A row of fields from one of its fields on: as many largest values as widths, one field more, and none.
--- Assumes nothing.
 use mathlib.Core.Path.{_≡_, refl, ap}
 use mathlib.Core.Bool.{true, _&&_}
 use mathlib.Core.List.{List, [], _∷_}
@@ -13,9 +12,9 @@ use lib.Seq.{drop-cons}
 use Rattle.bits.proofs.Tests.{and-left, and-right}
 use Rattle.kinds.specs.Kind.{Kind, upTo}
 use Rattle.format.specs.Format.{Format, then}
-use Rattle.format.specs.Ways.{Way, Went, Over, Left}
+use Rattle.format.specs.internal.Ways.{Way, Went, Over, Left}
 use Rattle.format.proofs.Ways.{left-as, left-on, left-off, left-none}
-use Rattle.grammar.specs.rows.Rows.{row, fits}
+use Rattle.grammar.specs.internal.rows.Rows.{row, fits}
 
 -- a width that a field can have
 pub record Fit (w : ℕ) : Type 0 where

@@ -1,5 +1,4 @@
 -- A row whose bits are all there: the step over it from the bytes of its values, and a field in its midst whose value is known.
--- Assumes nothing.
 use mathlib.Core.Path.{_≡_, refl, sym, _∙_}
 use mathlib.Core.Bool.{true, false}
 use mathlib.Core.List.{List, [], _∷_}
@@ -17,12 +16,12 @@ use Rattle.kinds.specs.Kind.{upTo}
 use Rattle.fields.proofs.size.Bytes as counts
 use Rattle.format.specs.Format.{Format, field, then}
 use Rattle.format.proofs.Ways.{over-on, over-off}
-use Rattle.grammar.specs.rows.Rows.{row, fits}
+use Rattle.grammar.specs.internal.rows.Rows.{row, fits}
 use Rattle.packet_fields.specs.declared.PacketStep.the-variants.{On, Refused}
 use Rattle.packet_fields.specs.declared.PacketValue.the-variants as PacketValue
-use Rattle.packet_fields.specs.Judging.{verdictAt, Standing, Over, Took}
+use Rattle.packet_fields.specs.internal.Judging.{verdictAt, Standing, Over, Took}
 use Rattle.packet_fields.proofs.Steps.{took-none, took-some, past, past-off}
-use Rattle.packet_fields.specs.row.Values.{total, parts, fieldsAt, within, groupsAll, rowBytes}
+use Rattle.packet_fields.specs.internal.row.Values.{total, parts, fieldsAt, within, groupsAll, rowBytes}
 use Rattle.packet_fields.proofs.row.Rows.{fits-first, fits-rest}
 
 -- the values in a window of n bits from the bit p on, the last of which ends it

@@ -1,11 +1,10 @@
 -- What follows a temporary constraint's start, and its kinds that depend on the range or the type: they have a width that a field can have.
--- Assumes nothing.
 use Prim.Native.Nat.{ℕ}
 use lib.Dec.{lit≤}
 use Rattle.format.specs.Format.{Format, then}
 use Rattle.kinds.specs.journey.Kinds.{dTcEndLocation, vSpeedLevel}
 use Rattle.grammar.proofs.journey.Tree.{by-range, by-type}
-use Rattle.packet_fields.specs.Judging.{Wide}
+use Rattle.packet_fields.specs.internal.Judging.{Wide}
 
 -- what follows the start
 abbrev pub afterStart : ℕ → ℕ → Format → Format

@@ -1,5 +1,4 @@
 -- A temporary constraint whose bits are all there: the step over it, from the bytes of its parts.
--- Assumes nothing.
 use mathlib.Core.Path.{_≡_, refl, _∙_}
 use mathlib.Core.List.{List}
 use Prim.Native.Nat.{ℕ, _+_, _*_, _-_, _/_, _%_, _≤_}
@@ -14,13 +13,13 @@ use Rattle.format.proofs.Ways.{over-on, value-on}
 use Rattle.kinds.specs.journey.Kinds.{qTcType, qTcRange, dTcStartLocation, dTcEndLocation, qTcFront, vSpeedLevel, qLowAdhesionRate}
 use Rattle.grammar.specs.journey.Journey as journey
 use Rattle.grammar.specs.journey.Journey.{temporaryConstraint}
-use Rattle.grammar.specs.journey.Parts.{afterType, afterRange}
+use Rattle.grammar.specs.internal.journey.Parts.{afterType, afterRange}
 use Rattle.grammar.proofs.journey.Tree.{end-width, level-width}
 use Rattle.packet_fields.specs.declared.PacketStep.the-variants.{On}
 use Rattle.packet_fields.specs.declared.PacketValue.the-variants as PacketValue
-use Rattle.packet_fields.specs.Judging.{Standing, Over, Took}
+use Rattle.packet_fields.specs.internal.Judging.{Standing, Over, Took}
 use Rattle.packet_fields.proofs.Steps.{took-some, past}
-use Rattle.packet_journey.specs.constraint_bytes.Bytes.{bytesIn, both, stretchBytes, restrictionBytes}
+use Rattle.packet_journey.specs.internal.constraint_bytes.Bytes.{bytesIn, both, stretchBytes, restrictionBytes}
 use Rattle.packet_journey.proofs.constraint_bytes.Both.{some-both}
 use Rattle.packet_journey.proofs.constraint_bytes.Values.{stretch-most, restriction-most, one-in}
 use Rattle.packet_journey.proofs.constraint.Parts.{afterStart}

@@ -1,9 +1,8 @@
 -- The bytes of two values: both are some, or they are none.
--- Assumes nothing.
 use mathlib.Core.Path.{_≡_, refl}
 use Prim.Native.Nat.{ℕ, zero, suc, _+_, _≤_}
 use native.Mathlib.Omega.{arith}
-use Rattle.packet_journey.specs.constraint_bytes.Bytes.{both}
+use Rattle.packet_journey.specs.internal.constraint_bytes.Bytes.{both}
 
 pub first-none : (b : ℕ) {a : ℕ} → 0 ≡ a → 0 ≡ both a b
 first-none b e = rw (← e)

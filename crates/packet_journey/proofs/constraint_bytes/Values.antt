@@ -1,5 +1,4 @@
 -- The bytes of a temporary constraint's values, a few fields at once, from what was tested and counted.
--- Assumes nothing.
 use mathlib.Core.Path.{_≡_, sym, _∙_}
 use mathlib.Core.Bool.{Bool, true, false, _||_}
 use Prim.Native.Nat.{ℕ, _+_, _/_, _%_, _≤_, _<_}
@@ -14,7 +13,7 @@ use Rattle.kinds.specs.Kind.{Kind, upTo}
 use Rattle.kinds.specs.Kinds.{speed, dEndAfter, noCurrent}
 use Rattle.fields.proofs.size.Bytes.{bytes-some, bytes-none, high-out, both-in, one-byte, after-low, after-in}
 use Rattle.kinds.specs.journey.Kinds.{mostWhere, dTcStartLocation, dTcEndLocation, qTcFront, vSpeedLevel, qLowAdhesionRate}
-use Rattle.packet_journey.specs.constraint_bytes.Bytes.{bytesIn, both, stretchBytes, restrictionBytes}
+use Rattle.packet_journey.specs.internal.constraint_bytes.Bytes.{bytesIn, both, stretchBytes, restrictionBytes}
 use Rattle.packet_journey.proofs.constraint_bytes.Both.{first-none, second-none, both-some, both-within}
 
 groups-some : (v : ℕ) {a : ℕ} → a ≡ length (groupsIn v) → a ≡ 0 → ⊥

@@ -1,13 +1,12 @@
 -- A timing point is two rows round the kind of its stop.
--- Assumes nothing.
 use mathlib.Core.Path.{ap, _∙_}
 use Prim.Native.Nat.{ℕ}
 use Rattle.format.specs.Format.{Format, field}
-use Rattle.format.specs.Ways.{Way, Went, Over}
-use Rattle.grammar.specs.rows.Rows.{row}
+use Rattle.format.specs.internal.Ways.{Way, Went, Over}
+use Rattle.grammar.specs.internal.rows.Rows.{row}
 use Rattle.kinds.specs.journey.Kinds.{qStopSkipPasses}
 use Rattle.grammar.specs.journey.Journey.{timingPoint}
-use Rattle.grammar.specs.journey.Parts.{arrivalWidths, arrivalMost, stoppingWidths, stoppingMost}
+use Rattle.grammar.specs.internal.journey.Parts.{arrivalWidths, arrivalMost, stoppingWidths, stoppingMost}
 use Rattle.grammar.proofs.journey.Parts.{point-rows}
 
 module _ {X B : Type 0} {w : Way X B} {at : ℕ} {x : X} where

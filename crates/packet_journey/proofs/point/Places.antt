@@ -1,5 +1,4 @@
 -- A timing point whose bits are all there: the step over it, from the bytes of its parts.
--- Assumes nothing.
 use mathlib.Core.Path.{_≡_, refl, sym, ap, _∙_}
 use mathlib.Core.Bool.{true}
 use mathlib.Core.List.{List, [], _∷_, _++_}
@@ -16,19 +15,19 @@ use Rattle.bits.proofs.Windows.{read-window}
 use Rattle.numbers.specs.Numbers.{groupsIn}
 use Rattle.numbers.proofs.Counting.{count-some, count-five}
 use Rattle.format.specs.Format.{Format}
-use Rattle.format.specs.Ways as ways
-use Rattle.format.specs.Ways.{Went}
+use Rattle.format.specs.internal.Ways as ways
+use Rattle.format.specs.internal.Ways.{Went}
 use Rattle.format.proofs.Ways.{over-on}
-use Rattle.grammar.specs.rows.Rows.{row, fits}
+use Rattle.grammar.specs.internal.rows.Rows.{row, fits}
 use Rattle.kinds.specs.journey.Kinds.{mostAt}
 use Rattle.grammar.specs.journey.Journey.{timingPoint}
-use Rattle.grammar.specs.journey.Parts.{arrivalWidths, arrivalMost, stoppingWidths, stoppingMost}
+use Rattle.grammar.specs.internal.journey.Parts.{arrivalWidths, arrivalMost, stoppingWidths, stoppingMost}
 use Rattle.grammar.proofs.journey.Parts.{point-rows, arrival-fits}
 use Rattle.packet_fields.specs.declared.PacketStep.the-variants.{On}
-use Rattle.packet_fields.specs.Judging.{verdictAt, judge, Standing, Over}
-use Rattle.packet_fields.specs.row.Values.{total, parts, fieldsAt, within, groupsAll, rowBytes}
+use Rattle.packet_fields.specs.internal.Judging.{verdictAt, judge, Standing, Over}
+use Rattle.packet_fields.specs.internal.row.Values.{total, parts, fieldsAt, within, groupsAll, rowBytes}
 use Rattle.packet_fields.proofs.row.Whole.{parts-at, bytes-some, row-known}
-use Rattle.packet_journey.specs.point_bytes.Windows.{latestWidths, latestMost, marksWidths, marksMost, doorsWidths, leavingWidths, eightMost}
+use Rattle.packet_journey.specs.internal.point_bytes.Windows.{latestWidths, latestMost, marksWidths, marksMost, doorsWidths, leavingWidths, eightMost}
 
 abbrev eightWidths : List ℕ
 eightWidths = 2 ∷ 1 ∷ 1 ∷ 1 ∷ 15 ∷ 17 ∷ 10 ∷ 1 ∷ []

@@ -1,5 +1,4 @@
 -- The bytes of values in a row: of values that are all within their largest ones, and of some that are not.
--- Assumes nothing.
 use mathlib.Core.Path.{_≡_, refl, _∙_}
 use mathlib.Core.Bool.{true}
 use mathlib.Core.List.{List, [], _∷_}
@@ -9,7 +8,7 @@ use borrow.Author.Tests.{leb-true, le-leb}
 use lib.Dec.{leb}
 use lib.Pow.{mod-pow-add}
 use Rattle.bits.proofs.Tests.{by-cases, and-left, and-right}
-use Rattle.packet_fields.specs.row.Values.{total, parts, within, groupsAll, rowBytes}
+use Rattle.packet_fields.specs.internal.row.Values.{total, parts, within, groupsAll, rowBytes}
 
 -- each value is at most its largest one
 abbrev pub Held : List ℕ → List ℕ → Type 0

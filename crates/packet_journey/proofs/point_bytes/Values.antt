@@ -1,5 +1,4 @@
 -- The bytes of a timing point's values, a few fields at once, from what was tested and counted.
--- Assumes nothing.
 use mathlib.Core.Path.{_≡_, refl}
 use mathlib.Core.List.{_++_}
 use Prim.Native.Nat.{ℕ, _+_, _/_, _%_, _^_, _≤_, _<_}
@@ -8,8 +7,8 @@ use borrow.Author.Tests.{ne-eqb}
 use lib.ListN.{length}
 use Rattle.numbers.specs.Numbers.{groupsIn}
 use Rattle.fields.proofs.size.Bytes.{one-byte}
-use Rattle.packet_fields.specs.row.Values.{parts, rowBytes}
-use Rattle.packet_journey.specs.point_bytes.Windows.{latestWidths, latestMost, marksWidths, marksMost, doorsWidths, leavingWidths, eightMost}
+use Rattle.packet_fields.specs.internal.row.Values.{parts, rowBytes}
+use Rattle.packet_journey.specs.internal.point_bytes.Windows.{latestWidths, latestMost, marksWidths, marksMost, doorsWidths, leavingWidths, eightMost}
 use Rattle.packet_journey.proofs.point_bytes.Held.{all-bytes, no-bytes, all-zero}
 
 module _ (t : ℕ) where

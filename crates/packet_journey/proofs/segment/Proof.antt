@@ -1,7 +1,7 @@
 -- `judge_journey::segment` meets its contract.
 use Rattle.format.proofs.Ways.{over-on, over-off, part-on, part-off}
 use Rattle.grammar.specs.journey.Journey.{constraints}
-use Rattle.grammar.specs.journey.Parts.{segmentRest}
+use Rattle.grammar.specs.internal.journey.Parts.{segmentRest}
 use Rattle.packet_journey.proofs.Looping.{segment-over}
 use borrow.Author.Needs.{needs}
 use Rattle.packet_journey.proofs.segment.Statement.{statement}

@@ -1,11 +1,11 @@
 -- `judge_packet::changes` meets its contract.
 use native.Mathlib.Omega.{arith}
 use Rattle.grammar.specs.segment.Segment.{changes}
-use Rattle.grammar.specs.segment.Parts.{startOf}
+use Rattle.grammar.specs.internal.segment.Parts.{startOf}
 use Rattle.grammar.proofs.segment.Parts.{changes-none}
-use Rattle.format.specs.Ways.{Left}
+use Rattle.format.specs.internal.Ways.{Left}
 use Rattle.format.proofs.Ways.{left-all, left-none, left-as}
-use Rattle.packet_fields.specs.Judging.{judge}
+use Rattle.packet_fields.specs.internal.Judging.{judge}
 use Rattle.grammar.proofs.segment.Changes.{location-off, element-off, element-on}
 use borrow.Author.Needs.{needs}
 use Rattle.packet_judge.proofs.changes.Statement.{statement}

@@ -1,5 +1,5 @@
 -- `judge_packet::segment` meets its contract.
-use Rattle.grammar.specs.segment.Parts.{threeLists}
+use Rattle.grammar.specs.internal.segment.Parts.{threeLists}
 use Rattle.format.proofs.Ways.{part-on, part-off}
 use borrow.Author.Needs.{needs}
 use Rattle.packet_judge.proofs.segment.Statement.{statement}

@@ -1,5 +1,4 @@
 -- The names of entries as bits of two numbers: one computed test for all 64.
--- Assumes nothing.
 use mathlib.Core.Path.{_≡_, refl}
 use mathlib.Core.Bool.{true, cond}
 use Prim.Native.Nat.{ℕ, _+_, _/_, _%_, _^_, _<_}
@@ -7,7 +6,7 @@ use borrow.Author.Tests.{eqb-true, ne-eqb}
 use lib.Dec.{eqb}
 use Rattle.bits.proofs.Tests.{each, each-at}
 use Rattle.numbers.specs.Numbers.{groupsIn}
-use Rattle.packet_segment.specs.element.Profile.{nameBytes}
+use Rattle.packet_segment.specs.internal.element.Profile.{nameBytes}
 
 -- the bytes of a name, as the code finds them
 abbrev found : ℕ → ℕ

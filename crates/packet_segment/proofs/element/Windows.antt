@@ -1,5 +1,4 @@
 -- Fields that are read at once, as parts of one number; and the steps over them, from the bytes counted of each.
--- Assumes nothing.
 use mathlib.Core.Path.{_≡_, refl, _∙_}
 use mathlib.Core.List.{List}
 use Prim.Native.Nat.{ℕ, zero, suc, _+_, _*_, _-_, _/_, _%_, _≤_, _<_}
@@ -16,18 +15,18 @@ use Rattle.kinds.specs.declared.Field.{Field}
 use Rattle.kinds.specs.declared.Field.the-variants.{Is}
 use Rattle.kinds.specs.declared.Field.the-variants as Judged
 use Rattle.kinds.specs.Judged.{valueInPacket}
-use Rattle.fields.specs.size.Counts.{bytesOf}
+use Rattle.fields.specs.internal.size.Counts.{bytesOf}
 use Rattle.fields.proofs.size.Bytes.{bytes-some, bytes-none, both-in, high-out, one-byte, class-refusal}
 use Rattle.format.specs.Format.{then}
 use Rattle.format.proofs.Ways.{over-on, over-off, value-on, value-off, gave-on, gave-off, gave-took}
 use Rattle.grammar.specs.segment.Segment.{voltage}
-use Rattle.grammar.specs.segment.Parts.{entry}
+use Rattle.grammar.specs.internal.segment.Parts.{entry}
 use Rattle.grammar.proofs.segment.Parts.{class-width}
 use Rattle.packet_fields.specs.declared.PacketStep.the-variants.{On, Refused}
 use Rattle.packet_fields.specs.declared.PacketValue.the-variants as PacketValue
-use Rattle.packet_fields.specs.Judging.{Standing, Wide, Over, Took, Gave}
+use Rattle.packet_fields.specs.internal.Judging.{Standing, Wide, Over, Took, Gave}
 use Rattle.packet_fields.proofs.Steps.{took-none, took-some, past, past-off}
-use Rattle.packet_segment.specs.element.Profile.{profileHead, bothBytes, nameBytes, pastEntry}
+use Rattle.packet_segment.specs.internal.element.Profile.{profileHead, bothBytes, nameBytes, pastEntry}
 
 pub class-wide : (q : ℕ) → Wide (class q)
 class-wide zero = record { some = lit≤ tt; most = lit≤ tt }

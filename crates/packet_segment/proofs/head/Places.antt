@@ -1,5 +1,4 @@
 -- The head's fields at their places: the step over each run of them, from the bytes counted of each.
--- Assumes nothing.
 use mathlib.Core.Path.{_≡_, refl}
 use mathlib.Core.List.{List}
 use Prim.Native.Nat.{ℕ, _+_, _-_, _^_, _≤_, _<_}
@@ -14,16 +13,16 @@ use Rattle.numbers.proofs.Counting.{count-some}
 use Rattle.kinds.specs.Kind.{upTo}
 use Rattle.kinds.specs.Kinds.{nidOperational, tTimestampSeconds, lSp, qUtcOffset}
 use Rattle.kinds.specs.Judged.{valueInPacket}
-use Rattle.fields.specs.size.Counts.{bytesOf}
+use Rattle.fields.specs.internal.size.Counts.{bytesOf}
 use Rattle.fields.proofs.size.Bytes.{bytes-some, both-in}
 use Rattle.format.specs.Format.{then}
 use Rattle.format.proofs.Ways.{over-on, gave-on, gave-then, gave-took}
-use Rattle.grammar.specs.segment.Parts.{kindAt, runs}
+use Rattle.grammar.specs.internal.segment.Parts.{kindAt, runs}
 use Rattle.packet_fields.specs.declared.PacketStep.the-variants.{On}
 use Rattle.packet_fields.specs.declared.PacketValue.the-variants as PacketValue
-use Rattle.packet_fields.specs.Judging.{Standing, Over, Took, Gave}
+use Rattle.packet_fields.specs.internal.Judging.{Standing, Over, Took, Gave}
 use Rattle.packet_fields.proofs.Steps.{took-some, past}
-use Rattle.packet_segment.specs.head.Head.{headPart, Passed}
+use Rattle.packet_segment.specs.internal.head.Head.{headPart, Passed}
 
 module _ (s : List ℕ) where
   module _ (stop : ℕ) where

@@ -1,5 +1,4 @@
 -- A temporary constraint, field by field: what is read next, how large it is, and what is written once all of it is put.
--- Assumes nothing.
 use mathlib.Core.Path.{_≡_, refl}
 use mathlib.Core.List.{List}
 use Prim.Native.Nat.{ℕ, _+_, _*_, _^_, _<_}
@@ -7,22 +6,22 @@ use native.Mathlib.Omega.{arith}
 use lib.Dec.{lit<}
 use Rattle.bits.specs.Bits.{bitsOf}
 use Rattle.numbers.specs.declared.accepted.ReadNumber.{ReadNumber}
-use Rattle.numbers.specs.accepted.Accepted.{There, Reads}
-use Rattle.bits.specs.write.Filling.{Filling}
+use Rattle.numbers.specs.internal.accepted.Accepted.{There, Reads}
+use Rattle.bits.specs.internal.write.Filling.{Filling}
 use Rattle.kinds.specs.Kind.{Kind}
 use Rattle.kinds.specs.Kinds.{speed, noCurrent}
 use Rattle.fields.proofs.Lawful.{narrow, upTo-lawful}
-use Rattle.fields.specs.lower.Lowered.{lowered}
+use Rattle.fields.specs.internal.lower.Lowered.{lowered}
 use Rattle.format.specs.Format.{Format, field, then}
 use Rattle.kinds.specs.journey.Kinds.{qTcType, qTcRange, dTcStartLocation, dTcEndLocation, qTcFront, vSpeedLevel, qLowAdhesionRate}
 use Rattle.grammar.specs.journey.Journey.{restriction, temporaryConstraint}
-use Rattle.grammar.specs.journey.Parts.{afterType, afterRange}
+use Rattle.grammar.specs.internal.journey.Parts.{afterType, afterRange}
 use Rattle.grammar.proofs.journey.Tree.{end-width, level-width, start-lawful, end-lawful, front-lawful, level-lawful, adhesion-lawful}
 use Rattle.packet_write_segment.specs.declared.elements.PacketSpot.{PacketSpot}
-use Rattle.packet_write_segment.specs.elements.Writing.{Ready, Wrote}
+use Rattle.packet_write_segment.specs.internal.elements.Writing.{Ready, Wrote}
 use Rattle.packet_write_segment.proofs.elements.Writing.{bits-join, Has, has-same, has-small, Gone, gone-all, gone-there, gone-has, gone-field, Along, along-next, along-on, along-none, along-put, wrote-once, along-once}
 use Rattle.packet_write_journey.specs.declared.row.Given.{Given}
-use Rattle.packet_write_journey.specs.constraint.Begun.{Begun}
+use Rattle.packet_write_journey.specs.internal.constraint.Begun.{Begun}
 use Rattle.packet_write_journey.proofs.constraint.Values.{end-same, level-steps, no-limit}
 
 -- a field more in the same piece

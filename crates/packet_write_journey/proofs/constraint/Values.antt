@@ -1,5 +1,4 @@
 -- What the numbers of an accepted constraint are in the packet, whatever its type and its range.
--- Assumes nothing.
 use mathlib.Core.Path.{_≡_, refl, sym, ap}
 use mathlib.Core.Option.{some}
 use Prim.Native.Nat.{ℕ}
@@ -9,7 +8,7 @@ use lib.Dec.{lit<}
 use Rattle.kinds.specs.Kind.{upTo, when}
 use Rattle.kinds.specs.Kinds.{speed, noCurrent}
 use Rattle.fields.proofs.Lawful.{narrow, upTo-lawful, none-lawful}
-use Rattle.fields.specs.lower.Lowered.{valueOr, lowered}
+use Rattle.fields.specs.internal.lower.Lowered.{valueOr, lowered}
 use Rattle.kinds.specs.journey.Kinds.{dTcEndLocation, vSpeedLevel}
 use Rattle.grammar.proofs.journey.Tree.{by-range, by-type}
 

@@ -1,12 +1,11 @@
 -- The rows of a timing point in the three pieces in which they are put.
--- Assumes nothing.
 use mathlib.Core.Path.{refl}
 use Prim.Native.Nat.{ℕ}
 use lib.Dec.{lit≤, eqb}
 use Rattle.bits.proofs.Tests.{by-cases}
-use Rattle.grammar.specs.rows.Rows.{row}
+use Rattle.grammar.specs.internal.rows.Rows.{row}
 use Rattle.packet_write_journey.proofs.row.Three.{Three}
-use Rattle.grammar.specs.journey.Parts.{arrivalWidths, arrivalMost, stoppingWidths, stoppingMost}
+use Rattle.grammar.specs.internal.journey.Parts.{arrivalWidths, arrivalMost, stoppingWidths, stoppingMost}
 
 pub arrival-pieces : Three arrivalWidths arrivalMost 1 3 5 32 32 12
 unfolding row

@@ -1,18 +1,17 @@
 -- A timing point, step by step: what may be written next, and that it is written once all steps are taken.
--- Assumes nothing.
 use mathlib.Core.List.{List}
 use Prim.Native.Nat.{ℕ}
 use Rattle.format.specs.Format.{Format, field}
-use Rattle.grammar.specs.rows.Rows.{row}
+use Rattle.grammar.specs.internal.rows.Rows.{row}
 use Rattle.kinds.specs.journey.Kinds.{qStopSkipPasses}
 use Rattle.grammar.specs.journey.Journey.{timingPoint}
-use Rattle.grammar.specs.journey.Parts.{arrivalWidths, arrivalMost, stoppingWidths, stoppingMost}
+use Rattle.grammar.specs.internal.journey.Parts.{arrivalWidths, arrivalMost, stoppingWidths, stoppingMost}
 use Rattle.grammar.proofs.journey.Parts.{point-rows}
 use Rattle.packet_write_segment.specs.declared.elements.PacketSpot.{PacketSpot}
-use Rattle.packet_write_segment.specs.elements.Writing.{Ready, Wrote}
+use Rattle.packet_write_segment.specs.internal.elements.Writing.{Ready, Wrote}
 use Rattle.packet_write_segment.proofs.elements.Writing.{Along, along-all, along-as, along-next, along-on, along-none}
 use Rattle.packet_write_journey.specs.declared.row.Given.{Given}
-use Rattle.packet_write_journey.specs.row.Alone.{Offers, Gives}
+use Rattle.packet_write_journey.specs.internal.row.Alone.{Offers, Gives}
 use Rattle.packet_write_journey.proofs.row.Alone.{along-offers, along-gives}
 
 abbrev arrival : Format → Format

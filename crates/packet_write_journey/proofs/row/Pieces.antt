@@ -1,5 +1,4 @@
 -- The fields of a row gathered in one piece: the bits so far are those of the fields that are read.
--- Assumes nothing.
 use mathlib.Core.Path.{_≡_, refl}
 use mathlib.Core.Bool.{true}
 use mathlib.Core.List.{List}
@@ -11,17 +10,17 @@ use lib.ListN.{length, drop, getD}
 use lib.Pow.{pow-mono}
 use Rattle.bits.specs.Bits.{bitsOf}
 use Rattle.bits.proofs.Parts.{join-small}
-use Rattle.bits.specs.write.Filling.{Filling}
+use Rattle.bits.specs.internal.write.Filling.{Filling}
 use Rattle.numbers.specs.declared.accepted.ReadNumber.{ReadNumber}
-use Rattle.numbers.specs.accepted.Accepted.{There, Reads}
+use Rattle.numbers.specs.internal.accepted.Accepted.{There, Reads}
 use Rattle.kinds.specs.Kind.{upTo}
 use Rattle.fields.proofs.Lawful.{upTo-lawful}
 use Rattle.format.specs.Format.{then}
-use Rattle.grammar.specs.rows.Rows.{row, fits}
+use Rattle.grammar.specs.internal.rows.Rows.{row, fits}
 use Rattle.packet_write_segment.specs.declared.elements.PacketSpot.{PacketSpot}
-use Rattle.packet_write_segment.specs.elements.Writing.{Ready, Wrote}
+use Rattle.packet_write_segment.specs.internal.elements.Writing.{Ready, Wrote}
 use Rattle.packet_write_segment.proofs.elements.Writing.{bits-join, Has, has-small, Gone, gone-all, gone-as, gone-there, gone-field, wrote-once}
-use Rattle.packet_write_journey.specs.row.Pieces.{rowBits, part, between, Puttable}
+use Rattle.packet_write_journey.specs.internal.row.Pieces.{rowBits, part, between, Puttable}
 use Rattle.packet_write_journey.proofs.row.Alone.{left-has}
 use Rattle.packet_write_journey.proofs.row.Rows.{rowFrom, Fits, fits-long, fits-at, row-more, row-none, bits-more, bits-none}
 

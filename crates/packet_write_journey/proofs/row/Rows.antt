@@ -1,5 +1,4 @@
 -- A row from one of its fields on, and what is known of that field.
--- Assumes nothing.
 use mathlib.Core.Path.{_≡_, refl}
 use mathlib.Core.Bool.{true, _&&_}
 use mathlib.Core.List.{List, [], _∷_}
@@ -13,8 +12,8 @@ use lib.Seq.{drop-cons}
 use Rattle.bits.proofs.Tests.{and-left, and-right}
 use Rattle.kinds.specs.Kind.{upTo}
 use Rattle.format.specs.Format.{Format, then}
-use Rattle.grammar.specs.rows.Rows.{row, fits}
-use Rattle.packet_write_journey.specs.row.Pieces.{rowBits}
+use Rattle.grammar.specs.internal.rows.Rows.{row, fits}
+use Rattle.packet_write_journey.specs.internal.row.Pieces.{rowBits}
 
 -- a width from 1 to 32, and a largest value that it holds
 pub record Fits (w m : ℕ) : Type 0 where

@@ -1,14 +1,13 @@
 -- A row put in three pieces, one after the other.
--- Assumes nothing.
 use mathlib.Core.Path.{_≡_}
 use mathlib.Core.List.{List}
 use Prim.Native.Nat.{ℕ}
 use Rattle.format.specs.Format.{Format}
-use Rattle.grammar.specs.rows.Rows.{row}
+use Rattle.grammar.specs.internal.rows.Rows.{row}
 use Rattle.packet_write_segment.specs.declared.elements.PacketSpot.{PacketSpot}
-use Rattle.packet_write_segment.specs.elements.Writing.{Ready, Wrote}
+use Rattle.packet_write_segment.specs.internal.elements.Writing.{Ready, Wrote}
 use Rattle.packet_write_segment.proofs.elements.Writing.{Along, along-all, along-as, along-next, along-on, along-none}
-use Rattle.packet_write_journey.specs.row.Pieces.{between, Puttable}
+use Rattle.packet_write_journey.specs.internal.row.Pieces.{between, Puttable}
 
 -- a row is its fields up to i, from there to j, and from there to k, each put at once
 pub record Three (ws ms : List ℕ) (i j k a b c : ℕ) : Type 0 where

@@ -4,7 +4,7 @@ use lib.Dec.{lit<, lit≤}
 use Rattle.kinds.specs.Kinds.{lSp}
 use Rattle.fields.proofs.Lawful.{narrow, range-lawful}
 use Rattle.format.specs.Format.{field}
-use Rattle.grammar.specs.segment.Parts.{runs, threeLists}
+use Rattle.grammar.specs.internal.segment.Parts.{runs, threeLists}
 use Rattle.packet_write_segment.proofs.elements.Writing.{along-all, along-next, along-on, along-none, along-small, along-there, plain-small, along-put}
 use native.Mathlib.Omega.{arith}
 use borrow.Author.Needs.{needs}

@@ -6,7 +6,7 @@ use Rattle.kinds.specs.Kinds.{dLocation}
 use Rattle.fields.proofs.Lawful.{location-lawful}
 use Rattle.format.specs.Format.{field}
 use Rattle.grammar.specs.segment.Segment.{changes}
-use Rattle.grammar.specs.segment.Parts.{startOf}
+use Rattle.grammar.specs.internal.segment.Parts.{startOf}
 use Rattle.grammar.proofs.segment.Parts.{changes-more, changes-none}
 use Rattle.packet_write_segment.proofs.elements.Writing.{Along, along-all, along-as, along-next, along-on, along-none, along-small, along-there, plain-small, along-put}
 use native.Mathlib.Omega.{arith}

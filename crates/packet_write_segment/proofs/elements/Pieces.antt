@@ -1,5 +1,4 @@
 -- Parts whose fields are put in one piece: an entry, the front of a profile, a wire, a current.
--- Assumes nothing.
 use mathlib.Core.Path.{_≡_, refl, sym}
 use mathlib.Core.List.{List, _++_, append-assoc}
 use Prim.Native.Nat.{ℕ, _+_, _*_, _^_, _<_}
@@ -8,17 +7,17 @@ use lib.Dec.{lit<}
 use Rattle.bits.specs.Bits.{bitsOf}
 use Rattle.bits.proofs.Parts.{join-small}
 use Rattle.numbers.specs.declared.accepted.ReadNumber.{ReadNumber}
-use Rattle.numbers.specs.accepted.Accepted.{There, Single, Reads}
-use Rattle.bits.specs.write.Filling.{Filling}
+use Rattle.numbers.specs.internal.accepted.Accepted.{There, Single, Reads}
+use Rattle.bits.specs.internal.write.Filling.{Filling}
 use Rattle.kinds.specs.Kinds.{qDiff, class, speed, qFront, nIter, mVoltage, nidCTraction, mCurrent}
 use Rattle.fields.proofs.Lawful.{narrow, upTo-lawful, class-lawful, speed-lawful, voltage-lawful, traction-lawful, current-lawful}
-use Rattle.fields.specs.lower.Lowered.{lowered}
+use Rattle.fields.specs.internal.lower.Lowered.{lowered}
 use Rattle.format.specs.Format.{Format, field, then}
 use Rattle.grammar.specs.segment.Segment.{profile, voltage, current, entries}
-use Rattle.grammar.specs.segment.Parts.{entry}
+use Rattle.grammar.specs.internal.segment.Parts.{entry}
 use Rattle.grammar.proofs.segment.Parts.{class-width}
 use Rattle.packet_write_segment.specs.declared.elements.PacketSpot.{PacketSpot}
-use Rattle.packet_write_segment.specs.elements.Writing.{Ready, Wrote}
+use Rattle.packet_write_segment.specs.internal.elements.Writing.{Ready, Wrote}
 use Rattle.packet_write_segment.proofs.elements.Writing.{bits-join, Has, has-same, has-small, Gone, gone-all, gone-there, gone-single, gone-has, gone-field, Along, wrote-once, along-once}
 
 -- three fields in one piece

@@ -1,5 +1,4 @@
 -- Writing a part of an accepted sheet's packet: a number that is there, what is left of a part, and bits put in one piece.
--- Assumes nothing.
 use mathlib.Core.Path.{_≡_, refl, sym, ap, ap₂, _∙_}
 use mathlib.Core.Bool.{Bool, true, false}
 use mathlib.Core.List.{List, [], _++_, append-assoc, append-nil}
@@ -17,25 +16,25 @@ use Rattle.numbers.specs.Numbers.{numberIn, groupsIn}
 use Rattle.numbers.proofs.Counting.{count-some}
 use Rattle.numbers.proofs.Reading.{number-only}
 use Rattle.numbers.specs.declared.accepted.ReadNumber.{ReadNumber}
-use Rattle.numbers.specs.accepted.Accepted.{There, Single, Reads}
-use Rattle.bits.specs.write.Filling.{Filling}
+use Rattle.numbers.specs.internal.accepted.Accepted.{There, Single, Reads}
+use Rattle.bits.specs.internal.write.Filling.{Filling}
 use Rattle.kinds.specs.Kind.{Kind, when}
 use Rattle.kinds.specs.Judged.{numberInSheet}
 use Rattle.fields.proofs.Lawful.{LawfulKind, value-small}
-use Rattle.fields.specs.lower.Lowered.{valueOr, lowered}
+use Rattle.fields.specs.internal.lower.Lowered.{valueOr, lowered}
 use Rattle.format.specs.Format.{Format, field, times, Read, accepted, refused, read, write, answerOf}
 use Rattle.format.specs.Media.{packet, sheet}
-use Rattle.format.specs.Places.{Is, Refused, takenAt, numberTaken}
-use Rattle.format.specs.Pass.{made}
-use Rattle.format.specs.Tasks.{Told, recording}
-use Rattle.format.specs.Ways.{Went, Got, Over, Took, Left, Ahead}
+use Rattle.format.specs.internal.Places.{Is, Refused, takenAt, numberTaken}
+use Rattle.format.specs.internal.Pass.{made}
+use Rattle.format.specs.internal.Tasks.{Told, recording}
+use Rattle.format.specs.internal.Ways.{Went, Got, Over, Took, Left, Ahead}
 use Rattle.format.proofs.Media.{bytes-drop}
 use Rattle.format.proofs.Places.{number-found, number-none}
 use Rattle.format.proofs.Passing.{pass-read, sheet-seen}
 use Rattle.format.proofs.Tasks.{made-record}
 use Rattle.format.proofs.Ways.{took-is, took-off, left-all, left-as, left-none, left-on, left-value, times-more, times-none, ahead-first, ahead-left, ahead-never}
 use Rattle.packet_write_segment.specs.declared.elements.PacketSpot.{PacketSpot}
-use Rattle.packet_write_segment.specs.elements.Writing.{writer, Few, Ready, Puts, Wrote}
+use Rattle.packet_write_segment.specs.internal.elements.Writing.{writer, Few, Ready, Puts, Wrote}
 
 -- ---- bits
 

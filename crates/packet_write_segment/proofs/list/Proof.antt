@@ -5,7 +5,7 @@ use Rattle.kinds.specs.Kinds.{nIter}
 use Rattle.fields.proofs.Lawful.{narrow, upTo-lawful}
 use Rattle.format.specs.Format.{field}
 use Rattle.grammar.specs.segment.Segment.{changes}
-use Rattle.grammar.specs.segment.Parts.{startOf}
+use Rattle.grammar.specs.internal.segment.Parts.{startOf}
 use Rattle.packet_write_segment.proofs.elements.Writing.{along-all, along-next, along-on, along-none, along-small, along-there, plain-small, along-put}
 use native.Mathlib.Omega.{arith}
 use borrow.Author.Needs.{needs}

@@ -2,9 +2,9 @@
 use mathlib.Core.Path.{_≡_, refl}
 use Prim.Native.Nat.{_+_, _-_, _≤_, _<_}
 use Rattle.format.specs.Format.{then}
-use Rattle.grammar.specs.segment.Parts.{kindAt, runs}
+use Rattle.grammar.specs.internal.segment.Parts.{kindAt, runs}
 use Rattle.grammar.proofs.segment.Parts.{runs-more, runs-none}
-use Rattle.packet_write_segment.specs.Widths.{widths}
+use Rattle.packet_write_segment.specs.internal.Widths.{widths}
 use Rattle.packet_write_segment.proofs.elements.Writing.{Along, along-all, along-as, along-none, along-small, along-there, plain-small, along-put}
 use Rattle.packet_write_segment.proofs.Head.{head-plain, head-width, widths-more}
 use native.Mathlib.Omega.{arith}

@@ -1,5 +1,4 @@
 -- However a packet was cut, and from any state that starts afresh, verdict and sheet are those of the joined bytes, or 8; by induction over the deliveries.
--- Assumes nothing.
 use mathlib.Core.Path.{_≡_, refl, sym, ap, _∙_}
 use mathlib.Core.Bool.{true, false}
 use mathlib.Core.List.{List, [], _∷_, _++_, append-nil, append-assoc, flatten}

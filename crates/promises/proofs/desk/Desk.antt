@@ -1,5 +1,4 @@
 -- The desk cases marked (P), by one statement over the definitions that the contracts cite.
--- Assumes nothing.
 use mathlib.Core.Path.{_≡_, refl}
 use mathlib.Core.List.{map}
 use Rattle.format.specs.Format.{times}

@@ -1,5 +1,4 @@
 -- What the customer is promised of a packet that is taken in deliveries, however it was cut.
--- Assumes nothing.
 use mathlib.Core.Path.{_≡_}
 use mathlib.Core.List.{List, [], _∷_, _++_, flatten}
 use Prim.Native.Nat.{ℕ}

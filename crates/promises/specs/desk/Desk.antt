@@ -1,5 +1,4 @@
 -- The desk cases of document 01 that are marked (P), in one table: what a public operation says, and what it must say.
--- Assumes nothing.
 use mathlib.Core.List.{List, [], _∷_, _++_, map}
 use Prim.Native.Nat.{ℕ, zero, suc, _+_}
 use lib.IntN.{pos, negsuc}

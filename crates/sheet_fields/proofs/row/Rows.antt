@@ -1,5 +1,4 @@
 -- A row of fields from a place in it on, whatever is carried: one more field, one refused, and none left.
--- Assumes nothing.
 use mathlib.Core.Path.{_≡_}
 use mathlib.Core.List.{List}
 use Prim.Native.Nat.{ℕ, _+_, _≤_, _<_}
@@ -9,9 +8,9 @@ use lib.ListN.{length, drop, getD, drop-of-length-le}
 use lib.Seq.{drop-cons}
 use Rattle.kinds.specs.Kind.{upTo}
 use Rattle.format.specs.Format.{Format, then}
-use Rattle.format.specs.Ways.{Way, Went, Got, Over, Took, Left}
+use Rattle.format.specs.internal.Ways.{Way, Went, Got, Over, Took, Left}
 use Rattle.format.proofs.Ways.{left-as, left-none, left-value, left-refused}
-use Rattle.grammar.specs.rows.Rows.{row}
+use Rattle.grammar.specs.internal.rows.Rows.{row}
 
 module _ (ws ms : List ℕ) (i : ℕ) where
   abbrev from : ℕ → Format → Format

@@ -1,6 +1,6 @@
 -- `judge_journey_sheet::fields` meets its contract.
 use Rattle.format.proofs.Ways.{over-on, over-off}
-use Rattle.grammar.specs.rows.Rows.{row}
+use Rattle.grammar.specs.internal.rows.Rows.{row}
 use borrow.Author.Needs.{needs}
 use Rattle.sheet_journey.proofs.fields.Statement.{statement}
 use Rattle.sheet_journey.proofs.fields.Tie as tie

@@ -1,8 +1,8 @@
 -- `judge_journey_sheet::segment` meets its contract.
 use Rattle.format.proofs.Ways.{over-on, over-off, value-on, value-off}
-use Rattle.grammar.specs.rows.Rows.{row}
+use Rattle.grammar.specs.internal.rows.Rows.{row}
 use Rattle.grammar.specs.journey.Journey.{constraints}
-use Rattle.grammar.specs.journey.Parts.{segmentRest}
+use Rattle.grammar.specs.internal.journey.Parts.{segmentRest}
 use borrow.Author.Needs.{needs}
 use Rattle.sheet_journey.proofs.segment.Statement.{statement}
 use Rattle.sheet_journey.proofs.segment.Tie as tie

@@ -1,5 +1,5 @@
 -- `judge_sheet::numbers_of` meets its contract.
-use Rattle.sheet_judge.specs.Whole.{afterPart}
+use Rattle.sheet_judge.specs.internal.Whole.{afterPart}
 use Rattle.format.proofs.Ways.{value-on, value-off}
 use borrow.Author.Needs.{needs}
 use Rattle.sheet_judge.proofs.numbers_of.Statement.{statement}

@@ -6,11 +6,11 @@ use native.Mathlib.Omega.{arith}
 use lib.ListN.{getD}
 use Rattle.kinds.specs.Kind.{Kind, upTo}
 use Rattle.format.specs.Format.{then}
-use Rattle.format.specs.Ways.{Left}
+use Rattle.format.specs.internal.Ways.{Left}
 use Rattle.format.proofs.Ways.{left-all, left-none, left-as, left-value, left-refused}
-use Rattle.grammar.specs.segment.Parts.{runs, Run}
+use Rattle.grammar.specs.internal.segment.Parts.{runs, Run}
 use Rattle.grammar.proofs.segment.Parts.{runs-more, runs-none}
-use Rattle.sheet_fields.specs.Judging.{judge}
+use Rattle.sheet_fields.specs.internal.Judging.{judge}
 use Rattle.sheet_judge.proofs.Whole.{widthTable, largestTable, kind-limits}
 use borrow.Author.Needs.{needs}
 use Rattle.sheet_judge.proofs.run.Statement.{statement}

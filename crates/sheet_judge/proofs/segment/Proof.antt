@@ -1,5 +1,5 @@
 -- `judge_sheet::segment` meets its contract.
-use Rattle.grammar.specs.segment.Parts.{runs, threeLists}
+use Rattle.grammar.specs.internal.segment.Parts.{runs, threeLists}
 use Rattle.format.proofs.Ways.{over-on, over-off, value-on, value-off}
 use borrow.Author.Needs.{needs}
 use native.Mathlib.Omega.{arith}

@@ -1,11 +1,11 @@
 -- `sheet_lists::changes` meets its contract.
 use Rattle.grammar.specs.segment.Segment.{changes}
-use Rattle.grammar.specs.segment.Parts.{startOf}
-use Rattle.format.specs.Ways.{Left}
+use Rattle.grammar.specs.internal.segment.Parts.{startOf}
+use Rattle.format.specs.internal.Ways.{Left}
 use Rattle.format.proofs.Ways.{left-all, left-none, left-as}
 use Rattle.grammar.proofs.segment.Parts.{changes-none}
 use Rattle.grammar.proofs.segment.Changes.{location-off, element-off, element-on}
-use Rattle.sheet_fields.specs.Judging.{judge}
+use Rattle.sheet_fields.specs.internal.Judging.{judge}
 use borrow.Author.Needs.{needs}
 use native.Mathlib.Omega.{arith}
 use Rattle.sheet_segment.proofs.changes.Statement.{statement}

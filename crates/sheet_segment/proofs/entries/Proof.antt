@@ -2,11 +2,11 @@
 use mathlib.Core.Path.{refl}
 use Prim.Native.Nat.{_-_}
 use Rattle.grammar.specs.segment.Segment.{entries}
-use Rattle.grammar.specs.segment.Parts.{entry}
-use Rattle.format.specs.Ways.{Left}
+use Rattle.grammar.specs.internal.segment.Parts.{entry}
+use Rattle.format.specs.internal.Ways.{Left}
 use Rattle.format.proofs.Ways.{left-all, left-none, left-as, left-on, left-off}
 use Rattle.grammar.proofs.segment.Parts.{entries-more, entries-none}
-use Rattle.sheet_fields.specs.Judging.{judge}
+use Rattle.sheet_fields.specs.internal.Judging.{judge}
 use borrow.Author.Needs.{needs}
 use native.Mathlib.Omega.{arith}
 use Rattle.sheet_segment.proofs.entries.Statement.{statement}

@@ -1,6 +1,6 @@
 -- `sheet_lists::list` meets its contract.
 use Rattle.grammar.specs.segment.Segment.{changes}
-use Rattle.grammar.specs.segment.Parts.{startOf}
+use Rattle.grammar.specs.internal.segment.Parts.{startOf}
 use Rattle.format.proofs.Ways.{over-on, over-off, value-on, value-off}
 use native.Mathlib.Omega.{arith}
 use borrow.Author.Needs.{needs}

@@ -1,5 +1,4 @@
 -- A temporary constraint of an accepted packet, part after part.
--- Assumes nothing.
 use mathlib.Core.Path.{_≡_, refl}
 use mathlib.Core.Bool.{true}
 use mathlib.Core.List.{List, [], _∷_}
@@ -10,18 +9,18 @@ use lib.Dec.{leb}
 use Rattle.bits.specs.Bits.{fieldAt}
 use Rattle.bits.proofs.Tests.{and-right}
 use Rattle.bits.proofs.Windows.{cut-high, cut-field}
-use Rattle.numbers.specs.Groups.{Put}
+use Rattle.numbers.specs.internal.Groups.{Put}
 use Rattle.kinds.specs.Kinds.{noCurrent}
 use Rattle.format.specs.Format.{Format, field, then}
 use Rattle.kinds.specs.journey.Kinds.{qTcType, qTcRange, dTcStartLocation, dTcEndLocation, qTcFront, vSpeedLevel, qLowAdhesionRate}
 use Rattle.grammar.specs.journey.Journey.{stretch, restriction, temporaryConstraint}
 use Rattle.grammar.proofs.journey.Tree.{by-range, by-type, end-width, level-width}
-use Rattle.sheet_write_segment.specs.elements.Writing.{putting, PartWritable, Wrote}
+use Rattle.sheet_write_segment.specs.internal.elements.Writing.{putting, PartWritable, Wrote}
 use Rattle.sheet_write_segment.proofs.elements.Writing.{Puts, Along, along-here, along-none, along-put, field-here}
-use Rattle.sheet_write_journey.specs.row.Row.{putAll, FitAll, none, more, Row, copied}
+use Rattle.sheet_write_journey.specs.internal.row.Row.{putAll, FitAll, none, more, Row, copied}
 use Rattle.sheet_write_journey.proofs.row.Rows.{row-first, row-after, row-both}
 use Rattle.sheet_write_journey.proofs.row.Tree.{Rowing, rowing-none, rowing-field, rowing-here}
-use Rattle.sheet_write_journey.specs.constraint.Numbers.{startWidths, stretchWidths, restrictionAt, RestrictionFits}
+use Rattle.sheet_write_journey.specs.internal.constraint.Numbers.{startWidths, stretchWidths, restrictionAt, RestrictionFits}
 
 -- ---- the numbers of the kinds that depend on the range or the type
 

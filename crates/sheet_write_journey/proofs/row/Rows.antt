@@ -1,5 +1,4 @@
 -- Numbers put one after another, and fields copied in a row: one more, two rows after one another, and the fields of a window that is read at once.
--- Assumes nothing.
 use mathlib.Core.Path.{_≡_, refl, sym, ap, _∙_}
 use mathlib.Core.List.{List, [], _∷_, _++_}
 use Prim.Native.Nat.{ℕ, _+_, _*_, _/_, _%_, _^_, _≤_, _<_}
@@ -8,10 +7,10 @@ use lib.ListN.{length}
 use Rattle.bits.specs.Bits.{fieldAt}
 use Rattle.bits.proofs.Windows.{cut-high, cut-field, cut-low}
 use Rattle.numbers.specs.Numbers.{groupsIn}
-use Rattle.numbers.specs.Groups.{Put}
+use Rattle.numbers.specs.internal.Groups.{Put}
 use Rattle.numbers.proofs.Counting.{last-group}
-use Rattle.sheet_write_segment.specs.elements.Writing.{putting}
-use Rattle.sheet_write_journey.specs.row.Row.{bitsIn, putAll, FitAll, none, more, valuesAt, Row, copied}
+use Rattle.sheet_write_segment.specs.internal.elements.Writing.{putting}
+use Rattle.sheet_write_journey.specs.internal.row.Row.{bitsIn, putAll, FitAll, none, more, valuesAt, Row, copied}
 
 -- ---- one more number
 

@@ -1,5 +1,4 @@
 -- Fields of an accepted packet's tree that are a row: they may be copied, and are then written.
--- Assumes nothing.
 use mathlib.Core.Path.{_≡_, refl}
 use mathlib.Core.Bool.{Bool, true, _&&_}
 use mathlib.Core.List.{List, [], _∷_, _++_}
@@ -8,13 +7,13 @@ use native.Mathlib.Omega.{arith}
 use lib.Dec.{leb, ltb}
 use Rattle.bits.specs.Bits.{fieldAt}
 use Rattle.bits.proofs.Tests.{and-right}
-use Rattle.numbers.specs.Groups.{Put}
+use Rattle.numbers.specs.internal.Groups.{Put}
 use Rattle.kinds.specs.Kind.{Kind, upTo}
 use Rattle.format.specs.Format.{Format, field}
-use Rattle.grammar.specs.rows.Rows.{row, fits}
-use Rattle.sheet_write_segment.specs.elements.Writing.{putting, PartWritable, Wrote}
+use Rattle.grammar.specs.internal.rows.Rows.{row, fits}
+use Rattle.sheet_write_segment.specs.internal.elements.Writing.{putting, PartWritable, Wrote}
 use Rattle.sheet_write_segment.proofs.elements.Writing.{Along, along-all, along-as, along-here, along-next, along-on, along-none, along-put, field-here}
-use Rattle.sheet_write_journey.specs.row.Row.{bitsIn, putAll, FitAll, none, more, valuesAt, Row, copied}
+use Rattle.sheet_write_journey.specs.internal.row.Row.{bitsIn, putAll, FitAll, none, more, valuesAt, Row, copied}
 use Rattle.sheet_write_journey.proofs.row.Rows.{bits-join, values-join, put-join, fit-join}
 
 record Rowed (ws ms s : List ℕ) (stop at : ℕ) (p : Put) : Type 0 where

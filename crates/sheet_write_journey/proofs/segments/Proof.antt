@@ -1,7 +1,7 @@
 -- `write_journey_sheet::segments` meets its contract.
 use Rattle.format.specs.Format.{times}
 use Rattle.grammar.specs.journey.Journey.{journeySegment, constraints}
-use Rattle.sheet_write_segment.specs.elements.Writing.{filled}
+use Rattle.sheet_write_segment.specs.internal.elements.Writing.{filled}
 use Rattle.sheet_write_segment.proofs.elements.Writing.{Along, along-all, times-next, times-on, times-end}
 use native.Mathlib.Omega.{arith}
 use Rattle.sheet_write_journey.proofs.segments.Statement.{statement}

@@ -6,9 +6,9 @@ use native.Mathlib.Omega.{arith}
 use lib.Dec.{lit<, lit≤}
 use Rattle.kinds.specs.Kinds.{dLocation}
 use Rattle.grammar.specs.segment.Segment.{changes}
-use Rattle.grammar.specs.segment.Parts.{startOf}
+use Rattle.grammar.specs.internal.segment.Parts.{startOf}
 use Rattle.grammar.proofs.segment.Parts.{changes-none}
-use Rattle.sheet_write_segment.specs.elements.Writing.{filled}
+use Rattle.sheet_write_segment.specs.internal.elements.Writing.{filled}
 use Rattle.sheet_write_segment.proofs.elements.Writing.{Along, along-all, along-as, along-here, along-put, along-next, along-on, along-none, field-here, field-read}
 use Rattle.sheet_write_segment.proofs.Straight.{changed, change-next}
 use Rattle.sheet_write_segment.proofs.changes.Statement.{statement}

@@ -1,5 +1,4 @@
 -- Three fields that are read at once: an entry, and an element of the speed profile before its entries.
--- Assumes nothing.
 use mathlib.Core.Path.{_≡_, refl}
 use mathlib.Core.List.{List}
 use Prim.Native.Nat.{ℕ, _+_, _*_, _-_, _/_, _%_, _^_, _≤_, _<_}
@@ -9,14 +8,14 @@ use lib.ListN.{length}
 use Rattle.bits.specs.Bits.{fieldAt}
 use Rattle.bits.proofs.Windows.{cut-high, cut-field, cut-low}
 use Rattle.bits.proofs.Fields.{window-small}
-use Rattle.numbers.specs.Groups.{Put}
+use Rattle.numbers.specs.internal.Groups.{Put}
 use Rattle.kinds.specs.Kind.{Kind}
 use Rattle.format.specs.Format.{Format, field, then}
 use Rattle.kinds.specs.Kinds.{speed, qFront, nIter, qDiff, class}
 use Rattle.grammar.specs.segment.Segment.{entries, profile}
-use Rattle.grammar.specs.segment.Parts.{entry}
+use Rattle.grammar.specs.internal.segment.Parts.{entry}
 use Rattle.grammar.proofs.segment.Parts.{class-width}
-use Rattle.sheet_write_segment.specs.elements.Writing.{putting, PartWritable}
+use Rattle.sheet_write_segment.specs.internal.elements.Writing.{putting, PartWritable}
 use Rattle.sheet_write_segment.proofs.elements.Writing.{Puts, Along, along-all, along-here, along-put, field-here}
 
 -- ---- three fields that are read at once, as t; what follows depends on the third

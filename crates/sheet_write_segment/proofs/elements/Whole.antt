@@ -1,5 +1,4 @@
 -- What writing every field of an accepted packet comes to, whatever its tree: the room with the packet's numbers in it.
--- Assumes nothing.
 use mathlib.Core.Path.{_≡_, sym, ap, _∙_}
 use mathlib.Core.List.{List, [], _∷_, _++_}
 use Prim.Native.Nat.{ℕ, _+_, _≤_}
@@ -8,15 +7,15 @@ use lib.ListN.{length, length-append}
 use lib.Seq.{sets, length-sets}
 use Rattle.bits.proofs.Cells.{sets-append}
 use Rattle.numbers.specs.Numbers.{groupsIn}
-use Rattle.numbers.specs.Groups.{Put}
+use Rattle.numbers.specs.internal.Groups.{Put}
 use Rattle.kinds.specs.declared.Item.{Item}
 use Rattle.format.specs.Format.{Format, end, field, read, write, accepted, answerOf, valuesOf}
 use Rattle.format.specs.Media.{packet, sheet}
-use Rattle.format.specs.Places.{bitsBetween, Placed}
-use Rattle.format.specs.Pass.{pass, made}
-use Rattle.format.specs.Tasks.{Told}
+use Rattle.format.specs.internal.Places.{bitsBetween, Placed}
+use Rattle.format.specs.internal.Pass.{pass, made}
+use Rattle.format.specs.internal.Tasks.{Told}
 use Rattle.format.proofs.Passing.{pass-read}
-use Rattle.sheet_write_segment.specs.elements.Writing.{writing, putting, filled, PartWritable, Wrote}
+use Rattle.sheet_write_segment.specs.internal.elements.Writing.{writing, putting, filled, PartWritable, Wrote}
 
 -- what writing makes is what the sheet's medium writes, at its place
 made-written : (f : Format) (l : List Item) (p : Put)

@@ -1,5 +1,4 @@
 -- Writing a part of an accepted packet's sheet: a field, what is left of a part, and that what is put fits.
--- Assumes nothing.
 use mathlib.Core.Path.{_≡_, refl, _∙_}
 use mathlib.Core.Bool.{true, false}
 use mathlib.Core.List.{List, [], _∷_}
@@ -12,19 +11,19 @@ use lib.Seq.{length-sets}
 use Rattle.bits.specs.Bits.{fieldAt}
 use Rattle.bits.proofs.Tests.{by-cases}
 use Rattle.numbers.specs.Numbers.{groupsIn}
-use Rattle.numbers.specs.Groups.{Put}
+use Rattle.numbers.specs.internal.Groups.{Put}
 use Rattle.kinds.specs.declared.Item.{Item}
 use Rattle.kinds.specs.Kind.{Kind}
 use Rattle.kinds.specs.Judged.{valueInPacket}
 use Rattle.format.specs.Format.{Format, end, field, times, FieldStep, step, stop, Medium}
-use Rattle.format.specs.Places.{Taken, Placed, takenAt, bitsTaken}
-use Rattle.format.specs.Pass.{ofStep, pass}
-use Rattle.format.specs.Ways.{Got, Took, Left, Ahead}
-use Rattle.format.specs.Tasks.{Told}
+use Rattle.format.specs.internal.Places.{Taken, Placed, takenAt, bitsTaken}
+use Rattle.format.specs.internal.Pass.{ofStep, pass}
+use Rattle.format.specs.internal.Ways.{Got, Took, Left, Ahead}
+use Rattle.format.specs.internal.Tasks.{Told}
 use Rattle.format.proofs.Places.{bits-short, bits-whole}
 use Rattle.format.proofs.Passing.{packet-seen}
 use Rattle.format.proofs.Ways.{over-on, took-is, took-off, left-all, left-none, left-as, left-on, left-value, times-more, times-none, ahead-first, ahead-value, ahead-left, ahead-never}
-use Rattle.sheet_write_segment.specs.elements.Writing.{writing, putting, Reads, writer, Fits, PartWritable, Wrote}
+use Rattle.sheet_write_segment.specs.internal.elements.Writing.{writing, putting, Reads, writer, Fits, PartWritable, Wrote}
 
 -- ---- a pass that writes never goes back, and its room stays as long as it is
 

@@ -10,7 +10,7 @@ use Rattle.bits.proofs.Fields.{field-small}
 use Rattle.kinds.specs.Kinds.{nIter}
 use Rattle.format.specs.Format.{field}
 use Rattle.grammar.specs.segment.Segment.{changes}
-use Rattle.grammar.specs.segment.Parts.{startOf}
+use Rattle.grammar.specs.internal.segment.Parts.{startOf}
 use Rattle.sheet_write_segment.proofs.elements.Writing.{along-all, along-here, along-put, along-next, along-on, along-none, field-here, field-read}
 use Rattle.sheet_write_segment.proofs.list.Statement.{statement}
 use Rattle.sheet_write_segment.proofs.list.Tie as tie

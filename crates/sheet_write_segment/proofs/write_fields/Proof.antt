@@ -1,7 +1,7 @@
 -- `write_sheet::write_fields` meets its contract.
 use denote.Ref.{now}
 use borrow.Author.Needs.{needs}
-use Rattle.sheet_write_segment.specs.elements.Writing.{filled, PartWritable}
+use Rattle.sheet_write_segment.specs.internal.elements.Writing.{filled, PartWritable}
 use Rattle.sheet_write_segment.proofs.Sheet.{whole, all-writable, all-held, header-writable, identity-writable, length-read, length-fits, offsets-writable, lists-writable, all-wrote}
 use Rattle.sheet_write_segment.proofs.write_fields.Statement.{statement}
 use Rattle.sheet_write_segment.proofs.write_fields.Tie as tie

@@ -4,7 +4,7 @@ use denote.Ref.{now}
 use lib.Dec.{lit≤, lit<}
 use Rattle.speed_packet.proofs.Fields.{element-inside, element-at, static-small, entries-passed}
 use Rattle.speed_element.proofs.Reading.{element-read}
-use Rattle.speed_packet.specs.Asking.{Reads}
+use Rattle.speed_packet.specs.internal.Asking.{Reads}
 use borrow.Author.Needs.{needs}
 use Rattle.speed_packet.proofs.element.Statement.{statement}
 use Rattle.speed_packet.proofs.element.Tie as tie

@@ -4,7 +4,7 @@ use native.Mathlib.Omega.{arith}
 use denote.Ref.{now}
 use Rattle.speed_packet.proofs.Fields.{entry-whole}
 use Rattle.speed_element.proofs.Reading.{Entered, entered-all, entered-next, entry-readable, ended-read, ended-not}
-use Rattle.speed_packet.specs.Asking.{Reads}
+use Rattle.speed_packet.specs.internal.Asking.{Reads}
 use borrow.Author.Needs.{needs}
 use borrow.Author.Tests.{not-true, not-false}
 use Rattle.speed_packet.proofs.ended.Statement.{statement}

@@ -3,7 +3,7 @@ use denote.Ref.{now}
 use lib.Dec.{lit≤, lit<}
 use Rattle.speed_packet.proofs.Fields.{entry-inside, entry-at, entry-kept}
 use Rattle.speed_element.proofs.Reading.{entry-read}
-use Rattle.speed_packet.specs.Asking.{Reads}
+use Rattle.speed_packet.specs.internal.Asking.{Reads}
 use borrow.Author.Needs.{needs}
 use Rattle.speed_packet.proofs.entry.Statement.{statement}
 use Rattle.speed_packet.proofs.entry.Tie as tie

@@ -6,7 +6,7 @@ use lib.Dec.{lit≤, lit<}
 use Rattle.kinds.specs.Kinds.{dLocation}
 use Rattle.speed_packet.proofs.Fields.{field-read, field-inside, field-asked}
 use Rattle.speed_element.proofs.Reading.{next-readable, next-element, next-last, next-change}
-use Rattle.speed_packet.specs.Asking.{Reads}
+use Rattle.speed_packet.specs.internal.Asking.{Reads}
 use Rattle.speed_packet.proofs.next.Statement.{statement}
 use Rattle.speed_packet.proofs.next.Tie as tie
 

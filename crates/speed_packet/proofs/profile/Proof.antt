@@ -9,7 +9,7 @@ use Rattle.format.specs.Format.{field}
 use Rattle.grammar.specs.segment.Segment.{profile, changes}
 use Rattle.speed_packet.proofs.Fields.{field-read, field-inside, field-asked}
 use Rattle.speed_element.proofs.Reading.{readable-passed, profile-changes, profile-read}
-use Rattle.speed_packet.specs.Asking.{Reads}
+use Rattle.speed_packet.specs.internal.Asking.{Reads}
 use borrow.Author.Needs.{needs}
 use Rattle.speed_packet.proofs.profile.Statement.{statement}
 use Rattle.speed_packet.proofs.profile.Tie as tie

@@ -2,7 +2,7 @@
 use denote.Ref.{now}
 use native.Mathlib.Omega.{arith}
 use Rattle.speed_element.proofs.Reading.{Ending, ending-all, ending-next}
-use Rattle.speed_sheet.specs.Asking.{Reads}
+use Rattle.speed_sheet.specs.internal.Asking.{Reads}
 use borrow.Author.Needs.{needs}
 use Rattle.speed_sheet.proofs.changes.Statement.{statement}
 use Rattle.speed_sheet.proofs.changes.Tie as tie

@@ -7,7 +7,7 @@ use Rattle.format.specs.Format.{field, then}
 use Rattle.grammar.specs.segment.Segment.{entries}
 use Rattle.speed_sheet.proofs.Parts.{same-read, speed-read, speed-small, front-inside, front-at, count-inside, count-at}
 use Rattle.speed_element.proofs.Reading.{element-entries, element-read}
-use Rattle.speed_sheet.specs.Asking.{Reads}
+use Rattle.speed_sheet.specs.internal.Asking.{Reads}
 use borrow.Author.Needs.{needs}
 use Rattle.speed_sheet.proofs.element.Statement.{statement}
 use Rattle.speed_sheet.proofs.element.Tie as tie

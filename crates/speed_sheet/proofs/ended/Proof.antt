@@ -3,7 +3,7 @@ use mathlib.Core.Path.{sym, _∙_}
 use native.Mathlib.Omega.{arith}
 use denote.Ref.{now}
 use Rattle.speed_element.proofs.Reading.{Entered, entered-all, entered-next, entry-readable, ended-read, ended-not}
-use Rattle.speed_sheet.specs.Asking.{Reads}
+use Rattle.speed_sheet.specs.internal.Asking.{Reads}
 use borrow.Author.Needs.{needs}
 use borrow.Author.Tests.{not-true, not-false}
 use Rattle.speed_sheet.proofs.ended.Statement.{statement}

@@ -3,9 +3,9 @@ use mathlib.Core.Path.{_≡_, refl, ap, _∙_}
 use native.Mathlib.Omega.{arith}
 use denote.Ref.{now}
 use Rattle.grammar.specs.segment.Segment.{entries}
-use Rattle.speed_element.specs.Reading.{Readable}
+use Rattle.speed_element.specs.internal.Reading.{Readable}
 use Rattle.speed_element.proofs.Reading.{entriesEnd, entries-pass, entries-end-next, entries-next, entry-readable}
-use Rattle.speed_sheet.specs.Asking.{shortEnd, entryEnd, Reads}
+use Rattle.speed_sheet.specs.internal.Asking.{shortEnd, entryEnd, Reads}
 use Rattle.speed_sheet.proofs.Parts.{entry-pass, class-inside, speed-inside}
 use borrow.Author.Needs.{needs}
 use Rattle.speed_sheet.proofs.entries_end.Statement.{statement}

@@ -4,7 +4,7 @@ use denote.Ref.{now}
 use Rattle.kinds.specs.Kinds.{qDiff}
 use Rattle.speed_sheet.proofs.Parts.{same-read, class-read, speed-read, entry-kept}
 use Rattle.speed_element.proofs.Reading.{entry-read}
-use Rattle.speed_sheet.specs.Asking.{Reads}
+use Rattle.speed_sheet.specs.internal.Asking.{Reads}
 use borrow.Author.Needs.{needs}
 use Rattle.speed_sheet.proofs.entry.Statement.{statement}
 use Rattle.speed_sheet.proofs.entry.Tie as tie

@@ -5,7 +5,7 @@ use denote.Ref.{now}
 use Rattle.kinds.specs.Kinds.{dLocation}
 use Rattle.speed_sheet.proofs.Parts.{same-read}
 use Rattle.speed_element.proofs.Reading.{next-element, next-last, next-change}
-use Rattle.speed_sheet.specs.Asking.{Reads}
+use Rattle.speed_sheet.specs.internal.Asking.{Reads}
 use Rattle.speed_sheet.proofs.next.Statement.{statement}
 use Rattle.speed_sheet.proofs.next.Tie as tie
 

@@ -4,7 +4,7 @@ use denote.Ref.{now}
 use Rattle.kinds.specs.Kinds.{nIter}
 use Rattle.speed_sheet.proofs.Parts.{same-read}
 use Rattle.speed_element.proofs.Reading.{profile-changes, profile-read}
-use Rattle.speed_sheet.specs.Asking.{Reads}
+use Rattle.speed_sheet.specs.internal.Asking.{Reads}
 use borrow.Author.Needs.{needs}
 use Rattle.speed_sheet.proofs.profile.Statement.{statement}
 use Rattle.speed_sheet.proofs.profile.Tie as tie

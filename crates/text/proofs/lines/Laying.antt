@@ -1,5 +1,4 @@
 -- The lines of a listing, put piece by piece, and the numbers that they show.
--- Assumes nothing.
 use mathlib.Core.Path.{_≡_, refl, sym, _∙_}
 use mathlib.Core.List.{List, _++_}
 use Prim.Native.Nat.{ℕ, zero, suc, _+_, _*_, _-_, _≤_}
@@ -9,10 +8,10 @@ use lib.IntN.{ℤ, pos, negsuc}
 use lib.ListN.{length, drop, getD, length-append}
 use lib.Seq.{drop-drop, getD-drop}
 use Rattle.speed.specs.Speed.{Element, afterEntries, afterElement, elementOf, changesFrom, profileOf}
-use Rattle.text.specs.sheet.Numbers.{numbersIn, NumbersAt}
+use Rattle.text.specs.internal.sheet.Numbers.{numbersIn, NumbersAt}
 use Rattle.text.specs.words.Words.{ascii, signedDecimal, labelled, Laid}
 use Rattle.text.specs.lines.Lines.{namesText, measures, segmentLine, elementLine, elementLines, lines}
-use Rattle.text.specs.lines.Changes.{changesOf}
+use Rattle.text.specs.internal.lines.Changes.{changesOf}
 use Rattle.text.proofs.words.Putting.{laid-on, laid-long, decimal-short}
 
 -- ---- numbers of a sheet

@@ -1,5 +1,4 @@
 -- The numbers of a sheet: one after the other, and those of a sheet that was written.
--- Assumes nothing.
 use mathlib.Core.Path.{_≡_, refl, sym, ap, _∙_}
 use mathlib.Core.List.{List, [], _∷_, _++_}
 use Prim.Native.Nat.{ℕ, zero, suc, _+_, _-_, _≤_}
@@ -17,7 +16,7 @@ use Rattle.format.specs.Format.{Format, write, sheetNumbers}
 use Rattle.format.specs.Media.{sheet}
 use Rattle.format.specs.Conforming.{Conforming, done, also, InSheet}
 use Rattle.format.proofs.Media.{bytes-drop}
-use Rattle.text.specs.sheet.Numbers.{before, firstNumbers, numbersIn}
+use Rattle.text.specs.internal.sheet.Numbers.{before, firstNumbers, numbersIn}
 
 -- nothing stands in front of nothing
 none-in : numberIn [] ≡ Bad

@@ -1,5 +1,4 @@
 -- The magnitude of a signed number of 32 bits, by way of 64 bits, and its text.
--- Assumes nothing.
 use mathlib.Core.Path.{_≡_, refl, ap, _∙_}
 use mathlib.Core.Bool.{true, false}
 use mathlib.Core.List.{_++_}

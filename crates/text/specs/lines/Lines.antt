@@ -1,5 +1,4 @@
 -- The lines of a listing, by a segment's altitude and its sheet's numbers.
--- Assumes nothing.
 use mathlib.Core.List.{List, [], _∷_, _++_}
 use Prim.Native.Nat.{ℕ}
 use lib.IntN.{ℤ}

@@ -1,5 +1,4 @@
 -- Words and numbers as text, and text put at a place of a room.
--- Assumes nothing.
 use mathlib.Core.Path.{_≡_}
 use mathlib.Core.Bool.{cond}
 use mathlib.Core.List.{List, [], _∷_, _++_}

@@ -1,5 +1,4 @@
 -- The frame of a packet, by the order of its refusals; and what is answered of a packet, from what is answered of its fields.
--- Assumes nothing.
 use mathlib.Core.Path.{_≡_, refl, sym, ap, _∙_}
 use mathlib.Core.Bool.{Bool, true, false}
 use mathlib.Core.List.{List, [], _∷_}
@@ -21,10 +20,10 @@ use Rattle.kinds.specs.declared.Item.{Item}
 use Rattle.format.specs.Format.{Format, Read, accepted, refused, read, answerOf}
 use Rattle.format.specs.Media.{packet}
 use Rattle.grammar.specs.segment.Frame.{packetNumber, bodyBits, firstOne, numberItem, padded, unframed}
-use Rattle.format.specs.Places.{bitsBetween, Placed}
+use Rattle.format.specs.internal.Places.{bitsBetween, Placed}
 use Rattle.verdict.specs.declared.frame.Frame.{Frame}
 use Rattle.verdict.specs.declared.frame.Frame.the-variants as Frame
-use Rattle.verdict.specs.frame.Framed.{frameOf, oneOrEnd}
+use Rattle.verdict.specs.internal.frame.Framed.{frameOf, oneOrEnd}
 
 module _ (n : ℕ) (s : List ℕ) where
   pub frame-short : length s < 15 → Frame.Refused 1 ≡ frameOf n s

@@ -5,7 +5,7 @@ use native.Mathlib.Nat.{mod-eq-of-lt, mul-one}
 use lib.ListN.{length, length-set}
 use lib.Seq.{sets}
 use Rattle.bits.proofs.Cells.{sets-past}
-use Rattle.bits.specs.write.Filling.{bytesIn}
+use Rattle.bits.specs.internal.write.Filling.{bytesIn}
 use Rattle.bits.proofs.write.Putting.{bytes-more, top-byte, next-byte}
 use native.Mathlib.Omega.{arith}
 use Rattle.bits.proofs.write.store_some.Statement.{statement}

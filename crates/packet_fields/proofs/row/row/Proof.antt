@@ -3,10 +3,10 @@ use native.Mathlib.Omega.{arith}
 use Prim.Native.Nat.{_-_, _≤_}
 use lib.ListN.{length}
 use denote.Ref.{now}
-use Rattle.format.specs.Ways.{Left}
+use Rattle.format.specs.internal.Ways.{Left}
 use Rattle.format.proofs.Ways.{left-all}
-use Rattle.grammar.specs.rows.Rows.{row}
-use Rattle.packet_fields.specs.Judging.{judge}
+use Rattle.grammar.specs.internal.rows.Rows.{row}
+use Rattle.packet_fields.specs.internal.Judging.{judge}
 use Rattle.packet_fields.proofs.row.Rows.{fits-length, fits-at, rowFrom, row-off, row-on, row-none}
 use borrow.Author.Needs.{needs}
 use Rattle.packet_fields.proofs.row.row.Statement.{statement}

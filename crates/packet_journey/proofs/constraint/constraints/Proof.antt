@@ -1,10 +1,10 @@
 -- `judge_constraint::constraints` meets its contract.
 use native.Mathlib.Omega.{arith}
-use Rattle.format.specs.Ways.{Left}
+use Rattle.format.specs.internal.Ways.{Left}
 use Rattle.format.specs.Format.{times}
 use Rattle.format.proofs.Ways.{left-all, times-on, times-off, times-end}
 use Rattle.grammar.specs.journey.Journey.{temporaryConstraint}
-use Rattle.packet_fields.specs.Judging.{judge}
+use Rattle.packet_fields.specs.internal.Judging.{judge}
 use borrow.Author.Needs.{needs}
 use Rattle.packet_journey.proofs.constraint.constraints.Statement.{statement}
 use Rattle.packet_journey.proofs.constraint.constraints.Tie as tie

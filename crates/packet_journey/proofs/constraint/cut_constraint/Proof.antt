@@ -1,7 +1,7 @@
 -- `judge_constraint::cut_constraint` meets its contract.
 use lib.Dec.{lit≤}
 use Rattle.format.proofs.Ways.{over-on, over-off, value-on, value-off}
-use Rattle.grammar.specs.journey.Parts.{afterType, afterRange}
+use Rattle.grammar.specs.internal.journey.Parts.{afterType, afterRange}
 use borrow.Author.Needs.{needs}
 use Rattle.packet_journey.proofs.constraint.cut_constraint.Statement.{statement}
 use Rattle.packet_journey.proofs.constraint.cut_constraint.Tie as tie

@@ -1,7 +1,7 @@
 -- `judge_point::cut_point` meets its contract.
 use lib.Dec.{lit≤}
-use Rattle.grammar.specs.rows.Rows.{row}
-use Rattle.grammar.specs.journey.Parts.{stoppingWidths, stoppingMost}
+use Rattle.grammar.specs.internal.rows.Rows.{row}
+use Rattle.grammar.specs.internal.journey.Parts.{stoppingWidths, stoppingMost}
 use Rattle.format.proofs.Ways.{over-on, over-off, value-on, value-off}
 use Rattle.packet_journey.proofs.point.Looping.{point-over}
 use borrow.Author.Needs.{needs}

@@ -3,10 +3,10 @@ use Prim.Native.Nat.{_*_, _-_, _≤_, _<_}
 use native.Mathlib.Omega.{arith}
 use denote.Ref.{now}
 use Rattle.grammar.specs.segment.Segment.{entries}
-use Rattle.grammar.specs.segment.Parts.{entry}
+use Rattle.grammar.specs.internal.segment.Parts.{entry}
 use Rattle.grammar.proofs.segment.Parts.{entries-more, entries-none}
-use Rattle.packet_fields.specs.Judging.{judge}
-use Rattle.format.specs.Ways.{Left}
+use Rattle.packet_fields.specs.internal.Judging.{judge}
+use Rattle.format.specs.internal.Ways.{Left}
 use Rattle.format.proofs.Ways.{left-all, left-none, left-as, left-on, left-off}
 use Rattle.packet_segment.proofs.element.Windows.{entry-refused, entry-passed}
 use borrow.Author.Needs.{needs}

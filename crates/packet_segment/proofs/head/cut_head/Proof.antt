@@ -1,6 +1,6 @@
 -- `judge_head::cut_head` meets its contract.
 use lib.Dec.{lit≤}
-use Rattle.grammar.specs.segment.Parts.{runs}
+use Rattle.grammar.specs.internal.segment.Parts.{runs}
 use Rattle.format.proofs.Ways.{gave-on, gave-off, gave-took, gave-then, gave-stop, gave-none}
 use borrow.Author.Needs.{needs}
 use Rattle.packet_segment.proofs.head.cut_head.Statement.{statement}

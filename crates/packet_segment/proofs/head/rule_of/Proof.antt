@@ -1,7 +1,7 @@
 -- `judge_head::rule_of` meets its contract.
 use native.Mathlib.Omega.{arith}
 use mathlib.Core.Path.{_≡_}
-use Rattle.grammar.specs.segment.Parts.{kindAt}
+use Rattle.grammar.specs.internal.segment.Parts.{kindAt}
 use Rattle.packet_segment.proofs.head.Places.{past-it, last-of}
 use borrow.Author.Needs.{needs}
 use Rattle.packet_segment.proofs.head.rule_of.Statement.{statement}

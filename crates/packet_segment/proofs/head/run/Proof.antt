@@ -3,13 +3,13 @@ use native.Mathlib.Omega.{arith}
 use mathlib.Core.Path.{_≡_, ap, sym, _∙_}
 use Prim.Native.Nat.{_+_, _-_, _≤_}
 use Rattle.kinds.specs.Kind.{Kind}
-use Rattle.kinds.specs.Rules.{meaning}
+use Rattle.kinds.specs.internal.Rules.{meaning}
 use Rattle.format.specs.Format.{then}
-use Rattle.format.specs.Ways.{Left}
+use Rattle.format.specs.internal.Ways.{Left}
 use Rattle.format.proofs.Ways.{left-all, left-none, left-as, left-on, left-off}
-use Rattle.grammar.specs.segment.Parts.{runs}
+use Rattle.grammar.specs.internal.segment.Parts.{runs}
 use Rattle.grammar.proofs.segment.Parts.{runs-more, runs-none, kind-wide}
-use Rattle.packet_fields.specs.Judging.{judge}
+use Rattle.packet_fields.specs.internal.Judging.{judge}
 use borrow.Author.Needs.{needs}
 use Rattle.packet_segment.proofs.head.run.Statement.{statement}
 use Rattle.packet_segment.proofs.head.run.Tie as tie

@@ -4,7 +4,7 @@ use native.Mathlib.Nat.{lt-of-lt-of-le}
 use lib.ListN.{length}
 use lib.Pow.{pow-mono}
 use Rattle.packet_write_segment.proofs.elements.Writing.{at-small}
-use Rattle.packet_write_journey.specs.row.Pieces as pieces
+use Rattle.packet_write_journey.specs.internal.row.Pieces as pieces
 use Rattle.packet_write_journey.proofs.row.Pieces.{Gathers, gathers-start, gathers-there, gathers-narrow, joined-small, gathers-more, gathered-small, gathers-wrote}
 use native.Mathlib.Omega.{arith}
 use Rattle.packet_write_journey.proofs.row.piece.Statement.{statement}

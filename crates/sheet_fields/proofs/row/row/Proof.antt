@@ -2,10 +2,10 @@
 use Prim.Native.Nat.{_-_, _≤_}
 use denote.Ref.{now}
 use lib.ListN.{length, drop}
-use Rattle.grammar.specs.rows.Rows as rows
-use Rattle.format.specs.Ways.{Left}
+use Rattle.grammar.specs.internal.rows.Rows as rows
+use Rattle.format.specs.internal.Ways.{Left}
 use Rattle.format.proofs.Ways.{left-all}
-use Rattle.sheet_fields.specs.Judging.{judge}
+use Rattle.sheet_fields.specs.internal.Judging.{judge}
 use borrow.Author.Needs.{needs}
 use native.Mathlib.Omega.{arith}
 use Rattle.sheet_fields.proofs.row.Rows.{row-on, row-off, row-end}

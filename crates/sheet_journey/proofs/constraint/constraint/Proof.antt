@@ -1,6 +1,6 @@
 -- `sheet_constraints::constraint` meets its contract.
 use Rattle.format.proofs.Ways.{over-on, over-off, value-on, value-off}
-use Rattle.grammar.specs.journey.Parts.{afterType, afterRange}
+use Rattle.grammar.specs.internal.journey.Parts.{afterType, afterRange}
 use borrow.Author.Needs.{needs}
 use Rattle.sheet_journey.proofs.constraint.constraint.Statement.{statement}
 use Rattle.sheet_journey.proofs.constraint.constraint.Tie as tie

@@ -1,7 +1,7 @@
 -- `sheet_points::point` meets its contract.
 use Rattle.format.proofs.Ways.{over-on, over-off, value-on, value-off}
-use Rattle.grammar.specs.rows.Rows.{row}
-use Rattle.grammar.specs.journey.Parts.{stoppingWidths, stoppingMost}
+use Rattle.grammar.specs.internal.rows.Rows.{row}
+use Rattle.grammar.specs.internal.journey.Parts.{stoppingWidths, stoppingMost}
 use borrow.Author.Needs.{needs}
 use Rattle.sheet_journey.proofs.point.point.Statement.{statement}
 use Rattle.sheet_journey.proofs.point.point.Tie as tie

@@ -1,8 +1,8 @@
 -- `sheet_points::stopping_row` meets its contract.
 use lib.ListN.{drop}
 use Rattle.format.proofs.Ways.{over-on, over-off}
-use Rattle.grammar.specs.rows.Rows.{row}
-use Rattle.grammar.specs.journey.Parts.{stoppingWidths, stoppingMost}
+use Rattle.grammar.specs.internal.rows.Rows.{row}
+use Rattle.grammar.specs.internal.journey.Parts.{stoppingWidths, stoppingMost}
 use borrow.Author.Needs.{needs}
 use Rattle.sheet_journey.proofs.point.stopping_row.Statement.{statement}
 use Rattle.sheet_journey.proofs.point.stopping_row.Tie as tie

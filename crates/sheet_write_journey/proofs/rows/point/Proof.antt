@@ -4,7 +4,7 @@ use mathlib.Core.List.{[], _∷_}
 use Prim.Native.Nat.{_+_}
 use lib.Dec.{lit<, lit≤}
 use Rattle.sheet_write_journey.proofs.row.Rows.{row-first, row-after, row-both}
-use Rattle.sheet_write_journey.specs.rows.Widths.{choiceWidths}
+use Rattle.sheet_write_journey.specs.internal.rows.Widths.{choiceWidths}
 use native.Mathlib.Omega.{arith}
 use borrow.Author.Needs.{needs}
 use Rattle.sheet_write_journey.proofs.rows.point.Statement.{statement}

@@ -5,9 +5,9 @@ use Prim.Native.Nat.{_+_, _*_, _-_}
 use native.Mathlib.Omega.{arith}
 use borrow.Author.Needs.{needs}
 use Rattle.grammar.specs.segment.Segment.{entries}
-use Rattle.grammar.specs.segment.Parts.{entry}
+use Rattle.grammar.specs.internal.segment.Parts.{entry}
 use Rattle.grammar.proofs.segment.Parts.{entries-more, entries-none}
-use Rattle.sheet_write_segment.specs.elements.Writing.{filled}
+use Rattle.sheet_write_segment.specs.internal.elements.Writing.{filled}
 use Rattle.sheet_write_segment.proofs.elements.Writing.{Along, along-all, along-as, along-next, along-on, along-none}
 use Rattle.sheet_write_segment.proofs.elements.specific.Statement.{statement}
 use Rattle.sheet_write_segment.proofs.elements.specific.Tie as tie

@@ -1,5 +1,5 @@
 -- `lines::after_element` meets its contract.
-use Rattle.text.specs.sheet.Numbers.{numbersIn}
+use Rattle.text.specs.internal.sheet.Numbers.{numbersIn}
 use Rattle.text.proofs.lines.Laying.{value-at, after-here}
 use lib.ListN.{drop}
 use denote.Ref.{now}

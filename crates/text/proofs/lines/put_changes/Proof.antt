@@ -1,6 +1,6 @@
 -- `lines::put_changes` meets its contract.
 use Rattle.speed.specs.Speed.{changesFrom}
-use Rattle.text.specs.sheet.Numbers.{numbersIn}
+use Rattle.text.specs.internal.sheet.Numbers.{numbersIn}
 use Rattle.text.specs.words.Words.{Laid}
 use Rattle.text.specs.lines.Lines.{elementLines}
 use Rattle.text.proofs.lines.Laying.{Changing, changing-on, changing-end}

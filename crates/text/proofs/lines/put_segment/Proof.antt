@@ -1,5 +1,5 @@
 -- `lines::put_segment` meets its contract.
-use Rattle.text.specs.sheet.Numbers.{numbersIn}
+use Rattle.text.specs.internal.sheet.Numbers.{numbersIn}
 use Rattle.text.proofs.words.Putting.{laid-long}
 use Rattle.text.proofs.lines.Laying.{names-short, segment-laid}
 use Rattle.text.proofs.words.Signs.{same}

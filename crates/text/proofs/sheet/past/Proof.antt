@@ -1,5 +1,5 @@
 -- `sheets::past` meets its contract.
-use Rattle.text.specs.sheet.Numbers.{numbersIn}
+use Rattle.text.specs.internal.sheet.Numbers.{numbersIn}
 use Rattle.text.proofs.sheet.Reading.{groups-inside, past-more, past-end}
 use Rattle.bits.proofs.Padding.{bytes-of}
 use lib.ListN.{length, drop}

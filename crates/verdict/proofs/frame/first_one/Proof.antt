@@ -4,7 +4,7 @@ use Prim.Native.Nat.{_+_, _*_, _-_}
 use lib.Count.{leadingZeros, leading-le}
 use lib.ListN.{length, drop}
 use Rattle.bits.specs.Bits.{bitsOfBytes}
-use Rattle.verdict.specs.frame.Framed.{oneOrEnd}
+use Rattle.verdict.specs.internal.frame.Framed.{oneOrEnd}
 use Rattle.verdict.proofs.frame.Framing.{leading-place}
 use denote.Ref.{now}
 use native.Mathlib.Omega.{arith}

@@ -1,0 +1,2 @@
+-- What the code of write needs and no promise names.
+pub mod Filling

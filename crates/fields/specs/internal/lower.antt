@@ -1,0 +1,2 @@
+-- What the code of lower needs and no promise names.
+pub mod Lowered

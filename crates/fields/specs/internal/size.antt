@@ -1,0 +1,2 @@
+-- What the code of size needs and no promise names.
+pub mod Counts

@@ -1,0 +1,12 @@
+-- The tree after a value, and after some values on which nothing depends. What the code below a promise is held to; no promise names it.
+use Prim.Native.Nat.{ℕ, zero, suc}
+use Rattle.format.specs.Format.{Format, end, field}
+
+abbrev pub after : Format → ℕ → Format
+after end v = end
+after (field k rest) v = rest v
+
+-- after n fields on whose values nothing depends
+abbrev pub skip : ℕ → Format → Format
+skip zero f = f
+skip (suc n) f = skip n (after f 0)

@@ -1,0 +1,2 @@
+-- What the code of journey needs and no promise names.
+pub mod Parts

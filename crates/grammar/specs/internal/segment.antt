@@ -1,0 +1,2 @@
+-- What the code of segment needs and no promise names.
+pub mod Parts

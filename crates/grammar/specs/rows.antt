@@ -1,2 +1,0 @@
--- The definitions of the module rows.
-pub mod Rows

@@ -1,0 +1,2 @@
+-- What the code of row needs and no promise names.
+pub mod Values

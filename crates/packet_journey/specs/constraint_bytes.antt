@@ -1,2 +1,0 @@
--- The definitions of the module constraint_bytes.
-pub mod Bytes

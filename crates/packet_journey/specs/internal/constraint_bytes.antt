@@ -1,0 +1,2 @@
+-- What the code of constraint_bytes needs and no promise names.
+pub mod Bytes

@@ -1,0 +1,2 @@
+-- What the code of point_bytes needs and no promise names.
+pub mod Windows

@@ -1,0 +1,29 @@
+-- The fields of a timing point as they are read, a few at once. What the code below a promise is held to; no promise names it.
+use mathlib.Core.List.{List, [], _∷_}
+use Prim.Native.Nat.{ℕ}
+use Rattle.kinds.specs.journey.Kinds.{mostAt}
+
+-- the date and the seconds of the latest arrival
+abbrev pub latestWidths : List ℕ
+latestWidths = 15 ∷ 17 ∷ []
+
+abbrev pub latestMost : List ℕ
+latestMost = 32767 ∷ 86400 ∷ []
+
+-- T_Arrival_Window to Q_DayLightSaving, with the kind of the stop among them
+abbrev pub marksWidths : List ℕ
+marksWidths = 10 ∷ 2 ∷ 2 ∷ 2 ∷ 1 ∷ []
+
+abbrev pub marksMost : List ℕ
+marksMost = 1023 ∷ 2 ∷ 2 ∷ 1 ∷ 1 ∷ []
+
+-- Q_Opening_Door_Side to the date of the departure, and its seconds to Q_Automatic_Closing
+abbrev pub doorsWidths : List ℕ
+doorsWidths = 2 ∷ 1 ∷ 1 ∷ 1 ∷ 15 ∷ []
+
+abbrev pub leavingWidths : List ℕ
+leavingWidths = 17 ∷ 10 ∷ 1 ∷ []
+
+-- "the last eight fields (48 bits, from the door side on)", by the kind of the stop
+abbrev pub eightMost : ℕ → List ℕ
+eightMost stop = mostAt stop 3 ∷ mostAt stop 1 ∷ mostAt stop 1 ∷ mostAt stop 1 ∷ mostAt stop 32767 ∷ mostAt stop 86399 ∷ mostAt stop 1023 ∷ mostAt stop 1 ∷ []

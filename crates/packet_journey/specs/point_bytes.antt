@@ -1,2 +1,0 @@
--- The definitions of the module point_bytes.
-pub mod Windows

@@ -1,2 +1,0 @@
--- The definitions of the module head.
-pub mod Head

@@ -1,0 +1,2 @@
+-- What the code of element needs and no promise names.
+pub mod Profile

@@ -1,0 +1,3 @@
+-- What the code of row needs and no promise names.
+pub mod Alone
+pub mod Pieces

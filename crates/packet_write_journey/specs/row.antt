@@ -1,3 +1,0 @@
--- The definitions of the module row.
-pub mod Alone
-pub mod Pieces

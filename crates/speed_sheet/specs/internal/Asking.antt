@@ -1,0 +1,55 @@
+-- The numbers of an accepted sheet, at places. What the code below a promise is held to.
+use mathlib.Core.Path.{_≡_}
+use mathlib.Core.List.{List}
+use Prim.Native.Nat.{ℕ, _+_, _/_, _%_, _≤_}
+use lib.ListN.{length, drop, getD}
+use Rattle.bits.specs.Bits.{Bytes}
+use Rattle.numbers.specs.Numbers.{numberIn}
+use Rattle.numbers.specs.internal.Groups.{counted}
+use Rattle.kinds.specs.declared.Item.{Item}
+use Rattle.format.specs.Format.{Format, end, accepted, read, valuesOf, sheetNumbers}
+use Rattle.format.specs.Media.{sheet}
+use Rattle.grammar.specs.segment.Segment.{wireChanges}
+use Rattle.grammar.specs.internal.segment.Parts.{threeLists}
+use Rattle.grammar.specs.segment.Judgement.{fromSheet}
+use Rattle.speed.specs.Speed.{segmentLength, profileOf}
+use Rattle.speed_element.specs.internal.Reading.{Past}
+
+-- the sheet is accepted
+abbrev pub AcceptedSheet : List ℕ → Type 0
+AcceptedSheet s = fromSheet wireChanges s ≡ accepted (valuesOf (fromSheet wireChanges s))
+
+-- its numbers
+abbrev pub numbersOfSheet : List ℕ → List ℕ
+numbersOfSheet s = sheetNumbers (valuesOf (fromSheet wireChanges s))
+
+-- the number at the byte at, with its groups counted
+abbrev pub countedAt : List ℕ → ℕ → ℕ
+countedAt s at = counted (numberIn (drop at s))
+
+-- the byte after the number at the byte at
+abbrev pub numberEnd : List ℕ → ℕ → ℕ
+numberEnd s at = at + countedAt s at / 4294967296
+
+-- a number at the byte at: the byte after it, and its value
+pub record NumberAt (s : List ℕ) (at to a : ℕ) : Type 0 where
+  pub next : to ≡ numberEnd s at
+  pub value : a ≡ countedAt s at % 4294967296
+
+-- the byte after a number of at most two groups, and after an entry: its Q_DIFF has one group
+abbrev pub shortEnd : List ℕ → ℕ → ℕ
+shortEnd s at = at + 1 + getD s at 0 / 128
+
+abbrev pub entryEnd : List ℕ → ℕ → ℕ
+entryEnd s at = shortEnd s (shortEnd s (at + 1))
+
+-- the tree f stands at the byte at, and is accepted with the values l
+pub record Reads (s : List ℕ) (f : Format) (at : ℕ) (l : List Item) : Type 0 where
+  pub before : at ≤ length s
+  pub ok : Bytes s
+  pub reads : read sheet f at (drop at s) ≡ accepted l
+
+-- the head of a sheet was read: its L_SP, and where the speed profile starts
+pub record HeadRead (s : List ℕ) (lsp at : ℕ) : Type 0 where
+  pub length-is : lsp ≡ segmentLength (numbersOfSheet s)
+  pub past : Past (Reads s) (threeLists lsp end) at (profileOf (numbersOfSheet s))

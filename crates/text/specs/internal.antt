@@ -1,0 +1,4 @@
+-- What the code needs and no promise names.
+pub mod Writers
+pub mod lines
+pub mod sheet

@@ -1,0 +1,2 @@
+-- What the code of sheet needs and no promise names.
+pub mod Numbers

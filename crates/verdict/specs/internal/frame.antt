@@ -1,0 +1,2 @@
+-- What the code of frame needs and no promise names.
+pub mod Framed
