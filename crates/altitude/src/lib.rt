@@ -3,6 +3,7 @@ ghost use mathlib.Core.Path.{_≡_};
 ghost use Prim.Native.Nat.{_<_, _^_};
 ghost use Rattle.altitude.specs.Altitude.{centimetres, altitudeOf};
 use grammar::link::Tree;
+use grammar::segment::layout::ALTITUDE;
 use kinds::body;
 use verdict::PacketVerdict;
 
@@ -16,15 +17,6 @@ pub struct Altitude {
 
 // What is added to an altitude that is sent.
 const ADDED: i32 = 100000;
-
-// The bit of M_SP_ALTITUDE, after the header and the seven fields before it.
-const FIELD: usize = 8 * verdict::frame::HEADER
-    + (body::NidC::WIDTH
-        + body::NidSp::WIDTH
-        + 2 * body::MSpVersion::WIDTH
-        + body::LSp::WIDTH
-        + body::DEoAOffset::WIDTH
-        + body::QUtcOffset::WIDTH) as usize;
 
 // The altitude that is sent as v.
 fn signed(v: u32) -> i32
@@ -45,7 +37,7 @@ pub fn altitude_of_packet(packet: &[u8]) -> Altitude
             altitude: 0,
         },
         PacketVerdict::SheetBytes(_) => {
-            let v = bits::read_field(packet, FIELD, body::MSpAltitude::WIDTH);
+            let v = bits::read_field(packet, ALTITUDE, body::MSpAltitude::WIDTH);
             let altitude = signed(v);
             Altitude {
                 refusal: 0,

@@ -15,14 +15,13 @@ use convert::Converted;
 use convert::done;
 use convert::refused;
 use grammar::link::Tree;
+use grammar::segment::layout;
 use kinds::header;
 use kinds::refusals::LONG_BODY;
 use kinds::refusals::SHORT_ROOM;
 use numbers::Number;
 use packet_write_segment::elements::PacketSpot;
 use verdict::SheetVerdict;
-use verdict::frame::FIRST_FIELD;
-use verdict::frame::HEADER;
 
 // The bits of a packet before its body, without L_PACKET_ATO.
 const BEFORE_BODY: usize = 104;
@@ -36,7 +35,7 @@ fn write_header(tree: Tree, nid: u32, sheet: &[u8], header: &mut [u8], bits: u32
     let wait = bits::write::put(header, 8, number, header::LPacketAto::WIDTH, bits);
     let first = PacketSpot {
         from: numbers::write::groups(nid) as usize,
-        at: FIRST_FIELD,
+        at: layout::OPERATIONAL,
         wait,
     };
     let last = packet_write_segment::header(sheet, header, first);
@@ -99,7 +98,7 @@ fn tree_to_packet(tree: Tree, sheet: &[u8], room: &mut [u8]) -> Converted
         SheetVerdict::PacketBits(n) => {
             let bits = n - BEFORE_BODY;
             let bytes = (bits + 7) / 8;
-            let length = HEADER + bytes;
+            let length = layout::HEADER_BYTES + bytes;
             if room.len() < length {
                 return refused(SHORT_ROOM, 0);
             }

@@ -1,4 +1,5 @@
 // The tree of a segment and the frame of a packet are definitions; the code has the names of the parts that repeat.
+pub mod layout;
 
 // The three parts that have changes: the speed profile, the rated voltage, the current limitation.
 pub enum Part {

@@ -4,6 +4,9 @@ ghost use Rattle.format.specs.Format.{times};
 ghost use Rattle.grammar.specs.journey.Journey as journey;
 ghost use Rattle.grammar.specs.journey.Journey.{temporaryConstraint};
 ghost use Rattle.packet_fields.specs.internal.Judging.{Standing, Over};
+use grammar::journey::layout::CONSTRAINT;
+use grammar::journey::layout::END;
+use grammar::journey::layout::FRONT;
 use kinds::Rule;
 use kinds::journey::DTcEndLocation;
 use kinds::journey::DTcStartLocation;
@@ -81,13 +84,6 @@ fn cut_constraint(s: &[u8], stop: usize, at: usize, n: usize) -> PacketStep
         },
     }
 }
-
-// Where the end and Q_FRONT start in a constraint, and its bits.
-const END: usize = 28;
-
-const FRONT: usize = 52;
-
-const CONSTRAINT: usize = 73;
 
 // The same where its bits are all there: they are read at once, and a refusal is told field by field.
 fn whole_constraint(s: &[u8], stop: usize, at: usize, n: usize) -> PacketStep

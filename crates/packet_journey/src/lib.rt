@@ -11,6 +11,9 @@ ghost use Rattle.grammar.specs.internal.journey.Parts.{constraintList, journeyB
 ghost use Rattle.packet_fields.specs.internal.Judging.{Standing, Over, Gave};
 ghost use Rattle.packet_journey.specs.internal.Head.{segmentHead};
 use grammar::journey::CONSTRAINTS;
+use grammar::journey::layout::IDENTITY;
+use grammar::journey::layout::SEGMENT_HEAD;
+use grammar::journey::layout::VERSIONS;
 use kinds::body;
 use kinds::journey::NIterSp;
 use kinds::journey::QJpStatus;
@@ -30,13 +33,6 @@ fn cut_head(s: &[u8], stop: usize, at: usize, n: usize) -> PacketValue
     }
 }
 
-// Where NID_SP and the two versions start in a segment, and the bits up to its timing points.
-const IDENTITY: usize = 10;
-
-const VERSIONS: usize = 42;
-
-const HEAD: usize = 64;
-
 // The same where their bits are all there: none can be refused.
 fn whole_head(s: &[u8], stop: usize, at: usize, n: usize) -> PacketValue
     requires { ⌜ Standing (now s) stop at n × (64 ≤ stop - at) ⌝ }
@@ -48,7 +44,7 @@ fn whole_head(s: &[u8], stop: usize, at: usize, n: usize) -> PacketValue
     let major = fields::size::short(t / 16384);
     let minor = fields::size::short(t / 64 % 256);
     let bytes = country + identity + major + minor + 2;
-    PacketValue::Is(t % 32, at + HEAD, n + bytes as usize)
+    PacketValue::Is(t % 32, at + SEGMENT_HEAD, n + bytes as usize)
 }
 
 // NID_C to Q_SP_DIR, and the count of the timing points.
@@ -56,7 +52,7 @@ fn segment_head(s: &[u8], stop: usize, at: usize, n: usize) -> PacketValue
     requires { ⌜ Standing (now s) stop at n ⌝ }
     ensures { λ r. ⌜ Gave segmentHead (now (s .entry)) stop at n r ⌝ }
 {
-    if stop - at < HEAD {
+    if stop - at < SEGMENT_HEAD {
         return cut_head(s, stop, at, n);
     }
     whole_head(s, stop, at, n)

@@ -5,6 +5,11 @@ ghost use Rattle.grammar.specs.internal.rows.Rows.{row};
 ghost use Rattle.grammar.specs.journey.Journey.{timingPoint};
 ghost use Rattle.grammar.specs.internal.journey.Parts.{arrivalWidths, arrivalMost, stoppingWidths, stoppingMost};
 ghost use Rattle.packet_fields.specs.internal.Judging.{Standing, Over};
+use grammar::journey::layout::DOORS;
+use grammar::journey::layout::LATEST;
+use grammar::journey::layout::LEAVING;
+use grammar::journey::layout::MARKS;
+use grammar::journey::layout::POINT;
 use kinds::journey::NidTp;
 use kinds::journey::QStopSkipPasses;
 use packet_fields::PacketStep;
@@ -45,17 +50,6 @@ fn cut_point(s: &[u8], stop: usize, at: usize, n: usize) -> PacketStep
         }
     }
 }
-
-// Where the latest arrival, T_Arrival_Window, the door side and the departure's seconds start in a point, and its bits.
-const LATEST: usize = 32;
-
-const MARKS: usize = 64;
-
-const DOORS: usize = 81;
-
-const LEAVING: usize = 101;
-
-const POINT: usize = 129;
 
 // The same where its bits are all there: they are read at once, and a refusal is told field by field.
 fn whole_point(s: &[u8], stop: usize, at: usize, n: usize) -> PacketStep

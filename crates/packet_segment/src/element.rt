@@ -7,6 +7,11 @@ ghost use Rattle.grammar.specs.internal.segment.Parts.{startOf};
 ghost use Rattle.packet_fields.specs.internal.Judging.{Standing, Over, Gave};
 ghost use Rattle.packet_segment.specs.internal.element.Profile.{profileHead, nameBytes, pastEntry};
 use grammar::segment::Part;
+use grammar::segment::layout::CLASS;
+use grammar::segment::layout::ELEMENT;
+use grammar::segment::layout::ENTRY;
+use grammar::segment::layout::V_DIFF;
+use grammar::segment::layout::WIRE;
 use kinds::body;
 use kinds::refusals::FIELD_VALUE;
 use packet_fields::PacketStep;
@@ -40,14 +45,7 @@ fn cut_entry(s: &[u8], stop: usize, at: usize, n: usize) -> PacketStep
     }
 }
 
-// The bits of an entry: Q_DIFF 2, class 4, V_DIFF 7.
-const ENTRY: usize = 13;
-
-// Where the class and V_DIFF stand in an entry, and a number above the bytes of one.
-const CLASS: usize = 2;
-
-const SPEED: usize = 6;
-
+// A number above the bytes of an entry in the sheet.
 const FAULT: usize = 16;
 
 // The names that an entry may have, Q_DIFF 2 and class 4, a bit for each; and those whose class has two bytes.
@@ -81,7 +79,7 @@ fn whole_entry(s: &[u8], stop: usize, at: usize, n: usize) -> usize
     }
     let speed = fields::size::speed(t % 128);
     if speed == 0 {
-        return FAULT + SPEED;
+        return FAULT + V_DIFF;
     }
     name as usize + speed as usize
 }
@@ -162,23 +160,20 @@ fn cut_profile(s: &[u8], stop: usize, at: usize, n: usize) -> PacketValue
     }
 }
 
-// The bits of V_STATIC 7, Q_FRONT 1 and N_ITER 5.
-const HEAD: usize = 13;
-
 // The same: where their bits are all there, they are read at once. V_STATIC alone can be refused.
 fn profile_head(s: &[u8], stop: usize, at: usize, n: usize) -> PacketValue
     requires { ⌜ Standing (now s) stop at n ⌝ }
     ensures { λ r. ⌜ Gave profileHead (now (s .entry)) stop at n r ⌝ }
 {
-    if stop - at < HEAD {
+    if stop - at < ELEMENT {
         return cut_profile(s, stop, at, n);
     }
-    let t = bits::read_window(s, at, HEAD as u32);
+    let t = bits::read_window(s, at, ELEMENT as u32);
     let speed = fields::size::speed(t / 64);
     if speed == 0 {
         return PacketValue::Refused(FIELD_VALUE, at as u32);
     }
-    PacketValue::Is(t % 32, at + HEAD, n + speed as usize + 2)
+    PacketValue::Is(t % 32, at + ELEMENT, n + speed as usize + 2)
 }
 
 // V_STATIC, Q_FRONT, and the count of the entries with the entries.
@@ -207,9 +202,7 @@ fn cut_wire(s: &[u8], stop: usize, at: usize, n: usize) -> PacketStep
     }
 }
 
-// The bits of M_VOLTAGE 4 and NID_CTRACTION 10.
-const WIRE: usize = 14;
-
+// The bits of M_VOLTAGE.
 const VOLTAGE: usize = body::MVoltage::WIDTH as usize;
 
 // The same: where their bits are all there, they are read at once.

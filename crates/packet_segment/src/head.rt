@@ -6,6 +6,7 @@ ghost use Rattle.kinds.specs.internal.Rules.{meaning};
 ghost use Rattle.grammar.specs.internal.segment.Parts.{kindAt, runs, headerPart};
 ghost use Rattle.packet_fields.specs.internal.Judging.{Standing, Over, Gave};
 ghost use Rattle.packet_segment.specs.internal.head.Head.{headPart, PartBytes, Passed};
+use grammar::segment::layout;
 use kinds::Rule;
 use kinds::body;
 use kinds::header;
@@ -64,7 +65,7 @@ fn cut_head(s: &[u8], stop: usize) -> PacketValue
     requires { ⌜ Standing (now s) stop 24 1 ⌝ }
     ensures { λ r. ⌜ Gave headPart (now (s .entry)) stop 24 1 r ⌝ }
 {
-    match run(s, stop, verdict::frame::FIRST_FIELD, 1, 0, 9) {
+    match run(s, stop, layout::OPERATIONAL, 1, 0, 9) {
         PacketStep::Refused(r, place) => PacketValue::Refused(r, place),
         PacketStep::On(at2, n2) => match packet_fields::field(s, stop, at2, n2, body::LSp::rule()) {
             PacketValue::Refused(r, place) => PacketValue::Refused(r, place),
@@ -78,36 +79,8 @@ fn cut_head(s: &[u8], stop: usize) -> PacketValue
 
 // ---- where the bits are all there: each field at its place, counted from the packet's start
 
-const OPERATIONAL: usize = verdict::frame::FIRST_FIELD;
-
-const ENGINE: usize = OPERATIONAL + header::NidOperational::WIDTH as usize;
-
-const DATE: usize = ENGINE + header::NidEngine::WIDTH as usize;
-
-const SECONDS: usize = DATE + header::TTimestampDate::WIDTH as usize;
-
-const COUNTER: usize = SECONDS + header::TTimestampSeconds::WIDTH as usize;
-
-const COUNTRY: usize = COUNTER + header::NPacketCounter::WIDTH as usize;
-
-const IDENTITY: usize = COUNTRY + body::NidC::WIDTH as usize;
-
-const MAJOR: usize = IDENTITY + body::NidSp::WIDTH as usize;
-
-const MINOR: usize = MAJOR + body::MSpVersion::WIDTH as usize;
-
-const LENGTH: usize = MINOR + body::MSpVersion::WIDTH as usize;
-
-const OFFSET: usize = LENGTH + body::LSp::WIDTH as usize;
-
-const CLOCK: usize = OFFSET + body::DEoAOffset::WIDTH as usize;
-
-const ALTITUDE: usize = CLOCK + body::QUtcOffset::WIDTH as usize;
-
-const END: usize = ALTITUDE + body::MSpAltitude::WIDTH as usize;
-
 // The bytes of a packet in which eight bytes begin with each field's first: a whole packet has no fewer.
-const LONG: usize = ALTITUDE / 8 + 9;
+const LONG: usize = layout::ALTITUDE / 8 + 9;
 
 // The bytes of the header, 0 where NID_OPERATIONAL or the seconds are refused.
 fn header_bytes(s: &[u8]) -> usize
@@ -116,7 +89,7 @@ fn header_bytes(s: &[u8]) -> usize
 {
     let operational = fields::size::operational(bits::read_window(
         s,
-        OPERATIONAL,
+        layout::OPERATIONAL,
         header::NidOperational::WIDTH,
     ));
     if operational == 0 {
@@ -125,14 +98,26 @@ fn header_bytes(s: &[u8]) -> usize
     let seconds = fields::size::within(
         0,
         header::TTimestampSeconds::LARGEST,
-        bits::read_window(s, SECONDS, header::TTimestampSeconds::WIDTH),
+        bits::read_window(s, layout::SECONDS, header::TTimestampSeconds::WIDTH),
     );
     if seconds == 0 {
         return 0;
     }
-    let engine = numbers::write::groups(bits::read_window(s, ENGINE, header::NidEngine::WIDTH));
-    let date = numbers::write::groups(bits::read_window(s, DATE, header::TTimestampDate::WIDTH));
-    let counter = fields::size::short(bits::read_window(s, COUNTER, header::NPacketCounter::WIDTH));
+    let engine = numbers::write::groups(bits::read_window(
+        s,
+        layout::ENGINE,
+        header::NidEngine::WIDTH,
+    ));
+    let date = numbers::write::groups(bits::read_window(
+        s,
+        layout::DATE,
+        header::TTimestampDate::WIDTH,
+    ));
+    let counter = fields::size::short(bits::read_window(
+        s,
+        layout::COUNTER,
+        header::NPacketCounter::WIDTH,
+    ));
     operational as usize + engine as usize + date as usize + seconds as usize + counter as usize
 }
 
@@ -141,10 +126,14 @@ fn identity_bytes(s: &[u8]) -> usize
     requires { ⌜ 38 ≤ length (now s) ⌝ }
     ensures { λ r. ⌜ Passed (runs 5 4) (now (s .entry)) 120 178 r ⌝ }
 {
-    let country = fields::size::short(bits::read_window(s, COUNTRY, body::NidC::WIDTH));
-    let identity = numbers::write::groups(bits::read_window(s, IDENTITY, body::NidSp::WIDTH));
-    let major = fields::size::short(bits::read_window(s, MAJOR, body::MSpVersion::WIDTH));
-    let minor = fields::size::short(bits::read_window(s, MINOR, body::MSpVersion::WIDTH));
+    let country = fields::size::short(bits::read_window(s, layout::COUNTRY, body::NidC::WIDTH));
+    let identity = numbers::write::groups(bits::read_window(
+        s,
+        layout::IDENTITY,
+        body::NidSp::WIDTH,
+    ));
+    let major = fields::size::short(bits::read_window(s, layout::MAJOR, body::MSpVersion::WIDTH));
+    let minor = fields::size::short(bits::read_window(s, layout::MINOR, body::MSpVersion::WIDTH));
     country as usize + identity as usize + major as usize + minor as usize
 }
 
@@ -155,13 +144,21 @@ fn offset_bytes(s: &[u8]) -> usize
 {
     let clock = fields::size::one(
         body::QUtcOffset::LARGEST,
-        bits::read_window(s, CLOCK, body::QUtcOffset::WIDTH),
+        bits::read_window(s, layout::CLOCK, body::QUtcOffset::WIDTH),
     );
     if clock == 0 {
         return 0;
     }
-    let offset = numbers::write::groups(bits::read_window(s, OFFSET, body::DEoAOffset::WIDTH));
-    let altitude = numbers::write::groups(bits::read_window(s, ALTITUDE, body::MSpAltitude::WIDTH));
+    let offset = numbers::write::groups(bits::read_window(
+        s,
+        layout::OFFSET,
+        body::DEoAOffset::WIDTH,
+    ));
+    let altitude = numbers::write::groups(bits::read_window(
+        s,
+        layout::ALTITUDE,
+        body::MSpAltitude::WIDTH,
+    ));
     offset as usize + clock as usize + altitude as usize
 }
 
@@ -174,7 +171,7 @@ fn whole_head(s: &[u8], stop: usize) -> PacketValue
     if header == 0 {
         return cut_head(s, stop);
     }
-    let lsp = bits::read_window(s, LENGTH, body::LSp::WIDTH);
+    let lsp = bits::read_window(s, layout::LENGTH, body::LSp::WIDTH);
     if lsp == 0 {
         return cut_head(s, stop);
     }
@@ -184,7 +181,11 @@ fn whole_head(s: &[u8], stop: usize) -> PacketValue
     }
     let identity = identity_bytes(s);
     let length = numbers::write::groups(lsp);
-    PacketValue::Is(lsp, END, 1 + header + identity + length as usize + offsets)
+    PacketValue::Is(
+        lsp,
+        layout::PROFILE,
+        1 + header + identity + length as usize + offsets,
+    )
 }
 
 // The thirteen fields, with the value of L_SP.
@@ -195,7 +196,7 @@ pub fn head(s: &[u8], stop: usize) -> PacketValue
     if s.len() < LONG {
         return cut_head(s, stop);
     }
-    if stop < END {
+    if stop < layout::PROFILE {
         return cut_head(s, stop);
     }
     whole_head(s, stop)
@@ -206,5 +207,5 @@ pub fn header_fields(s: &[u8], stop: usize) -> PacketStep
     requires { ⌜ Standing (now s) stop 24 1 ⌝ }
     ensures { λ r. ⌜ Over headerPart (now (s .entry)) stop 24 1 r ⌝ }
 {
-    run(s, stop, verdict::frame::FIRST_FIELD, 1, 0, 5)
+    run(s, stop, layout::OPERATIONAL, 1, 0, 5)
 }

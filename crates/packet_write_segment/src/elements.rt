@@ -7,6 +7,7 @@ ghost use Rattle.grammar.specs.internal.segment.Parts.{startOf};
 ghost use Rattle.packet_write_segment.specs.internal.elements.Writing.{Ready, Wrote};
 use fields::tables;
 use grammar::segment::Part;
+use grammar::segment::layout;
 use kinds::body;
 
 // A place in the sheet, the packet's bit that is next, and the bits that wait for a whole byte.
@@ -26,10 +27,10 @@ fn entry(sheet: &[u8], figures: &[u32; 11], room: &mut [u8], p: PacketSpot) -> P
     let v = numbers::accepted::number(sheet, a.next);
     let class = fields::lower::class_place(figures, q.value, a.value);
     let bits = q.value * 2048 + class * 128 + fields::lower::speed_steps(v.value);
-    let wait = bits::write::put(room, p.at, p.wait, 13, bits);
+    let wait = bits::write::put(room, p.at, p.wait, layout::ENTRY_WIDTH, bits);
     PacketSpot {
         from: v.next,
-        at: p.at + 13,
+        at: p.at + layout::ENTRY,
         wait,
     }
 }
@@ -58,10 +59,10 @@ fn profile(sheet: &[u8], room: &mut [u8], p: PacketSpot) -> PacketSpot
     let q = numbers::accepted::single(sheet, v.next);
     let n = numbers::accepted::single(sheet, q.next);
     let bits = fields::lower::speed_steps(v.value) * 64 + q.value * 32 + n.value;
-    let wait = bits::write::put(room, p.at, p.wait, 13, bits);
+    let wait = bits::write::put(room, p.at, p.wait, layout::ELEMENT_WIDTH, bits);
     let first = PacketSpot {
         from: n.next,
-        at: p.at + 13,
+        at: p.at + layout::ELEMENT,
         wait,
     };
     entries(sheet, room, first, n.value)
@@ -75,10 +76,10 @@ fn wire(sheet: &[u8], room: &mut [u8], p: PacketSpot) -> PacketSpot
     let u = numbers::accepted::number(sheet, p.from);
     let n = numbers::accepted::number(sheet, u.next);
     let bits = fields::lower::volts_place(u.value) * 1024 + n.value;
-    let wait = bits::write::put(room, p.at, p.wait, 14, bits);
+    let wait = bits::write::put(room, p.at, p.wait, layout::WIRE_WIDTH, bits);
     PacketSpot {
         from: n.next,
-        at: p.at + 14,
+        at: p.at + layout::WIRE,
         wait,
     }
 }

@@ -16,17 +16,11 @@ use crate::row::one;
 use crate::rows::head;
 use crate::rows::point;
 use crate::rows::start;
+use grammar::journey::layout::CONSTRAINT;
+use grammar::journey::layout::POINT;
+use grammar::journey::layout::SEGMENT_HEAD;
 use kinds::body::NIter;
 use sheet_write_segment::elements::SheetSpot;
-
-// "A timing point has 129 bits".
-const POINT: usize = 129;
-
-// The bits of a temporary constraint.
-const CONSTRAINT: usize = 73;
-
-// The bits of a segment before its timing points.
-const START: usize = 64;
 
 // The timing points of a segment.
 fn points(packet: &[u8], stop: usize, at: usize, count: u32, room: &mut [u8], n: usize) -> usize
@@ -74,8 +68,8 @@ fn segment(packet: &[u8], stop: usize, at: usize, room: &mut [u8], n: usize) -> 
 {
     let first = start(packet, at, room, n);
     let count = first.count;
-    let m = points(packet, stop, at + START, count, room, first.n);
-    let to = at + START + POINT * count as usize;
+    let m = points(packet, stop, at + SEGMENT_HEAD, count, room, first.n);
+    let to = at + SEGMENT_HEAD + POINT * count as usize;
     let v = bits::read_window(packet, to, NIter::WIDTH);
     let next = one(room, m, v);
     let last = constraints(packet, stop, to + 5, v, room, next);

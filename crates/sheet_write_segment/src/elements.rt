@@ -10,6 +10,7 @@ ghost use Rattle.grammar.specs.internal.segment.Parts.{startOf};
 ghost use Rattle.sheet_write_segment.specs.internal.elements.Writing.{filled, PartWritable, Wrote};
 use fields::tables;
 use grammar::segment::Part;
+use grammar::segment::layout::ENTRY;
 use kinds::body;
 
 // A place in the packet, and the byte of the room up to which it is written there.
@@ -17,9 +18,6 @@ pub struct SheetSpot {
     pub at: usize,
     pub n: usize,
 }
-
-// The bits of an entry, and of an element before its entries.
-const ENTRY: usize = 13;
 
 // The number in the sheet of a class: a figure where Q_DIFF is 0. There is no branch on Q_DIFF, which goes up and down from entry to entry.
 fn class_figure(figures: &[u32], q: u32, v: u32) -> u32

@@ -4,6 +4,7 @@ ghost use Prim.Native.Nat.{_+_, _<_};
 ghost use Rattle.format.specs.Format.{then};
 ghost use Rattle.grammar.specs.internal.segment.Parts.{kindAt, runs};
 ghost use Rattle.sheet_write_segment.specs.internal.elements.Writing.{filled, PartWritable, Wrote};
+use grammar::segment::layout;
 use kinds::body;
 use kinds::header;
 
@@ -35,13 +36,37 @@ pub fn header(packet: &[u8], stop: usize, room: &mut [u8], n: usize) -> usize
     requires { ⌜ PartWritable (runs 0 5) (now packet) stop 24 (filled (now room) n) ⌝ }
     ensures { λ r. ⌜ Wrote (runs 0 5) (now (packet .entry)) stop 24 (filled (now (room .entry)) n) 120 (filled (now (room .exit)) r) ⌝ }
 {
-    let n1 = copy(packet, stop, 24, 0, header::NidOperational::WIDTH, room, n);
-    let n2 = copy(packet, stop, 56, 1, header::NidEngine::WIDTH, room, n1);
-    let n3 = copy(packet, stop, 80, 2, header::TTimestampDate::WIDTH, room, n2);
+    let n1 = copy(
+        packet,
+        stop,
+        layout::OPERATIONAL,
+        0,
+        header::NidOperational::WIDTH,
+        room,
+        n,
+    );
+    let n2 = copy(
+        packet,
+        stop,
+        layout::ENGINE,
+        1,
+        header::NidEngine::WIDTH,
+        room,
+        n1,
+    );
+    let n3 = copy(
+        packet,
+        stop,
+        layout::DATE,
+        2,
+        header::TTimestampDate::WIDTH,
+        room,
+        n2,
+    );
     let n4 = copy(
         packet,
         stop,
-        95,
+        layout::SECONDS,
         3,
         header::TTimestampSeconds::WIDTH,
         room,
@@ -50,7 +75,7 @@ pub fn header(packet: &[u8], stop: usize, room: &mut [u8], n: usize) -> usize
     copy(
         packet,
         stop,
-        112,
+        layout::COUNTER,
         4,
         header::NPacketCounter::WIDTH,
         room,
@@ -63,10 +88,34 @@ pub fn identity(packet: &[u8], stop: usize, room: &mut [u8], n: usize) -> usize
     requires { ⌜ PartWritable (runs 5 4) (now packet) stop 120 (filled (now room) n) ⌝ }
     ensures { λ r. ⌜ Wrote (runs 5 4) (now (packet .entry)) stop 120 (filled (now (room .entry)) n) 178 (filled (now (room .exit)) r) ⌝ }
 {
-    let n1 = copy(packet, stop, 120, 5, body::NidC::WIDTH, room, n);
-    let n2 = copy(packet, stop, 130, 6, body::NidSp::WIDTH, room, n1);
-    let n3 = copy(packet, stop, 162, 7, body::MSpVersion::WIDTH, room, n2);
-    copy(packet, stop, 170, 8, body::MSpVersion::WIDTH, room, n3)
+    let n1 = copy(packet, stop, layout::COUNTRY, 5, body::NidC::WIDTH, room, n);
+    let n2 = copy(
+        packet,
+        stop,
+        layout::IDENTITY,
+        6,
+        body::NidSp::WIDTH,
+        room,
+        n1,
+    );
+    let n3 = copy(
+        packet,
+        stop,
+        layout::MAJOR,
+        7,
+        body::MSpVersion::WIDTH,
+        room,
+        n2,
+    );
+    copy(
+        packet,
+        stop,
+        layout::MINOR,
+        8,
+        body::MSpVersion::WIDTH,
+        room,
+        n3,
+    )
 }
 
 // The body's fields between L_SP and the speed profile.
@@ -74,7 +123,31 @@ pub fn offsets(packet: &[u8], stop: usize, room: &mut [u8], n: usize) -> usize
     requires { ⌜ PartWritable (runs 10 3) (now packet) stop 202 (filled (now room) n) ⌝ }
     ensures { λ r. ⌜ Wrote (runs 10 3) (now (packet .entry)) stop 202 (filled (now (room .entry)) n) 253 (filled (now (room .exit)) r) ⌝ }
 {
-    let n1 = copy(packet, stop, 202, 10, body::DEoAOffset::WIDTH, room, n);
-    let n2 = copy(packet, stop, 226, 11, body::QUtcOffset::WIDTH, room, n1);
-    copy(packet, stop, 233, 12, body::MSpAltitude::WIDTH, room, n2)
+    let n1 = copy(
+        packet,
+        stop,
+        layout::OFFSET,
+        10,
+        body::DEoAOffset::WIDTH,
+        room,
+        n,
+    );
+    let n2 = copy(
+        packet,
+        stop,
+        layout::CLOCK,
+        11,
+        body::QUtcOffset::WIDTH,
+        room,
+        n1,
+    );
+    copy(
+        packet,
+        stop,
+        layout::ALTITUDE,
+        12,
+        body::MSpAltitude::WIDTH,
+        room,
+        n2,
+    )
 }

@@ -17,6 +17,7 @@ use crate::elements::SheetSpot;
 use crate::elements::element;
 use grammar::segment::Part;
 use grammar::segment::WIRE_CHANGES;
+use grammar::segment::layout;
 use kinds::body;
 
 // The changes of a part: each a location that rises, and an element. The end of the segment is for the contract alone.
@@ -40,7 +41,7 @@ fn changes(
     while 0 < left {
         let x = bits::read_window(packet, to, body::DLocation::WIDTH);
         let m2 = numbers::write::put_number(room, m, x);
-        let spot = element(part, packet, stop, to + 24, room, m2);
+        let spot = element(part, packet, stop, to + layout::LOCATION, room, m2);
         to = spot.at;
         m = spot.n;
         last = x;
@@ -114,8 +115,8 @@ pub fn write_fields(packet: &[u8], stop: usize, room: &mut [u8], start: usize)
 {
     let n = head::header(packet, stop, room, start);
     let m = head::identity(packet, stop, room, n);
-    let lsp = bits::read_window(packet, 178, body::LSp::WIDTH);
+    let lsp = bits::read_window(packet, layout::LENGTH, body::LSp::WIDTH);
     let to = numbers::write::put_number(room, m, lsp);
     let first = head::offsets(packet, stop, room, to);
-    lists(packet, stop, 253, lsp, room, first);
+    lists(packet, stop, layout::PROFILE, lsp, room, first);
 }

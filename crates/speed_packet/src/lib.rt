@@ -11,22 +11,17 @@ ghost use Rattle.speed.specs.Speed.{segmentLength, speedIn};
 ghost use Rattle.speed_element.specs.internal.Reading.{Readable, EntryRead, Opens, ElementRead, Ended, NextRead, ChangesRead, ProfileRead};
 ghost use Rattle.speed_packet.specs.internal.Asking.{AcceptedPacket, numbersOfPacket, Reads};
 use fields::tables;
+use grammar::segment::layout::ELEMENT;
+use grammar::segment::layout::ENTRY;
+use grammar::segment::layout::LENGTH;
+use grammar::segment::layout::LOCATION;
+use grammar::segment::layout::PROFILE;
 use kinds::body;
 use speed::Train;
 use speed_element::ElementAt;
 use speed_element::Following;
 use speed_element::Lows;
 use speed_element::Open;
-
-// Where L_SP stands, and where the speed profile starts.
-const LENGTH: usize = 178;
-
-const PROFILE: usize = 253;
-
-// The bits of an entry, and of what an element begins with.
-const ENTRY: usize = 13;
-
-const ELEMENT: usize = 13;
 
 fn chosen(so: bool, a: u32, b: u32) -> u32
     ensures { λ r. ⌜ r ≡ cond so a b ⌝ }
@@ -111,7 +106,7 @@ fn next(s: &[u8], open: Open, at: usize, left: u64, lsp: u32) -> Following
         };
     }
     let start = bits::read_window(s, at, body::DLocation::WIDTH);
-    let e = element(s, at + 24, start);
+    let e = element(s, at + LOCATION, start);
     let open = e.open;
     Following {
         end: start,

@@ -4,6 +4,7 @@ ghost use Prim.Native.Nat.{_+_, _*_, _^_, _≤_, _<_};
 ghost use lib.ListN.{length, drop};
 ghost use Rattle.bits.specs.Bits.{bitsOfBytes};
 ghost use Rattle.verdict.specs.internal.frame.Framed.{frameOf, oneOrEnd};
+use grammar::segment::layout::HEADER_BYTES;
 use kinds::header;
 use kinds::refusals::PACKET_LENGTH;
 use kinds::refusals::PACKET_NUMBER;
@@ -14,24 +15,19 @@ pub enum Frame {
     Refused(u32),
 }
 
-// The bytes of a header, and the bits before its field NID_OPERATIONAL.
-pub const HEADER: usize = 15;
-
-pub const FIRST_FIELD: usize = 24;
-
 // The bit where a packet's fields end, or the refusal of its frame, where the packet number is to be this one.
 pub fn judge_frame(s: &[u8], number: u32) -> Frame
     ensures { λ r. ⌜ r ≡ frameOf number (now (s .entry)) ⌝ }
 {
-    if s.len() < HEADER {
+    if s.len() < HEADER_BYTES {
         return Frame::Refused(SHORT_PACKET);
     }
     if bits::read_field(s, 0, header::NidPacketAto::WIDTH) != number {
         return Frame::Refused(PACKET_NUMBER);
     }
     let body = bits::read_field(s, 8, header::LPacketAto::WIDTH) as usize;
-    if s.len() == HEADER + (body + 7) / 8 {
-        Frame::End(8 * HEADER + body)
+    if s.len() == HEADER_BYTES + (body + 7) / 8 {
+        Frame::End(8 * HEADER_BYTES + body)
     } else {
         Frame::Refused(PACKET_LENGTH)
     }
