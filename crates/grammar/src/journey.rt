@@ -2,14 +2,10 @@
 pub mod layout;
 
 ghost use mathlib.Core.Path.{_≡_};
-ghost use Rattle.grammar.specs.internal.journey.Parts.{headerWidths, headerMost, segmentWidths, segmentMost, arrivalWidths, arrivalMost, stoppingWidths, stoppingMost};
+ghost use Rattle.grammar.specs.internal.journey.Parts.{segmentWidths, segmentMost, arrivalWidths, arrivalMost, stoppingWidths, stoppingMost};
 use kinds::body::MSpVersion;
 use kinds::body::NidC;
 use kinds::body::NidSp;
-use kinds::header::NPacketCounter;
-use kinds::header::NidEngine;
-use kinds::header::TTimestampDate;
-use kinds::header::TTimestampSeconds;
 use kinds::journey::NidTp;
 use kinds::journey::QAutomaticClosing;
 use kinds::journey::QCentralisedOpening;
@@ -30,29 +26,6 @@ use kinds::journey::TMinimumDwellTime;
 
 // "up to 31 constraints per segment".
 pub const CONSTRAINTS: u32 = 31;
-
-// NID_ENGINE to N_PACKET_COUNTER: their widths, and their largest values.
-pub fn header_widths() -> [u32; 4]
-    ensures { λ r. ⌜ r ≡ headerWidths ⌝ }
-{
-    [
-        NidEngine::WIDTH,
-        TTimestampDate::WIDTH,
-        TTimestampSeconds::WIDTH,
-        NPacketCounter::WIDTH,
-    ]
-}
-
-pub fn header_most() -> [u32; 4]
-    ensures { λ r. ⌜ r ≡ headerMost ⌝ }
-{
-    [
-        NidEngine::LARGEST,
-        TTimestampDate::LARGEST,
-        TTimestampSeconds::LARGEST,
-        NPacketCounter::LARGEST,
-    ]
-}
 
 // NID_C to Q_SP_DIR.
 pub fn segment_widths() -> [u32; 5]

@@ -6,6 +6,7 @@ ghost use Rattle.format.specs.Format.{times};
 ghost use Rattle.grammar.specs.internal.rows.Rows as rows;
 ghost use Rattle.grammar.specs.journey.Journey as journey;
 ghost use Rattle.grammar.specs.internal.journey.Parts as parts;
+ghost use Rattle.grammar.specs.internal.segment.Parts as segment;
 ghost use Rattle.sheet_fields.specs.internal.Judging.{Standing, Over};
 use crate::point::points;
 use grammar::journey::CONSTRAINTS;
@@ -121,10 +122,10 @@ fn body(s: &[u8], at: usize, n: u32) -> SheetStep
 // NID_ENGINE to N_PACKET_COUNTER.
 fn header_row(s: &[u8], at: usize, n: u32) -> SheetStep
     requires { ⌜ Standing (now s) at ⌝ }
-    ensures { λ r. ⌜ Over (rows.row parts.headerWidths parts.headerMost) (now (s .entry)) at n r ⌝ }
+    ensures { λ r. ⌜ Over (rows.row segment.headerWidths segment.headerMost) (now (s .entry)) at n r ⌝ }
 {
-    let widths = grammar::journey::header_widths();
-    let most = grammar::journey::header_most();
+    let widths = grammar::segment::header_widths();
+    let most = grammar::segment::header_most();
     row(s, at, n, &widths, &most)
 }
 

@@ -11,8 +11,9 @@ use Rattle.format.specs.Format.{Format, end, field, then, times}
 use Rattle.grammar.specs.internal.rows.Rows.{row}
 use Rattle.kinds.specs.journey.Kinds.{qJpStatus, nIterSp}
 use Rattle.grammar.specs.journey.Journey.{journeyBody, journeyFields, journeySegment, constraints}
-use Rattle.grammar.specs.internal.journey.Parts.{headerWidths, headerMost, journeyBodyPart, journeyPart}
-use Rattle.grammar.proofs.journey.Parts.{header-rows, header-fits}
+use Rattle.grammar.specs.internal.journey.Parts.{journeyBodyPart, journeyPart}
+use Rattle.grammar.specs.internal.segment.Parts.{headerWidths, headerMost}
+use Rattle.grammar.proofs.segment.Parts.{header-rows, header-fits}
 use Rattle.sheet_write_segment.specs.internal.elements.Writing.{filled, PartWritable, Wrote}
 use Rattle.sheet_write_segment.proofs.elements.Writing.{Along, along-here, along-on, along-none}
 use Rattle.sheet_write_journey.specs.internal.row.Row.{Row, copied}

@@ -23,8 +23,10 @@ use Rattle.grammar.specs.segment.Segment.{header}
 use Rattle.grammar.specs.internal.rows.Rows.{row, fits}
 use Rattle.grammar.proofs.rows.Measured.{no-row, first-fits, first-lawful, sum}
 use Rattle.grammar.specs.journey.Journey.{timingPoint, temporaryConstraint, journeySegment, journeyBody, journeyFields, journeySheet}
-use Rattle.grammar.specs.internal.journey.Parts.{headerWidths, headerMost, segmentWidths, segmentMost, arrivalWidths, arrivalMost, stoppingWidths, stoppingMost}
-use Rattle.grammar.proofs.journey.Parts.{header-rows, segment-rows, point-rows, header-fits, segment-fits, arrival-fits, stopping-fits}
+use Rattle.grammar.specs.internal.journey.Parts.{segmentWidths, segmentMost, arrivalWidths, arrivalMost, stoppingWidths, stoppingMost}
+use Rattle.grammar.specs.internal.segment.Parts.{headerWidths, headerMost}
+use Rattle.grammar.proofs.journey.Parts.{segment-rows, point-rows, segment-fits, arrival-fits, stopping-fits}
+use Rattle.grammar.proofs.segment.Parts.{header-rows, header-fits}
 use Rattle.grammar.proofs.journey.Tree.{Costs, end-width, level-width, constraint-groups, start-lawful, end-lawful, front-lawful, level-lawful, adhesion-lawful, fields-measured, sheet-measured}
 use Rattle.grammar.proofs.journey.Weighed.{Weighed, empty, more, looser, weighs}
 

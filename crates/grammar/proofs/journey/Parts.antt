@@ -4,17 +4,12 @@ use mathlib.Core.Bool.{true}
 use Prim.Native.Nat.{ℕ}
 use lib.Dec.{eqb}
 use Rattle.bits.proofs.Tests.{by-cases}
-use Rattle.kinds.specs.Kinds.{nidOperational, nIter}
-use Rattle.format.specs.Format.{Format, field, then}
-use Rattle.grammar.specs.segment.Segment.{header}
+use Rattle.kinds.specs.Kinds.{nIter}
+use Rattle.format.specs.Format.{Format, field}
 use Rattle.grammar.specs.internal.rows.Rows.{row, fits}
 use Rattle.kinds.specs.journey.Kinds.{qStopSkipPasses}
 use Rattle.grammar.specs.journey.Journey.{timingPoint, journeySegment}
-use Rattle.grammar.specs.internal.journey.Parts.{headerWidths, headerMost, segmentWidths, segmentMost, arrivalWidths, arrivalMost, stoppingWidths, stoppingMost, segmentRest}
-
-pub header-rows : (f : Format) → header f ≡ then nidOperational (row headerWidths headerMost f)
-unfolding row
-header-rows f = refl
+use Rattle.grammar.specs.internal.journey.Parts.{segmentWidths, segmentMost, arrivalWidths, arrivalMost, stoppingWidths, stoppingMost, segmentRest}
 
 pub segment-rows : (limit : ℕ) (f : Format) → journeySegment limit f ≡ row segmentWidths segmentMost (field (nIter 31) λ n. segmentRest limit n f)
 unfolding row
@@ -23,9 +18,6 @@ segment-rows limit f = refl
 pub point-rows : (f : Format) → timingPoint f ≡ row arrivalWidths arrivalMost (field qStopSkipPasses λ stop. row stoppingWidths (stoppingMost stop) f)
 unfolding row
 point-rows f = refl
-
-pub header-fits : fits headerWidths headerMost ≡ true
-header-fits = refl
 
 pub segment-fits : fits segmentWidths segmentMost ≡ true
 segment-fits = refl

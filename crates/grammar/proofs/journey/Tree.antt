@@ -18,8 +18,10 @@ use Rattle.format.proofs.Sized.{Measured, over, plus, within}
 use Rattle.grammar.proofs.rows.Measured.{sum, row-measured}
 use Rattle.kinds.specs.journey.Kinds.{journeyNumber, qJpStatus, nIterSp, qStopSkipPasses, qTcType, qTcRange, mostWhere, dTcStartLocation, dTcEndLocation, qTcFront, vSpeedLevel, qLowAdhesionRate}
 use Rattle.grammar.specs.journey.Journey.{timingPoint, temporaryConstraint, journeySegment, journeyBody, journeyFields, journeySheet}
-use Rattle.grammar.specs.internal.journey.Parts.{headerWidths, headerMost, segmentWidths, segmentMost, arrivalWidths, arrivalMost, stoppingWidths, stoppingMost}
-use Rattle.grammar.proofs.journey.Parts.{header-rows, segment-rows, point-rows, header-fits, segment-fits, arrival-fits, stopping-fits}
+use Rattle.grammar.specs.internal.journey.Parts.{segmentWidths, segmentMost, arrivalWidths, arrivalMost, stoppingWidths, stoppingMost}
+use Rattle.grammar.specs.internal.segment.Parts.{headerWidths, headerMost}
+use Rattle.grammar.proofs.journey.Parts.{segment-rows, point-rows, segment-fits, arrival-fits, stopping-fits}
+use Rattle.grammar.proofs.segment.Parts.{header-rows, header-fits}
 
 -- a value up to a limit
 up-to : (width n limit : ℕ) → upTo width limit .allowed n ≡ true → n ≤ limit

@@ -8,8 +8,9 @@ use lib.Dec.{leb}
 use Rattle.bits.proofs.Tests.{and-left, and-right, each-at}
 use Rattle.kinds.specs.Kinds.{class, dLocation}
 use Rattle.format.specs.Format.{Format, end, field, then}
-use Rattle.grammar.specs.segment.Segment.{entries, changes, lists, body, fields, sheetFields, wireChanges}
-use Rattle.grammar.specs.internal.segment.Parts.{entry, kindAt, runs, headerPart, bodyPart, sheetPart}
+use Rattle.grammar.specs.segment.Segment.{entries, changes, lists, body, header, fields, sheetFields, wireChanges}
+use Rattle.grammar.specs.internal.segment.Parts.{entry, kindAt, runs, headerPart, bodyPart, sheetPart, headerWidths, headerMost, identityWidths, identityMost, offsetWidths, offsetMost, headerRows, bodyRows}
+use Rattle.grammar.specs.internal.rows.Rows.{row, fits}
 
 -- ---- one more
 
@@ -57,6 +58,25 @@ sheet-part = refl
 pub header-part : fields wireChanges ≡ headerPart (bodyPart end)
 unfolding fields body lists runs kindAt
 header-part = refl
+
+-- ---- the fields before the speed profile, in rows
+
+pub header-rows : (f : Format) → header f ≡ headerRows f
+unfolding row
+header-rows f = refl
+
+pub body-rows : body wireChanges ≡ bodyRows end
+unfolding body lists row
+body-rows = refl
+
+pub header-fits : fits headerWidths headerMost ≡ true
+header-fits = refl
+
+pub identity-fits : fits identityWidths identityMost ≡ true
+identity-fits = refl
+
+pub offset-fits : fits offsetWidths offsetMost ≡ true
+offset-fits = refl
 
 -- ---- widths
 

@@ -7,13 +7,6 @@ use Rattle.grammar.specs.segment.Segment.{header}
 use Rattle.kinds.specs.journey.Kinds.{qJpStatus, nIterSp, mostAt, qTcRange}
 use Rattle.grammar.specs.journey.Journey.{timingPoint, stretch, restriction, temporaryConstraint, journeySegment, constraints}
 
--- NID_ENGINE to N_PACKET_COUNTER, after NID_OPERATIONAL
-abbrev pub headerWidths : List ℕ
-headerWidths = 24 ∷ 15 ∷ 17 ∷ 8 ∷ []
-
-abbrev pub headerMost : List ℕ
-headerMost = 16777215 ∷ 32767 ∷ 86399 ∷ 255 ∷ []
-
 -- NID_C to Q_SP_DIR of a segment
 abbrev pub segmentWidths : List ℕ
 segmentWidths = 10 ∷ 32 ∷ 8 ∷ 8 ∷ 1 ∷ []

@@ -6,6 +6,7 @@ use lib.ListN.{getD}
 use Rattle.kinds.specs.Kind.{Kind}
 use Rattle.kinds.specs.Kinds.{nidPacketAto, nidOperational, nidEngine, tTimestampDate, tTimestampSeconds, nPacketCounter, nidC, nidSp, mSpVersion, lSp, dEoAOffset, qUtcOffset, mSpAltitude, speed, qDiff, class}
 use Rattle.format.specs.Format.{Format, field, then}
+use Rattle.grammar.specs.internal.rows.Rows.{row}
 use Rattle.grammar.specs.segment.Segment.{profile, voltage, current, part, wireChanges}
 use Rattle.grammar.specs.declared.segment.Part.{Part}
 use Rattle.grammar.specs.declared.segment.Part.the-variants.{Speeds, Volts, Amperes}
@@ -49,6 +50,41 @@ headerPart f = runs 0 5 f
 
 abbrev pub threeLists : ℕ → Format → Format
 threeLists lsp f = part profile 31 lsp (part voltage wireChanges lsp (part current wireChanges lsp f))
+
+-- ---- the fields before the speed profile, in rows: their widths and their largest values
+
+-- NID_ENGINE to N_PACKET_COUNTER, after NID_OPERATIONAL
+abbrev pub headerWidths : List ℕ
+headerWidths = 24 ∷ 15 ∷ 17 ∷ 8 ∷ []
+
+abbrev pub headerMost : List ℕ
+headerMost = 16777215 ∷ 32767 ∷ 86399 ∷ 255 ∷ []
+
+-- NID_C, NID_SP and the two versions, before L_SP
+abbrev pub identityWidths : List ℕ
+identityWidths = 10 ∷ 32 ∷ 8 ∷ 8 ∷ []
+
+abbrev pub identityMost : List ℕ
+identityMost = 1023 ∷ 4294967295 ∷ 255 ∷ 255 ∷ []
+
+-- D_EoA_Offset, Q_UTC_Offset and M_SP_Altitude, after L_SP
+abbrev pub offsetWidths : List ℕ
+offsetWidths = 24 ∷ 7 ∷ 20 ∷ []
+
+abbrev pub offsetMost : List ℕ
+offsetMost = 16777215 ∷ 112 ∷ 1048575 ∷ []
+
+-- the header's fields after L_PACKET_ATO, as every packet begins
+abbrev pub headerRows : Format → Format
+headerRows f = then nidOperational (row headerWidths headerMost f)
+
+-- the body's fields after L_SP
+abbrev pub offsetRows : ℕ → Format → Format
+offsetRows lsp f = row offsetWidths offsetMost (threeLists lsp f)
+
+-- the body's fields
+abbrev pub bodyRows : Format → Format
+bodyRows f = row identityWidths identityMost (field lSp λ lsp. offsetRows lsp f)
 
 -- the body's fields up to the speed profile, and the lists
 abbrev pub bodyPart : Format → Format

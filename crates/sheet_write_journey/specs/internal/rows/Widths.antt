@@ -1,7 +1,8 @@
 -- The widths of a journey's fields that stand in a row. What the code below a promise is held to; no promise names them.
 use mathlib.Core.List.{List, [], _∷_, _++_}
 use Prim.Native.Nat.{ℕ}
-use Rattle.grammar.specs.internal.journey.Parts.{headerWidths, segmentWidths, arrivalWidths, stoppingWidths}
+use Rattle.grammar.specs.internal.journey.Parts.{segmentWidths, arrivalWidths, stoppingWidths}
+use Rattle.grammar.specs.internal.segment.Parts.{headerWidths}
 
 -- NID_OPERATIONAL to N_ITER_SP, and the last three of them
 abbrev pub headWidths : List ℕ
