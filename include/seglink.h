@@ -6,7 +6,8 @@
 // Q_TC_Range 0 uses the start, 1 the end, 2 both, 3 neither. What is not used is 0; no type uses the current, 1,023 in the packet and 0 in
 // the sheet. A speed is lowered to a multiple of 5 km/h on its way to the packet, as a segment's speeds are.
 //
-// Any bytes may be handed over, in any number. A pointer is never null, also where the count is 0, and the room shares no byte with what is read.
+// Any bytes may be handed over, in any number. The caller keeps to three things: no pointer is null, also where the count is 0; the room shares
+// no byte with what is read; each bool is 0 or 1.
 // No operation keeps a pointer, has a state of its own or stops the program, so any number of threads may call them.
 #ifndef SEGLINK_H
 #define SEGLINK_H
@@ -19,7 +20,27 @@
 extern "C" {
 #endif
 
-// Why an operation refused: the numbers of the build definition. Where several grounds hold, its order decides which is given.
+// Why an operation refused: the numbers of the build definition, each with its ground.
+//
+// Where several grounds hold, the one that is judged first is given:
+//     a packet              1, 2, 3, then its fields in order (6 before 4 or 5), then 13, then 7
+//     a sheet               its numbers in order (9 before 2, 4 or 5), then 9 for bytes that are left
+//     a conversion          the refusals of its packet or sheet, then 12 (of a sheet alone), then 8
+//     a speed question      15, then the refusals of its packet or sheet, then 10, then 11
+//     an altitude question  the refusals of its packet
+//     a completion          8, then the refusals of its packet
+//     an intake's sheet     14 where there is no verdict, then the verdict's refusal, then 14 where the packet's room is cut short, then
+//                           the refusals of a conversion
+//
+// The place says where it broke, as a bit of the packet or a byte of the sheet. Both are counted from 0 at the start, the top bit of a byte first.
+//     4, 5                  the first bit of the field at fault, or the first byte of its number; of a constraint whose start is not below
+//                           its end, the end is at fault
+//     6                     the first bit of the field that does not fit
+//     7                     the first padding bit that is 1
+//     9                     the first byte of the number at fault, which is the sheet's length where the sheet ends before the number; or
+//                           the first byte that is left
+//     13                    the first bit that is left
+//     all others, success   0
 enum {
     SEGLINK_SUCCESS = 0,
     SEGLINK_SHORT_PACKET = 1,    // a packet has fewer than 15 bytes
@@ -39,7 +60,7 @@ enum {
     SEGLINK_UNKNOWN_KIND = 15    // the kind is neither 0 nor 1
 };
 
-// The kinds of what a speed question brings: a segment's packet, or its sheet.
+// What a speed question brings, as its kind: a segment's packet, or a segment's sheet.
 enum {
     SEGLINK_KIND_PACKET = 0,
     SEGLINK_KIND_SHEET = 1
@@ -54,12 +75,6 @@ enum {
     SEGLINK_LARGEST_JOURNEY_PACKET = 8207,
     SEGLINK_LARGEST_JOURNEY_SHEET = 15226
 };
-
-// Each answer has the refusal's place. Of a packet it is a bit, counted from 0 at the packet's start, the top bit of each byte first: the first
-// of the field at fault (4, 5, 6), the first that is left (13), the first of the padding that is 1 (7). Of a sheet it is a byte, counted from 0:
-// the first of the number at fault (4, 5, 9), also where the sheet ends before or within it, or the first that is left (9).
-// Where a constraint's start is not below its end, the end is at fault.
-// For 1, 2, 3, 8, 10 to 12, 14 and 15 it is 0, and on success.
 
 // What a conversion answers: 0, 0 and the count of bytes that it wrote; or a refusal, its place and 0.
 typedef struct {
@@ -77,8 +92,8 @@ typedef struct {
     int32_t altitude;
 } seglink_altitude;
 
-// A train: its length in cm, 1 to 150,000; its cant deficiency in mm, 80, 100, 130, 150, 165, 180, 210, 225, 245, 275 or 300;
-// whether it is freight in P position, freight in G position, passenger.
+// A train: its length in cm, 1 to 150,000; its cant deficiency in mm, 80, 100, 130, 150, 165, 180, 210, 225, 245, 275 or 300 (any other length
+// or cant deficiency is refused with 10); whether it is freight in P position, freight in G position, passenger.
 // Where no entry of an element (Q_DIFF 0) names its cant deficiency, those of the greatest figure below it count, the lowest speed of them;
 // V_STATIC where there are none: with entries for 100 and 165, a train of 150 mm has the speed of the entry for 100.
 typedef struct {
