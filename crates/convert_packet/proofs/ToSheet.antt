@@ -1,4 +1,4 @@
--- From an accepted packet to its sheet: what the writers are handed, and what they leave.
+-- From an accepted packet to its sheet: what the writers require, and what they leave in the room.
 use mathlib.Core.Path.{_≡_, refl, sym, ap, _∙_}
 use mathlib.Core.List.{List, [], _∷_, _++_}
 use Prim.Native.Nat.{ℕ, _+_, _<_, _≤_}
@@ -34,7 +34,7 @@ use Rattle.convert.specs.Convert.{Outcome, refusedWith, successWith, fitted, co
 use Rattle.convert.specs.internal.Writers.{sheetOf, SheetWritable, fieldsOf, FieldsWritable, treeToSheet}
 use Rattle.sheet_write_journey.specs.internal.Sheet.{JourneyWritable}
 
--- bytes written at the front of a room that holds them
+-- bytes written at the start of a room that holds them make the outcome of a success
 pub done-placed : (bytes room : List ℕ) (n : ℕ) (cells : List ℕ) → n ≡ length bytes → length bytes ≤ length room → cells ≡ sets room 0 bytes
     → _≡_ {A = Outcome} (record { answer = record { refusal = 0; place = 0; length = n }; room = cells }) (successWith bytes room)
 done-placed bytes room n cells l f q =
@@ -42,7 +42,7 @@ done-placed bytes room n cells l f q =
     let b : cells ≡ bytes ++ drop (length bytes) room = q ∙ sets-eq bytes room 0 (omega arith) ∙ rw z in
     λ j. record { answer = record { refusal = 0; place = 0; length = l j }; room = b j }
 
--- the packet number has one byte
+-- the packet number has one byte in the sheet
 number-bytes : (t : Tree) → length (groupsIn (treeNumber t)) ≡ 1
 unfolding groupsIn
 number-bytes Segment = refl
@@ -96,7 +96,7 @@ module _ (t : Tree) (s : List ℕ) where
     unfolding packetVerdict
     counted = verdict-accepted packet-sorts (sizeFrom sheet (treeSheetFields t) 0) (treePacket t s) n e λ p q. q
 
-    -- the frame of the packet, and its parts
+    -- an accepted packet has a frame, and the values of its fields
     framed : {C : Type 0} → ((stop : ℕ) → Parts t s stop (valuesOf (treePacket t s)) → C) → C
     framed {C} f = go (frameOf (treeNumber t) s) refl
       where
@@ -134,17 +134,17 @@ module _ (t : Tree) (s : List ℕ) where
         let f : length (sheetOf t s) ≤ length room = omega arith in
         done-placed (sheetOf t s) room n cells l f q ∙ sym (by-values ∙ rw (le-ltb (length room) (length (sheetOf t s)) f))
 
--- the tree is the packet number's
+-- the conversion by the tree that the packet number names is the conversion
 pub sheet-by-tree : (s room : List ℕ) → treeToSheet (treeOf (packetNumber s)) s room ≡ packetToSheet s room
 unfolding treeToSheet packetToSheet fromEitherPacket
 sheet-by-tree s room = refl
 
--- what a journey's writer is handed
+-- what the writer of a tree's fields requires gives what the writer of a journey requires
 pub journey-writable : {s : List ℕ} {stop : ℕ} {room : List ℕ} {start : ℕ} → FieldsWritable Journey s stop room start → JourneyWritable s stop room start
 unfolding journeyFields
 journey-writable h = record { place = h .place; accepts = h .accepts; holds = h .holds }
 
--- no byte has no packet number
+-- a packet of no byte counts as a segment
 pub no-number : (s : List ℕ) → length s ≡ 0 → Segment ≡ treeOf (packetNumber s)
 unfolding fieldAt
 no-number [] e = refl

@@ -1,4 +1,4 @@
--- `to_sheet::write_fields` meets its contract.
+-- `convert_packet::write_fields` meets its contract.
 use Rattle.grammar.specs.journey.Journey.{journeyFields}
 use Rattle.convert_packet.proofs.ToSheet.{journey-writable}
 use borrow.Author.Needs.{needs}
