@@ -1,6 +1,6 @@
 #!/usr/bin/env python3
-"""The tests beside the proofs: what rt does not look at. 'sources' runs those that read the sources alone, 'logs' those that read what rt ci
-left in target/ too, no word all of them."""
+"""Tests what rt does not check. 'sources' runs the tests that read the sources alone, 'logs' the tests that also read what rt ci left in
+target/, no word all tests."""
 import pathlib
 import re
 import sys
@@ -8,12 +8,12 @@ import sys
 ROOT = pathlib.Path(__file__).resolve().parent.parent
 CRATES = [line.split(":")[0].strip() for line in (ROOT / "crates.txt").read_text().splitlines() if ":" in line.split("#")[0]]
 SECONDS = 120
-# what an error says that is of the edit's shape, or of another declaration, and not of a fact
+# texts of errors about the shape of an edit or another declaration, not about a fact
 SHAPES = ("can be named from here", "has no field", "was not admitted")
 
 
 def functions(path):
-    """Each function of a source file: its first line's number, whether it is public, its name, its head up to the body."""
+    """Yields each function of a source file: its first line's number, whether it is public, its name, its head up to the body."""
     lines = path.read_text().splitlines()
     for i, line in enumerate(lines):
         m = re.match(r'^(\s*)(pub )?(extern "C" )?fn (\w+)', line)
@@ -88,7 +88,7 @@ def edits():
 
 
 def replacements(label):
-    """Each replacement of a must-fail edit as rt reads it: the file, the old text, the new one."""
+    """Yields each replacement of a must-fail edit as rt reads it: the file, the old text, the new text."""
     file = old = ""
     for line in label.read_text().split("\n"):
         if line.startswith("file: "):
@@ -101,7 +101,7 @@ def replacements(label):
 
 
 def appliable():
-    """Every must-fail edit names files of its crate, its old texts stand there exactly once, and the new ones are others."""
+    """Every must-fail edit names files of its crate, each old text stands there exactly once, and each new text differs from its old text."""
     for label in sorted((ROOT / "crates").glob("*/must-fail/*.edit")):
         name, made, texts = label.relative_to(ROOT), list(replacements(label)), {}
         if not made:
@@ -111,7 +111,7 @@ def appliable():
             if file.split("/")[0] not in ("src", "specs", "proofs") or not path.is_file():
                 yield f"{name}: the crate has no file {file}"
                 continue
-            # a replacement is made in what those before it left
+            # a replacement applies to the text that the earlier replacements left
             text = texts.get(file, path.read_text())
             if text.count(old) != 1 or old == new:
                 yield f"{name}: '{old}' stands {text.count(old)} times in {file}, to be '{new}'"
@@ -150,7 +150,7 @@ def placed():
 
 
 def used(name, text):
-    """Whether a name that a file imports, an operator's by its sign, stands in its text."""
+    """Returns whether a name that a file imports stands in its text; an operator is looked for by its sign."""
     name = name.split(" as ")[-1].strip()
     if name[0].isalpha():
         return re.search(r"(?<![\w'·-])%s(?![\w'-])" % re.escape(name), text)
