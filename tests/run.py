@@ -1,43 +1,26 @@
 #!/usr/bin/env python3
-"""Tests what rt does not check. 'sources' runs the tests that read the sources alone, 'logs' the tests that also read what rt ci left in
-target/, no word all tests."""
-import pathlib
+"""The tests beside the proofs: what rt does not look at. 'sources' runs those that read the sources alone, 'logs' those that read what rt ci
+left in target/ too, no word all of them."""
 import re
 import sys
 
-ROOT = pathlib.Path(__file__).resolve().parent.parent
-CRATES = [line.split(":")[0].strip() for line in (ROOT / "crates.txt").read_text().splitlines() if ":" in line.split("#")[0]]
+import pages
+from sources import CRATES, ROOT, declares, edits, functions, modules, public_functions, replacements, sources
+
 SECONDS = 120
-# texts of errors about the shape of an edit or another declaration, not about a fact
+# what an error says that is of the edit's shape, or of another declaration, and not of a fact
 SHAPES = ("can be named from here", "has no field", "was not admitted")
 
 
-def functions(path):
-    """Yields each function of a source file: its first line's number, whether it is public, its name, its head up to the body."""
-    lines = path.read_text().splitlines()
-    for i, line in enumerate(lines):
-        m = re.match(r'^(\s*)(pub )?(extern "C" )?fn (\w+)', line)
-        if not m:
-            continue
-        head = []
-        for j in range(i, len(lines)):
-            head.append(lines[j])
-            if lines[j] == m.group(1) + "{" or lines[j].endswith(") {"):
-                break
-        yield i + 1, bool(m.group(2)), m.group(4), "\n".join(head)
-
-
-def sources(crate, folder, suffix):
-    return sorted((ROOT / "crates" / crate / folder).glob("**/*" + suffix))
-
-
 def contracts():
-    """Every public function says what it returns."""
+    """Every public function says what it returns, and no public operation asks for anything beforehand."""
     for crate in CRATES:
         for path in sources(crate, "src", ".rt"):
             for line, public, name, head in functions(path):
                 if public and "ensures" not in head:
                     yield f"{path.relative_to(ROOT)}:{line}: {name} has no ensures"
+                if public and crate == "seglink" and "requires" in head:
+                    yield f"{path.relative_to(ROOT)}:{line}: {name} has a requires"
 
 
 def headed():
@@ -73,12 +56,11 @@ def quick():
             yield f"{crate}: {took.group(0) if took else 'not proved'}"
 
 
-def edits():
+def refused():
     """A crate with public functions has must-fail edits, and each is refused because a fact fails, and not for its shape."""
     for crate in CRATES:
-        public = [name for path in sources(crate, "src", ".rt") for _, p, name, _ in functions(path) if p]
-        labels = sorted((ROOT / "crates" / crate / "must-fail").glob("*.edit"))
-        if public and len(labels) < 2:
+        labels = edits(crate)
+        if list(public_functions(crate)) and len(labels) < 2:
             yield f"{crate} has public functions and {len(labels)} must-fail edits"
         for label in labels:
             log = (ROOT / "target" / "must-fail" / crate / label.stem / ".log").read_text()
@@ -87,21 +69,8 @@ def edits():
                 yield f"{crate}/{label.stem}: {errors[0][:200] if errors else 'no error'}"
 
 
-def replacements(label):
-    """Yields each replacement of a must-fail edit as rt reads it: the file, the old text, the new text."""
-    file = old = ""
-    for line in label.read_text().split("\n"):
-        if line.startswith("file: "):
-            file = line.removeprefix("file: ")
-        elif line.startswith("old: "):
-            old = line.removeprefix("old: ")
-        elif line.startswith("new:"):
-            yield file, old, line.removeprefix("new:").removeprefix(" ")
-            old = ""
-
-
 def appliable():
-    """Every must-fail edit names files of its crate, each old text stands there exactly once, and each new text differs from its old text."""
+    """Every must-fail edit names files of its crate, its old texts stand there exactly once, and the new ones are others."""
     for label in sorted((ROOT / "crates").glob("*/must-fail/*.edit")):
         name, made, texts = label.relative_to(ROOT), list(replacements(label)), {}
         if not made:
@@ -111,46 +80,67 @@ def appliable():
             if file.split("/")[0] not in ("src", "specs", "proofs") or not path.is_file():
                 yield f"{name}: the crate has no file {file}"
                 continue
-            # a replacement applies to the text that the earlier replacements left
+            # a replacement is made in what those before it left
             text = texts.get(file, path.read_text())
             if text.count(old) != 1 or old == new:
                 yield f"{name}: '{old}' stands {text.count(old)} times in {file}, to be '{new}'"
             texts[file] = text.replace(old, new)
 
 
-def promises():
+def cited():
     """Every theorem that the documents cite as `name` in a file of theirs stands there."""
     for page in sorted((ROOT / "docs").glob("**/*.md")):
         for name, file in re.findall(r"`([^`\s]+)` \(`(crates/[^`]+\.antt)`\)", page.read_text()):
-            path = ROOT / file
-            if not path.exists() or not re.search(r"^\s*((abbrev|unfoldable) )?(pub )?(record |data )?%s( |$)" % re.escape(name), path.read_text(), re.M):
+            if not (ROOT / file).exists() or not declares(ROOT / file, name):
                 yield f"{page.relative_to(ROOT)}: {name} is not in {file}"
 
 
-def listed():
-    """Every must-fail edit is listed on the contracts' page, and every edit listed there stands in a crate."""
-    page = (ROOT / "docs" / "CONTRACTS.md").read_text()
-    labels = {path.stem for path in (ROOT / "crates").glob("*/must-fail/*.edit")}
-    for label in sorted(labels):
-        if f"`{label}`" not in page:
-            yield f"docs/CONTRACTS.md does not list {label}"
-    for row in re.findall(r"^\|.*\|.*\|(.*)\|$", page, re.M):
+def up_to_date():
+    """The laws' page and the lists of edits on the contracts' page are what tests/pages.py writes."""
+    for path, text in pages.pages():
+        if not path.exists() or path.read_text() != text:
+            yield f"{path.relative_to(ROOT)} is not up to date: run python3 tests/pages.py"
+    for crate in pages.unmarked(pages.CONTRACTS.read_text()):
+        yield f"docs/CONTRACTS.md has not one list of the edits of {crate}"
+
+
+def stands_for(name, function):
+    """Whether a name in the contracts' tables is a function's, or has T for the function's type."""
+    return re.fullmatch(re.sub(r"\bT::", r"\\w+::", name), function) is not None
+
+
+def contracted():
+    """The tables of the contracts' page have every public function under its crate, and no other; an edit that its text names is one of a crate's."""
+    page = pages.MARKED.sub("", pages.CONTRACTS.read_text())
+    tables = {heading: re.findall(r"^\| (`.*?) \|", body, re.M) for heading, body in pages.sections(page)}
+    for crate in CRATES:
+        names = re.findall(r"`([^`]+)`", " ".join(tables.get(crate, ())))
+        public = list(public_functions(crate))
+        for function in public:
+            if not any(stands_for(name, function) for name in names):
+                yield f"docs/CONTRACTS.md does not have {crate}::{function}"
+        for name in names:
+            if not any(stands_for(name, function) for function in public):
+                yield f"docs/CONTRACTS.md has {name} under {crate}, which is no public function of it"
+    labels = {path.stem for crate in CRATES for path in edits(crate)}
+    for row in re.findall(r"^\|.*\|(.*)\|$", dict(pages.sections(page))["Crossed wires and false converters"], re.M):
         for label in re.findall(r"`(\w+)`", row):
-            if label not in labels and label not in CRATES:
-                yield f"docs/CONTRACTS.md lists {label}, which no crate tries"
+            if label not in labels:
+                yield f"docs/CONTRACTS.md names the edit {label}, which no crate tries"
 
 
 def placed():
-    """Every file of definitions stands on the promises' page, in a row with its crate."""
-    rows = re.findall(r"^\|(.*)\|(.*)\|$", (ROOT / "docs" / "PROMISES.md").read_text(), re.M)
+    """Every file of definitions that a promise can name has its row on the laws' page."""
+    page = pages.LAWS.read_text()
     for crate in CRATES:
-        for path in sources(crate, "specs", ".antt"):
-            if path.stem[0].isupper() and path.name != "Lib.antt" and not any(f"`{crate}`" in names and f"`{path.stem}`" in files for names, files in rows):
-                yield f"docs/PROMISES.md does not place {path.relative_to(ROOT)}"
+        for path in modules(crate, "specs"):
+            file = path.relative_to(ROOT / "crates" / crate)
+            if "internal" not in file.parts and f"| `{crate}` | `{file}` |" not in page:
+                yield f"docs/LAWS.md does not place {path.relative_to(ROOT)}"
 
 
 def used(name, text):
-    """Returns whether a name that a file imports stands in its text; an operator is looked for by its sign."""
+    """Whether a name that a file imports, an operator's by its sign, stands in its text."""
     name = name.split(" as ")[-1].strip()
     if name[0].isalpha():
         return re.search(r"(?<![\w'·-])%s(?![\w'-])" % re.escape(name), text)
@@ -169,7 +159,10 @@ def imports():
                         yield f"{path.relative_to(ROOT)} imports {name.strip()} and does not use it"
 
 
-TESTS = {"sources": (contracts, headed, imports, appliable, listed, promises, placed), "logs": (no_axioms, quick, edits)}
+TESTS = {
+    "sources": (contracts, headed, imports, appliable, up_to_date, contracted, cited, placed),
+    "logs": (no_axioms, quick, refused),
+}
 
 
 def main(words):
