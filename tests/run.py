@@ -8,6 +8,7 @@ import pages
 from sources import CRATES, ROOT, declares, edits, functions, modules, public_functions, replacements, sources
 
 SECONDS = 120
+SENTENCE = 300
 # what an error says that is of the edit's shape, or of another declaration, and not of a fact
 SHAPES = ("can be named from here", "has no field", "was not admitted")
 
@@ -129,6 +130,46 @@ def contracted():
                 yield f"docs/CONTRACTS.md names the edit {label}, which no crate tries"
 
 
+def short_sentences():
+    """Every sentence of the promises' page is under 300 characters."""
+    text = re.sub(r"^(#+|>|-|\d+\.) |\|", "\n\n", pages.PROMISES.read_text(), flags=re.M)
+    for paragraph in re.split(r"\n\s*\n", text):
+        for sentence in re.split(r"(?<=[.!?])[\"*)]*\s+", " ".join(paragraph.split())):
+            if len(sentence) >= SENTENCE:
+                yield f"docs/PROMISES.md: {len(sentence)} characters: {sentence[:80]} .."
+
+
+def promised_files():
+    """Each file is named once on the promises' page and exists, a file of proofs or of code in a heading."""
+    page = pages.PROMISES.read_text()
+    files = re.findall(r"`(\w[\w.-]*/[^`\s]*)`", page)
+    headings = " ".join(heading for heading, _ in pages.sections(page))
+    for file in dict.fromkeys(files):
+        if not (ROOT / file).is_file():
+            yield f"docs/PROMISES.md names {file}, which is not there"
+        if files.count(file) != 1:
+            yield f"docs/PROMISES.md names {file} {files.count(file)} times"
+        if re.search("/(proofs|src)/", file) and f"`{file}`" not in headings:
+            yield f"docs/PROMISES.md names {file}, and not in a heading"
+
+
+def promised_names():
+    """Every name on the promises' page is declared in the file of its heading, or is a word of the page that is declared in the file of its row."""
+    page, words, said = pages.PROMISES.read_text(), set(), []
+    for heading, body in pages.sections(page):
+        for file, row in re.findall(r"^\| `(crates/[^`]+)` \|(.*)\|$", body, re.M):
+            for name in re.findall(r"`([^`]+)`", row):
+                words.add(name)
+                if not (ROOT / file).is_file() or not declares(ROOT / file, name):
+                    yield f"docs/PROMISES.md: {name} is not in {file}"
+        said.append((re.findall(r"`(crates/[^`]+)`", heading), [name for name in re.findall(r"`([^`]+)`", re.sub(r"^\| `crates/.*$", "", body, flags=re.M)) if "/" not in name]))
+    proved = {name for files, names in said if files for name in names}
+    for files, names in said:
+        for name in dict.fromkeys(names):
+            if name not in words and not any((ROOT / file).is_file() and declares(ROOT / file, name) for file in files) and (files or name not in proved):
+                yield f"docs/PROMISES.md: {name} is not in {files[0] if files else 'a file that a heading names'}"
+
+
 def placed():
     """Every file of definitions that a promise can name has its row on the laws' page."""
     page = pages.LAWS.read_text()
@@ -160,7 +201,7 @@ def imports():
 
 
 TESTS = {
-    "sources": (contracts, headed, imports, appliable, up_to_date, contracted, cited, placed),
+    "sources": (contracts, headed, imports, appliable, up_to_date, contracted, cited, promised_files, promised_names, short_sentences, placed),
     "logs": (no_axioms, quick, refused),
 }
 
