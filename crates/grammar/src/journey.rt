@@ -96,10 +96,10 @@ pub fn stopping_widths() -> [u32; 10]
 }
 
 // At a passing point the last eight are 0.
-pub fn stopping_most(stop: u32) -> [u32; 10]
-    ensures { λ r. ⌜ r ≡ stoppingMost stop ⌝ }
+pub fn stopping_most(stop_skip_passes: u32) -> [u32; 10]
+    ensures { λ r. ⌜ r ≡ stoppingMost «stop_skip_passes» ⌝ }
 {
-    if stop == QStopSkipPasses::PASSING {
+    if stop_skip_passes == QStopSkipPasses::PASSING {
         return [
             QTpInformation::LARGEST,
             QDayLightSaving::LARGEST,

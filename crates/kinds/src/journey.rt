@@ -168,19 +168,19 @@ impl QDayLightSaving {
 }
 
 // The largest value of a field that is 0 at a passing point, by the kind of the stop.
-fn most_at(stop: u32, most: u32) -> u32
-    ensures { λ r. ⌜ r ≡ mostAt stop most ⌝ }
+fn most_at(stop_skip_passes: u32, most: u32) -> u32
+    ensures { λ r. ⌜ r ≡ mostAt «stop_skip_passes» most ⌝ }
 {
-    if stop == QStopSkipPasses::PASSING {
+    if stop_skip_passes == QStopSkipPasses::PASSING {
         return 0;
     }
     most
 }
 
-fn at_stop(stop: u32, width: u32, largest: u32) -> Rule
-    ensures { λ r. ⌜ meaning r ≡ upTo width (mostAt stop largest) ⌝ }
+fn unless_passing(stop_skip_passes: u32, width: u32, largest: u32) -> Rule
+    ensures { λ r. ⌜ meaning r ≡ upTo width (mostAt «stop_skip_passes» largest) ⌝ }
 {
-    up_to(width, most_at(stop, largest))
+    up_to(width, most_at(stop_skip_passes, largest))
 }
 
 pub struct QOpeningDoorSide;
@@ -190,10 +190,10 @@ impl QOpeningDoorSide {
 
     pub const LARGEST: u32 = 3;
 
-    pub fn rule(stop: u32) -> Rule
-        ensures { λ r. ⌜ meaning r ≡ kind.qOpeningDoorSide stop ⌝ }
+    pub fn rule(stop_skip_passes: u32) -> Rule
+        ensures { λ r. ⌜ meaning r ≡ kind.qOpeningDoorSide «stop_skip_passes» ⌝ }
     {
-        at_stop(stop, Self::WIDTH, Self::LARGEST)
+        unless_passing(stop_skip_passes, Self::WIDTH, Self::LARGEST)
     }
 }
 
@@ -204,10 +204,10 @@ impl QCentralisedOpening {
 
     pub const LARGEST: u32 = 1;
 
-    pub fn rule(stop: u32) -> Rule
-        ensures { λ r. ⌜ meaning r ≡ kind.qCentralisedOpening stop ⌝ }
+    pub fn rule(stop_skip_passes: u32) -> Rule
+        ensures { λ r. ⌜ meaning r ≡ kind.qCentralisedOpening «stop_skip_passes» ⌝ }
     {
-        at_stop(stop, Self::WIDTH, Self::LARGEST)
+        unless_passing(stop_skip_passes, Self::WIDTH, Self::LARGEST)
     }
 }
 
@@ -218,10 +218,10 @@ impl QRelaxedCoupler {
 
     pub const LARGEST: u32 = 1;
 
-    pub fn rule(stop: u32) -> Rule
-        ensures { λ r. ⌜ meaning r ≡ kind.qRelaxedCoupler stop ⌝ }
+    pub fn rule(stop_skip_passes: u32) -> Rule
+        ensures { λ r. ⌜ meaning r ≡ kind.qRelaxedCoupler «stop_skip_passes» ⌝ }
     {
-        at_stop(stop, Self::WIDTH, Self::LARGEST)
+        unless_passing(stop_skip_passes, Self::WIDTH, Self::LARGEST)
     }
 }
 
@@ -232,10 +232,10 @@ impl QTrainHold {
 
     pub const LARGEST: u32 = 1;
 
-    pub fn rule(stop: u32) -> Rule
-        ensures { λ r. ⌜ meaning r ≡ kind.qTrainHold stop ⌝ }
+    pub fn rule(stop_skip_passes: u32) -> Rule
+        ensures { λ r. ⌜ meaning r ≡ kind.qTrainHold «stop_skip_passes» ⌝ }
     {
-        at_stop(stop, Self::WIDTH, Self::LARGEST)
+        unless_passing(stop_skip_passes, Self::WIDTH, Self::LARGEST)
     }
 }
 
@@ -246,10 +246,10 @@ impl TDepartureDate {
 
     pub const LARGEST: u32 = 32767;
 
-    pub fn rule(stop: u32) -> Rule
-        ensures { λ r. ⌜ meaning r ≡ kind.tDepartureDate stop ⌝ }
+    pub fn rule(stop_skip_passes: u32) -> Rule
+        ensures { λ r. ⌜ meaning r ≡ kind.tDepartureDate «stop_skip_passes» ⌝ }
     {
-        at_stop(stop, Self::WIDTH, Self::LARGEST)
+        unless_passing(stop_skip_passes, Self::WIDTH, Self::LARGEST)
     }
 }
 
@@ -260,10 +260,10 @@ impl TDepartureSeconds {
 
     pub const LARGEST: u32 = 86399;
 
-    pub fn rule(stop: u32) -> Rule
-        ensures { λ r. ⌜ meaning r ≡ kind.tDepartureSeconds stop ⌝ }
+    pub fn rule(stop_skip_passes: u32) -> Rule
+        ensures { λ r. ⌜ meaning r ≡ kind.tDepartureSeconds «stop_skip_passes» ⌝ }
     {
-        at_stop(stop, Self::WIDTH, Self::LARGEST)
+        unless_passing(stop_skip_passes, Self::WIDTH, Self::LARGEST)
     }
 }
 
@@ -274,10 +274,10 @@ impl TMinimumDwellTime {
 
     pub const LARGEST: u32 = 1023;
 
-    pub fn rule(stop: u32) -> Rule
-        ensures { λ r. ⌜ meaning r ≡ kind.tMinimumDwellTime stop ⌝ }
+    pub fn rule(stop_skip_passes: u32) -> Rule
+        ensures { λ r. ⌜ meaning r ≡ kind.tMinimumDwellTime «stop_skip_passes» ⌝ }
     {
-        at_stop(stop, Self::WIDTH, Self::LARGEST)
+        unless_passing(stop_skip_passes, Self::WIDTH, Self::LARGEST)
     }
 }
 
@@ -288,10 +288,10 @@ impl QAutomaticClosing {
 
     pub const LARGEST: u32 = 1;
 
-    pub fn rule(stop: u32) -> Rule
-        ensures { λ r. ⌜ meaning r ≡ kind.qAutomaticClosing stop ⌝ }
+    pub fn rule(stop_skip_passes: u32) -> Rule
+        ensures { λ r. ⌜ meaning r ≡ kind.qAutomaticClosing «stop_skip_passes» ⌝ }
     {
-        at_stop(stop, Self::WIDTH, Self::LARGEST)
+        unless_passing(stop_skip_passes, Self::WIDTH, Self::LARGEST)
     }
 }
 

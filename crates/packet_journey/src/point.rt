@@ -26,12 +26,12 @@ fn arrival(s: &[u8], stop: usize, at: usize, n: usize) -> PacketStep
 }
 
 // Q_TP_Information to Q_Automatic_Closing, by the kind of the stop.
-fn stopping(s: &[u8], stop: usize, at: usize, n: usize, kind: u32) -> PacketStep
+fn stopping(s: &[u8], stop: usize, at: usize, n: usize, stop_skip_passes: u32) -> PacketStep
     requires { ⌜ Standing (now s) stop at n ⌝ }
-    ensures { λ r. ⌜ Over (row stoppingWidths (stoppingMost kind)) (now (s .entry)) stop at n r ⌝ }
+    ensures { λ r. ⌜ Over (row stoppingWidths (stoppingMost «stop_skip_passes»)) (now (s .entry)) stop at n r ⌝ }
 {
     let widths = grammar::journey::stopping_widths();
-    let most = grammar::journey::stopping_most(kind);
+    let most = grammar::journey::stopping_most(stop_skip_passes);
     packet_fields::row::row(s, stop, at, n, &widths, &most)
 }
 
@@ -45,7 +45,13 @@ fn cut_point(s: &[u8], stop: usize, at: usize, n: usize) -> PacketStep
         PacketStep::On(at2, n2) => {
             match packet_fields::field(s, stop, at2, n2, QStopSkipPasses::rule()) {
                 PacketValue::Refused(r, place) => PacketStep::Refused(r, place),
-                PacketValue::Is(kind, at3, n3) => stopping(s, stop, at3, n3, kind),
+                PacketValue::Is(stop_skip_passes, at3, n3) => stopping(
+                    s,
+                    stop,
+                    at3,
+                    n3,
+                    stop_skip_passes,
+                ),
             }
         }
     }

@@ -39,7 +39,7 @@ pub fn marks_bytes(t: u32) -> u32
 }
 
 // The last eight fields where the train stops: the seconds alone can be refused.
-fn stop_bytes(doors: u32, leaving: u32) -> u32
+fn not_passing_bytes(doors: u32, leaving: u32) -> u32
     requires { ⌜ leaving < 268435456 ⌝ }
     ensures { λ r. ⌜ r ≡ rowBytes (eightMost 0) (parts doorsWidths doors ++ parts leavingWidths leaving) ⌝ }
 {
@@ -52,12 +52,12 @@ fn stop_bytes(doors: u32, leaving: u32) -> u32
 }
 
 // The same by the kind of the stop: at a passing point they are 0.
-pub fn eight_bytes(kind: u32, doors: u32, leaving: u32) -> u32
+pub fn eight_bytes(stop_skip_passes: u32, doors: u32, leaving: u32) -> u32
     requires { ⌜ (doors < 1048576) × (leaving < 268435456) ⌝ }
-    ensures { λ r. ⌜ r ≡ rowBytes (eightMost kind) (parts doorsWidths doors ++ parts leavingWidths leaving) ⌝ }
+    ensures { λ r. ⌜ r ≡ rowBytes (eightMost «stop_skip_passes») (parts doorsWidths doors ++ parts leavingWidths leaving) ⌝ }
 {
-    if kind != QStopSkipPasses::PASSING {
-        return stop_bytes(doors, leaving);
+    if stop_skip_passes != QStopSkipPasses::PASSING {
+        return not_passing_bytes(doors, leaving);
     }
     if doors != 0 {
         return 0;

@@ -52,12 +52,12 @@ fn arrival(sheet: &[u8], room: &mut [u8], p: PacketSpot) -> PacketSpot
 }
 
 // Q_TP_Information to Q_Automatic_Closing, by the kind of the stop.
-fn stopping(sheet: &[u8], room: &mut [u8], p: PacketSpot, stop: u32) -> PacketSpot
-    requires { ⌜ Ready (row stoppingWidths (stoppingMost stop)) (now sheet) (now room) p ⌝ }
-    ensures { λ r. ⌜ Wrote (row stoppingWidths (stoppingMost stop)) (now (sheet .entry)) (now (room .entry)) p (now (room .exit)) r ⌝ }
+fn stopping(sheet: &[u8], room: &mut [u8], p: PacketSpot, stop_skip_passes: u32) -> PacketSpot
+    requires { ⌜ Ready (row stoppingWidths (stoppingMost «stop_skip_passes»)) (now sheet) (now room) p ⌝ }
+    ensures { λ r. ⌜ Wrote (row stoppingWidths (stoppingMost «stop_skip_passes»)) (now (sheet .entry)) (now (room .entry)) p (now (room .exit)) r ⌝ }
 {
     let widths = grammar::journey::stopping_widths();
-    let most = grammar::journey::stopping_most(stop);
+    let most = grammar::journey::stopping_most(stop_skip_passes);
     let doors = piece(sheet, room, p, &widths, &most, 0, 6, DOORS);
     let departure = piece(sheet, room, doors, &widths, &most, 6, 8, DEPARTURE);
     piece(sheet, room, departure, &widths, &most, 8, 10, DWELL)
@@ -69,13 +69,13 @@ pub fn point(sheet: &[u8], room: &mut [u8], p: PacketSpot) -> PacketSpot
     ensures { λ r. ⌜ Wrote timingPoint (now (sheet .entry)) (now (room .entry)) p (now (room .exit)) r ⌝ }
 {
     let first = arrival(sheet, room, p);
-    let stop = number(
+    let stop_skip_passes = number(
         sheet,
         room,
         first,
         QStopSkipPasses::WIDTH,
         QStopSkipPasses::LARGEST,
     );
-    let next = stop.next;
-    stopping(sheet, room, next, stop.value)
+    let next = stop_skip_passes.next;
+    stopping(sheet, room, next, stop_skip_passes.value)
 }

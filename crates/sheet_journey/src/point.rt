@@ -12,12 +12,12 @@ use sheet_fields::ranged;
 use sheet_fields::row::row;
 
 // The fields of a timing point after the kind of its stop: two rows of five are unrolled, where one of ten would not be.
-fn stopping_row(s: &[u8], at: usize, n: u32, stop: u32) -> SheetStep
+fn stopping_row(s: &[u8], at: usize, n: u32, stop_skip_passes: u32) -> SheetStep
     requires { ⌜ Standing (now s) at ⌝ }
-    ensures { λ r. ⌜ Over (rows.row parts.stoppingWidths (parts.stoppingMost stop)) (now (s .entry)) at n r ⌝ }
+    ensures { λ r. ⌜ Over (rows.row parts.stoppingWidths (parts.stoppingMost «stop_skip_passes»)) (now (s .entry)) at n r ⌝ }
 {
     let widths = grammar::journey::stopping_widths();
-    let most = grammar::journey::stopping_most(stop);
+    let most = grammar::journey::stopping_most(stop_skip_passes);
     match row(s, at, n, &widths[0..5], &most[0..5]) {
         SheetStep::Refused(r, place) => SheetStep::Refused(r, place),
         SheetStep::On(at2, n2) => row(s, at2, n2, &widths[5..10], &most[5..10]),
@@ -51,7 +51,7 @@ fn point(s: &[u8], at: usize, n: u32) -> SheetStep
             FIELD_VALUE,
         ) {
             SheetValue::Refused(r, place) => SheetStep::Refused(r, place),
-            SheetValue::Is(stop, at3, n3) => stopping_row(s, at3, n3, stop),
+            SheetValue::Is(stop_skip_passes, at3, n3) => stopping_row(s, at3, n3, stop_skip_passes),
         },
     }
 }

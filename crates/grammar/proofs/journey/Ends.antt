@@ -43,8 +43,8 @@ pub bit-costs : Costs bits bits
 bit-costs = record {
   low = 51;
   high = 51;
-  is-low = λ stop a. omega arith;
-  is-high = λ stop b. omega arith;
+  is-low = λ stopSkipPasses a. omega arith;
+  is-high = λ stopSkipPasses b. omega arith;
   constrained = 69;
   is-constrained = λ type range start. omega (arith, end-width range start, level-width type);
 }
@@ -54,8 +54,8 @@ unfolding groupsIn
 group-costs = record {
   low = 10;
   high = 15;
-  is-low = λ stop a. omega arith;
-  is-high = λ stop b. by-cases (eqb stop 2) (λ e. rw e (omega arith)) (λ e. rw e (omega arith));
+  is-low = λ stopSkipPasses a. omega arith;
+  is-high = λ stopSkipPasses b. by-cases (eqb stopSkipPasses 2) (λ e. rw e (omega arith)) (λ e. rw e (omega arith));
   constrained = 13;
   is-constrained = λ type range start. let g = constraint-groups type range start in omega (arith, g .first, g .rest);
 }
@@ -110,12 +110,12 @@ module _ {f : Format} {add leave : ℕ} where
   point-weighed : Weigh f add leave → Weigh (timingPoint f) (264 + add) leave
   unfolding groupsIn
   point-weighed w =
-      rw (point-rows f) (loosely (264 + add) leave (row-weighed (more (upTo-lawful 2 2 (narrow tt) (lit< tt)) λ stop _.
-      loosely (4068 * 15 + add) (944 * 51 + leave) (row-weighed w stoppingWidths (stoppingMost stop) (stopping-fits stop)) (stopping stop))
+      rw (point-rows f) (loosely (264 + add) leave (row-weighed (more (upTo-lawful 2 2 (narrow tt) (lit< tt)) λ stopSkipPasses _.
+      loosely (4068 * 15 + add) (944 * 51 + leave) (row-weighed w stoppingWidths (stoppingMost stopSkipPasses) (stopping-fits stopSkipPasses)) (stopping stopSkipPasses))
       arrivalWidths arrivalMost arrival-fits) (omega arith))
     where
-      stopping : (stop : ℕ) → sum bytesWeight stoppingWidths (stoppingMost stop) add + (944 * 51 + leave) ≤ 4068 * 15 + add + sum bitsWeight stoppingWidths (stoppingMost stop) leave
-      stopping stop = by-cases (eqb stop 2) (λ e. rw e (omega arith)) (λ e. rw e (omega arith))
+      stopping : (stopSkipPasses : ℕ) → sum bytesWeight stoppingWidths (stoppingMost stopSkipPasses) add + (944 * 51 + leave) ≤ 4068 * 15 + add + sum bitsWeight stoppingWidths (stoppingMost stopSkipPasses) leave
+      stopping stopSkipPasses = by-cases (eqb stopSkipPasses 2) (λ e. rw e (omega arith)) (λ e. rw e (omega arith))
 
 -- a part n times, where it adds so much
 times-weighed : (part : Format → Format) (each : ℕ) → ((f : Format) (add leave : ℕ) → Weigh f add leave → Weigh (part f) (each + add) leave)

@@ -98,8 +98,8 @@ constraintSum cost type range start =
 pub record Costs (lo hi : Kind → ℕ) : Type 0 where
   pub low : ℕ
   pub high : ℕ
-  pub is-low : (stop a : ℕ) → low + a ≤ sum lo stoppingWidths (stoppingMost stop) a
-  pub is-high : (stop b : ℕ) → sum hi stoppingWidths (stoppingMost stop) b ≤ high + b
+  pub is-low : (stopSkipPasses a : ℕ) → low + a ≤ sum lo stoppingWidths (stoppingMost stopSkipPasses) a
+  pub is-high : (stopSkipPasses b : ℕ) → sum hi stoppingWidths (stoppingMost stopSkipPasses) b ≤ high + b
   pub constrained : ℕ
   pub is-constrained : (type range start : ℕ) → constraintSum hi type range start ≤ constrained
 
@@ -117,8 +117,8 @@ module _ {lo hi : Kind → ℕ} (c : Costs lo hi) where
   point-measured : {f : Format} {a b : ℕ} → Measured lo hi f a b → Measured lo hi (timingPoint f) a (pointHigh + b)
   point-measured {f} {a} {b} m =
       rw (point-rows f) (within a (pointHigh + b)
-      (row-measured (plus (upTo-lawful 2 2 (narrow tt) (lit< tt)) λ stop _.
-      within (c .low + a) (c .high + b) (row-measured m stoppingWidths (stoppingMost stop) (stopping-fits stop)) (c .is-low stop a) (c .is-high stop b))
+      (row-measured (plus (upTo-lawful 2 2 (narrow tt) (lit< tt)) λ stopSkipPasses _.
+      within (c .low + a) (c .high + b) (row-measured m stoppingWidths (stoppingMost stopSkipPasses) (stopping-fits stopSkipPasses)) (c .is-low stopSkipPasses a) (c .is-high stopSkipPasses b))
       arrivalWidths arrivalMost arrival-fits) (omega arith) (omega arith))
 
   abbrev pub constraintHigh : ℕ

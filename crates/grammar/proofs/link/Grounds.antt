@@ -94,7 +94,7 @@ times-refusals one (suc n) f e = one _ (times-refusals one n f e)
 point-refusals : Kept timingPoint
 point-refusals f e =
     each (asValue λ _. refl) λ _. each (asValue λ _. refl) λ _. each (asValue λ _. refl) λ _. each (asValue λ _. refl) λ _. each (asValue λ _. refl) λ _.
-    each (asValue λ _. refl) λ stop. each (asValue λ _. refl) λ _. each (asValue λ _. refl) λ _.
+    each (asValue λ _. refl) λ _. each (asValue λ _. refl) λ _. each (asValue λ _. refl) λ _.
     each (asValue λ _. refl) λ _. each (asValue λ _. refl) λ _. each (asValue λ _. refl) λ _. each (asValue λ _. refl) λ _.
     each (asValue λ _. refl) λ _. each (asValue λ _. refl) λ _. each (asValue λ _. refl) λ _. each (asValue λ _. refl) λ _. e
 

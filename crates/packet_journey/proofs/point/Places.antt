@@ -32,16 +32,16 @@ use Rattle.packet_journey.specs.internal.point_bytes.Windows.{latestWidt
 abbrev eightWidths : List ℕ
 eightWidths = 2 ∷ 1 ∷ 1 ∷ 1 ∷ 15 ∷ 17 ∷ 10 ∷ 1 ∷ []
 
-eight-fits : (kind : ℕ) → fits eightWidths (eightMost kind) ≡ true
-eight-fits kind = by-cases (eqb kind 2) (λ e. rw e) (λ e. rw e)
+eight-fits : (stopSkipPasses : ℕ) → fits eightWidths (eightMost stopSkipPasses) ≡ true
+eight-fits stopSkipPasses = by-cases (eqb stopSkipPasses 2) (λ e. rw e) (λ e. rw e)
 
 -- the largest values after the door side
 abbrev afterDoor : ℕ → List ℕ
-afterDoor kind = mostAt kind 1 ∷ mostAt kind 1 ∷ mostAt kind 1 ∷ mostAt kind 32767 ∷ mostAt kind 86399 ∷ mostAt kind 1023 ∷ mostAt kind 1 ∷ []
+afterDoor stopSkipPasses = mostAt stopSkipPasses 1 ∷ mostAt stopSkipPasses 1 ∷ mostAt stopSkipPasses 1 ∷ mostAt stopSkipPasses 32767 ∷ mostAt stopSkipPasses 86399 ∷ mostAt stopSkipPasses 1023 ∷ mostAt stopSkipPasses 1 ∷ []
 
 -- the point's fields in the rows that are read at once
 abbrev pointRows : ℕ → Format → Format
-pointRows kind f = row (32 ∷ []) (4294967295 ∷ []) (row latestWidths latestMost (row marksWidths marksMost (row eightWidths (eightMost kind) f)))
+pointRows stopSkipPasses f = row (32 ∷ []) (4294967295 ∷ []) (row latestWidths latestMost (row marksWidths marksMost (row eightWidths (eightMost stopSkipPasses) f)))
 
 -- no value has more than five bytes
 groups-small : (vs : List ℕ) → groupsAll vs ≤ 5 * length vs

@@ -26,8 +26,8 @@ abbrev pub stoppingWidths : List ℕ
 stoppingWidths = 2 ∷ 1 ∷ 2 ∷ 1 ∷ 1 ∷ 1 ∷ 15 ∷ 17 ∷ 10 ∷ 1 ∷ []
 
 abbrev pub stoppingMost : ℕ → List ℕ
-stoppingMost stop =
-    1 ∷ 1 ∷ mostAt stop 3 ∷ mostAt stop 1 ∷ mostAt stop 1 ∷ mostAt stop 1 ∷ mostAt stop 32767 ∷ mostAt stop 86399 ∷ mostAt stop 1023 ∷ mostAt stop 1 ∷ []
+stoppingMost stopSkipPasses =
+    1 ∷ 1 ∷ mostAt stopSkipPasses 3 ∷ mostAt stopSkipPasses 1 ∷ mostAt stopSkipPasses 1 ∷ mostAt stopSkipPasses 1 ∷ mostAt stopSkipPasses 32767 ∷ mostAt stopSkipPasses 86399 ∷ mostAt stopSkipPasses 1023 ∷ mostAt stopSkipPasses 1 ∷ []
 
 -- a temporary constraint after its range, and after its type
 abbrev pub afterRange : ℕ → ℕ → Format → Format

@@ -26,4 +26,4 @@ leavingWidths = 17 ∷ 10 ∷ 1 ∷ []
 
 -- "the last eight fields (48 bits, from the door side on)", by the kind of the stop
 abbrev pub eightMost : ℕ → List ℕ
-eightMost stop = mostAt stop 3 ∷ mostAt stop 1 ∷ mostAt stop 1 ∷ mostAt stop 1 ∷ mostAt stop 32767 ∷ mostAt stop 86399 ∷ mostAt stop 1023 ∷ mostAt stop 1 ∷ []
+eightMost stopSkipPasses = mostAt stopSkipPasses 3 ∷ mostAt stopSkipPasses 1 ∷ mostAt stopSkipPasses 1 ∷ mostAt stopSkipPasses 1 ∷ mostAt stopSkipPasses 32767 ∷ mostAt stopSkipPasses 86399 ∷ mostAt stopSkipPasses 1023 ∷ mostAt stopSkipPasses 1 ∷ []
