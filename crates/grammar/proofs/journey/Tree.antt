@@ -41,7 +41,7 @@ where-most false most = omega arith
 most-where : (used : Bool) (most width : ℕ) → most < 2 ^ width → mostWhere used most < 2 ^ width
 most-where used most width h = omega (arith, where-most used most)
 
--- their widths, and their highest numbers in a sheet
+-- the widths of the end and the speed, and their highest numbers in a sheet
 pub end-width : (range start : ℕ) → dTcEndLocation range start .width ≡ 24
 end-width range start = by-range (λ k. k .width ≡ 24) range start refl refl
 
@@ -54,7 +54,7 @@ end-highest range start = by-range (λ k. k .highest ≤ 16777215) range start (
 level-highest : (type : ℕ) → vSpeedLevel type .highest ≤ 604
 level-highest type = by-type (λ k. k .highest ≤ 604) type (le-refl _) (lit≤ tt)
 
--- the bytes of a constraint's numbers after its type and its range, those after the start apart
+-- the most bytes of a constraint's start in a sheet, and of the numbers after the start
 pub record Groups (type range start : ℕ) : Type 0 where
   pub first : length (groupsIn (dTcStartLocation range .highest)) ≤ 4
   pub rest : length (groupsIn (dTcEndLocation range start .highest)) + (length (groupsIn (qTcFront type .highest)) + (length (groupsIn (vSpeedLevel type .highest))
@@ -94,7 +94,7 @@ abbrev pub constraintSum : (Kind → ℕ) → ℕ → ℕ → ℕ → ℕ
 constraintSum cost type range start =
     cost (dTcStartLocation range) + (cost (dTcEndLocation range start) + (cost (qTcFront type) + (cost (vSpeedLevel type) + (cost (qLowAdhesionRate type) + cost noCurrent))))
 
--- bounds of the parts that depend on the kind of the stop, or on the type and the range of a constraint
+-- bounds of the parts that depend on Q_Stop_Skip_Passes, or on the type and the range of a constraint
 pub record Costs (lo hi : Kind → ℕ) : Type 0 where
   pub low : ℕ
   pub high : ℕ
@@ -103,7 +103,7 @@ pub record Costs (lo hi : Kind → ℕ) : Type 0 where
   pub constrained : ℕ
   pub is-constrained : (type range start : ℕ) → constraintSum hi type range start ≤ constrained
 
--- a part n times, where it adds at most so much
+-- a part n times, where the part adds at most high
 times-measured : {lo hi : Kind → ℕ} (part : Format → Format) (high : ℕ) → ((f : Format) (a b : ℕ) → Measured lo hi f a b → Measured lo hi (part f) a (high + b))
     → {f : Format} {a b : ℕ} → Measured lo hi f a b → (n : ℕ) → Measured lo hi (times part n f) a (n * high + b)
 unfolding times

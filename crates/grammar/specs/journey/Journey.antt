@@ -5,7 +5,7 @@ use Rattle.format.specs.Format.{Format, end, field, then, times}
 use Rattle.grammar.specs.segment.Segment.{header}
 use Rattle.kinds.specs.journey.Kinds.{journeyNumber, qJpStatus, nIterSp, qSpDir, nidTp, tLatestArrivalDate, tLatestArrivalSeconds, tArrivalWindow, qTpAlignment, qStopSkipPasses, qTpInformation, qDayLightSaving, qOpeningDoorSide, qCentralisedOpening, qRelaxedCoupler, qTrainHold, tDepartureDate, tDepartureSeconds, tMinimumDwellTime, qAutomaticClosing, qTcType, qTcRange, dTcStartLocation, dTcEndLocation, qTcFront, vSpeedLevel, qLowAdhesionRate}
 
--- "the last eight fields (48 bits, from the door side on)", by the kind of the stop
+-- "the last eight fields (48 bits, from the door side on)", by Q_Stop_Skip_Passes
 abbrev pub stoppingPoint : ℕ → Format → Format
 stoppingPoint stopSkipPasses f =
     then (qOpeningDoorSide stopSkipPasses) (then (qCentralisedOpening stopSkipPasses) (then (qRelaxedCoupler stopSkipPasses) (then (qTrainHold stopSkipPasses)

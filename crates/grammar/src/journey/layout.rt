@@ -1,4 +1,4 @@
-// How many bits the parts of a journey's packet have, and where their fields stand, in bits from the part's start.
+// Layout of a journey's packet in bits: places of fields, from the start of their part, and lengths of parts.
 use kinds::body::MCurrent;
 use kinds::body::MSpVersion;
 use kinds::body::NIter;
@@ -29,20 +29,24 @@ use kinds::journey::TLatestArrivalSeconds;
 use kinds::journey::TMinimumDwellTime;
 use kinds::journey::VSpeedLevel;
 
-// A segment: NID_SP and the versions after NID_C, and the bits up to its timing points.
+// Place of NID_SP in a segment, in bits from its start.
 pub const IDENTITY: usize = NidC::WIDTH as usize;
 
+// Place of the major version in a segment, in bits from its start.
 pub const VERSIONS: usize = IDENTITY + NidSp::WIDTH as usize;
 
+// Bits of a segment before its timing points.
 pub const SEGMENT_HEAD: usize = VERSIONS
     + (2 * MSpVersion::WIDTH + QSpDir::WIDTH + NIter::WIDTH) as usize;
 
-// A timing point: the latest arrival after NID_TP, T_Arrival_Window, the door side, the departure's seconds; and its bits, "A timing point has 129 bits".
+// Place of T_Latest_Arrival_Date in a timing point, in bits from its start.
 pub const LATEST: usize = NidTp::WIDTH as usize;
 
+// Place of T_Arrival_Window in a timing point, in bits from its start.
 pub const MARKS: usize = LATEST
     + (TLatestArrivalDate::WIDTH + TLatestArrivalSeconds::WIDTH) as usize;
 
+// Place of Q_Opening_Door_Side in a timing point, in bits from its start.
 pub const DOORS: usize = MARKS
     + (TArrivalWindow::WIDTH
         + QTpAlignment::WIDTH
@@ -50,6 +54,7 @@ pub const DOORS: usize = MARKS
         + QTpInformation::WIDTH
         + QDayLightSaving::WIDTH) as usize;
 
+// Place of T_Departure_Seconds in a timing point, in bits from its start.
 pub const LEAVING: usize = DOORS
     + (QOpeningDoorSide::WIDTH
         + QCentralisedOpening::WIDTH
@@ -57,13 +62,16 @@ pub const LEAVING: usize = DOORS
         + QTrainHold::WIDTH
         + TDepartureDate::WIDTH) as usize;
 
+// Bits of a timing point: "A timing point has 129 bits".
 pub const POINT: usize = LEAVING
     + (TDepartureSeconds::WIDTH + TMinimumDwellTime::WIDTH + QAutomaticClosing::WIDTH) as usize;
 
-// A temporary constraint: its end, Q_FRONT, and its bits.
+// Place of D_TC_End_Location in a temporary constraint, in bits from its start.
 pub const END: usize = (QTcType::WIDTH + QTcRange::WIDTH + DTcStartLocation::WIDTH) as usize;
 
+// Place of Q_FRONT in a temporary constraint, in bits from its start.
 pub const FRONT: usize = END + DTcEndLocation::WIDTH as usize;
 
+// Bits of a temporary constraint.
 pub const CONSTRAINT: usize = FRONT
     + (QTcFront::WIDTH + VSpeedLevel::WIDTH + QLowAdhesionRate::WIDTH + MCurrent::WIDTH) as usize;

@@ -48,7 +48,7 @@ qTpInformation = upTo 2 1
 abbrev pub qDayLightSaving : Kind
 qDayLightSaving = upTo 1 1
 
--- "At a passing point the last eight fields (48 bits, from the door side on) are 0": the largest value, by Q_Stop_Skip_Passes, of which 2 is the passing point
+-- "At a passing point the last eight fields (48 bits, from the door side on) are 0": the largest value, by Q_Stop_Skip_Passes, which is 2 at a passing point
 abbrev pub mostAt : ℕ → ℕ → ℕ
 mostAt stopSkipPasses most = cond (eqb stopSkipPasses 2) 0 most
 

@@ -1,4 +1,4 @@
--- `journey::stopping_most` meets its contract.
+-- `grammar::journey::stopping_most` meets its contract.
 use borrow.Author.Tests.{ne-eqb}
 use Rattle.grammar.proofs.journey.stopping_most.Statement.{statement}
 use Rattle.grammar.proofs.journey.stopping_most.Tie as tie

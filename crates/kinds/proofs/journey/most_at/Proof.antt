@@ -1,4 +1,4 @@
--- `journey_kinds::most_at` meets its contract.
+-- `kinds::journey::most_at` meets its contract.
 use borrow.Author.Tests.{ne-eqb}
 use Rattle.kinds.proofs.journey.most_at.Statement.{statement}
 use Rattle.kinds.proofs.journey.most_at.Tie as tie

@@ -1,4 +1,4 @@
--- `journey_kinds::unless_passing` meets its contract.
+-- `kinds::journey::unless_passing` meets its contract.
 use mathlib.Core.Path.{ap, _∙_}
 use Rattle.kinds.specs.Kind.{upTo}
 use borrow.Author.Needs.{needs}
