@@ -1,3 +1,3 @@
--- The laws of the module point_bytes.
+-- Laws of the module `point_bytes`.
 pub mod Held
 pub mod Values

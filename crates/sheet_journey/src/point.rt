@@ -1,4 +1,5 @@
-// The timing points of a journey's sheet judged, number by number.
+// Judges the timing points of a journey's sheet, and counts the bits of their values in the packet.
+// Parameters: `s` is the sheet, `at` the byte where a part begins, `n` the packet bits before it modulo 2^32.
 ghost use Rattle.format.specs.Format.{times};
 ghost use Rattle.grammar.specs.internal.rows.Rows as rows;
 ghost use Rattle.grammar.specs.journey.Journey as journey;
@@ -11,7 +12,8 @@ use sheet_fields::SheetValue;
 use sheet_fields::ranged;
 use sheet_fields::row::row;
 
-// The fields of a timing point after the kind of its stop: two rows of five are unrolled, where one of ten would not be.
+// Judges Q_TP_Information to Q_Automatic_Closing, by Q_Stop_Skip_Passes.
+// For speed, judges two rows of five fields, which the compiler unrolls; it would not unroll one row of ten.
 fn stopping_row(s: &[u8], at: usize, n: u32, stop_skip_passes: u32) -> SheetStep
     requires { ⌜ Standing (now s) at ⌝ }
     ensures { λ r. ⌜ Over (rows.row parts.stoppingWidths (parts.stoppingMost «stop_skip_passes»)) (now (s .entry)) at n r ⌝ }
@@ -24,7 +26,7 @@ fn stopping_row(s: &[u8], at: usize, n: u32, stop_skip_passes: u32) -> SheetStep
     }
 }
 
-// The fields before it.
+// Judges NID_TP to Q_TP_Alignment.
 fn arrival_row(s: &[u8], at: usize, n: u32) -> SheetStep
     requires { ⌜ Standing (now s) at ⌝ }
     ensures { λ r. ⌜ Over (rows.row parts.arrivalWidths parts.arrivalMost) (now (s .entry)) at n r ⌝ }
@@ -34,7 +36,7 @@ fn arrival_row(s: &[u8], at: usize, n: u32) -> SheetStep
     row(s, at, n, &widths, &most)
 }
 
-// A timing point.
+// Judges a timing point.
 fn point(s: &[u8], at: usize, n: u32) -> SheetStep
     requires { ⌜ Standing (now s) at ⌝ }
     ensures { λ r. ⌜ Over journey.timingPoint (now (s .entry)) at n r ⌝ }
@@ -56,7 +58,7 @@ fn point(s: &[u8], at: usize, n: u32) -> SheetStep
     }
 }
 
-// The timing points of a segment.
+// Judges `count` timing points, one after another.
 pub fn points(s: &[u8], at: usize, n: u32, count: u32) -> SheetStep
     requires { ⌜ Standing (now s) at ⌝ }
     ensures { λ r. ⌜ Over (times journey.timingPoint count) (now (s .entry)) at n r ⌝ }

@@ -1,4 +1,4 @@
--- `judge_journey::fields` meets its contract.
+-- `packet_journey::fields` meets its contract.
 use Rattle.format.proofs.Ways.{over-on, over-off}
 use Rattle.packet_journey.proofs.Looping.{journey-over}
 use borrow.Author.Needs.{needs}

@@ -1,4 +1,4 @@
--- The bytes of a timing point's values, a few fields at once, from what was tested and counted.
+-- The bytes of a timing point's values, several fields at once, from what the code tested and counted.
 use mathlib.Core.Path.{_≡_, refl}
 use mathlib.Core.List.{_++_}
 use Prim.Native.Nat.{ℕ, _+_, _/_, _%_, _^_, _≤_, _<_}
@@ -40,7 +40,7 @@ module _ (t : ℕ) where
       all-bytes marksMost (parts marksWidths t) (omega arith, (h, (i, (j, (omega arith, tt)))))
       (rw p (omega (arith, ea, one-byte (t / 32 % 4) (omega arith), one-byte (t / 8 % 4) (omega arith), one-byte (t / 2 % 4) (omega arith), one-byte (t / 1 % 2) (omega arith))))
 
--- ---- the last eight
+-- ---- the last eight fields
 
 module _ (doors leaving : ℕ) where
   pub leaving-none : leaving < 268435456 → 86399 < leaving / 2048 → 0 ≡ rowBytes (eightMost 0) (parts doorsWidths doors ++ parts leavingWidths leaving)

@@ -1,4 +1,4 @@
--- `judge_point::cut_point` meets its contract.
+-- `packet_journey::point::cut_point` meets its contract.
 use lib.Dec.{lit≤}
 use Rattle.grammar.specs.internal.rows.Rows.{row}
 use Rattle.grammar.specs.internal.journey.Parts.{stoppingWidths, stoppingMost}

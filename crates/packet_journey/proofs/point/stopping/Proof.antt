@@ -1,4 +1,4 @@
--- `judge_point::stopping` meets its contract.
+-- `packet_journey::point::stopping` meets its contract.
 use Rattle.grammar.proofs.journey.Parts.{stopping-fits}
 use borrow.Author.Needs.{needs}
 use Rattle.packet_journey.proofs.point.stopping.Statement.{statement}

@@ -1,4 +1,4 @@
--- `point_bytes::eight_bytes` meets its contract.
+-- `packet_journey::point_bytes::eight_bytes` meets its contract.
 use Rattle.packet_journey.proofs.point_bytes.Values.{not-passing-eight, passing-doors, passing-leaving, passing-some}
 use borrow.Author.Needs.{needs}
 use Rattle.packet_journey.proofs.point_bytes.eight_bytes.Statement.{statement}

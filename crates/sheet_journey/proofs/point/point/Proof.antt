@@ -1,4 +1,4 @@
--- `sheet_points::point` meets its contract.
+-- `sheet_journey::point::point` meets its contract.
 use Rattle.format.proofs.Ways.{over-on, over-off, value-on, value-off}
 use Rattle.grammar.specs.internal.rows.Rows.{row}
 use Rattle.grammar.specs.internal.journey.Parts.{stoppingWidths, stoppingMost}

@@ -1,4 +1,4 @@
--- `sheet_points::stopping_row` meets its contract.
+-- `sheet_journey::point::stopping_row` meets its contract.
 use lib.ListN.{drop}
 use Rattle.format.proofs.Ways.{over-on, over-off}
 use Rattle.grammar.specs.internal.rows.Rows.{row}
