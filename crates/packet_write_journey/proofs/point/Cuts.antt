@@ -1,4 +1,4 @@
--- The rows of a timing point in the three pieces in which they are put.
+-- Each row of a timing point is the three pieces in which it is written.
 use mathlib.Core.Path.{refl}
 use Prim.Native.Nat.{ℕ}
 use lib.Dec.{lit≤, eqb}

@@ -1,4 +1,4 @@
--- `fill_point::point` meets its contract.
+-- `packet_write_journey::point::point` meets its contract.
 use lib.Dec.{lit<, lit≤}
 use Rattle.packet_write_journey.proofs.point.Steps.{point-arrival, point-stop-skip-passes, point-stopping, point-wrote}
 use borrow.Author.Needs.{needs}

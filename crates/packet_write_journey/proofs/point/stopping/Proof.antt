@@ -1,4 +1,4 @@
--- `fill_point::stopping` meets its contract.
+-- `packet_write_journey::point::stopping` meets its contract.
 use Rattle.packet_write_journey.proofs.point.Cuts.{stopping-pieces}
 use Rattle.packet_write_journey.proofs.row.Three.{three-first, three-second, three-third, three-wrote}
 use borrow.Author.Needs.{needs}
