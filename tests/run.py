@@ -33,6 +33,26 @@ def headed():
                     yield f"{path.relative_to(ROOT)} does not start with a sentence"
 
 
+def commented():
+    """Every function whose body has more than one line has a comment above it."""
+    for crate in CRATES:
+        for path in sources(crate, "src", ".rt"):
+            lines = path.read_text().splitlines()
+            for line, _, name, head in functions(path):
+                first, indent = line + head.count("\n"), re.match(" *", lines[line - 1]).group()
+                if lines.index(indent + "}", first) - first > 1 and not lines[line - 2].strip().startswith("//"):
+                    yield f"{path.relative_to(ROOT)}:{line}: {name} has no comment"
+
+
+def plain():
+    """No comment begins with "The same" or contains "Assumes nothing"."""
+    for crate in CRATES:
+        for path in sources(crate, "src", ".rt") + sources(crate, "specs", ".antt") + sources(crate, "proofs", ".antt"):
+            for number, line in enumerate(path.read_text().splitlines(), 1):
+                if re.match(r"\s*(//|--)[ -]*(the same\b|.*assumes nothing)", line, re.I):
+                    yield f"{path.relative_to(ROOT)}:{number}: {line.strip()}"
+
+
 def no_axioms():
     """No axiom stands in the repository, and no crate's proof reports one; a program reports that the C library reads and writes, and no other."""
     for crate in CRATES:
@@ -201,7 +221,7 @@ def imports():
 
 
 TESTS = {
-    "sources": (contracts, headed, imports, appliable, up_to_date, contracted, cited, promised_files, promised_names, short_sentences, placed),
+    "sources": (contracts, headed, commented, plain, imports, appliable, up_to_date, contracted, cited, promised_files, promised_names, short_sentences, placed),
     "logs": (no_axioms, quick, refused),
 }
 
