@@ -9,9 +9,9 @@ use lib.ListN.{drop, getD}
 use Rattle.bits.proofs.Tests.{by-cases}
 use Rattle.format.specs.Grounds.{Among, first, later}
 use Rattle.speed.specs.declared.Train.{Train}
-use Rattle.speed.specs.Speed.{lowest, instead, elementOf, afterElement, changesFrom, segmentLength, profileOf, speedIn}
+use Rattle.speed.specs.Speed.{lowest, instead, heldSpeeds, elementOf, afterElement, changesFrom, elementsFrom, segmentLength, profileOf, speedIn}
 use Rattle.speed.proofs.Laws.{some-holds}
-use Rattle.promises.specs.Promised.{heldAt, LowestOf}
+use Rattle.promises.specs.Promised.{LowestOf}
 
 lowest-front : (v : ℕ) (l : List ℕ) → lowest v l ≤ v
 lowest-front v [] = omega arith
@@ -39,7 +39,7 @@ lowest-of v l = record { one = lowest-among v l; lowest = under }
     under w first = lowest-front w l
     under w (later a) = lowest-under v w a
 
-pub lowest-held : (t : Train) (x : ℕ) (s : List ℕ) → x < segmentLength s → LowestOf (speedIn t x s) (heldAt t x s)
+pub lowest-held : (t : Train) (x : ℕ) (s : List ℕ) → x < segmentLength s → LowestOf (speedIn t x s) (heldSpeeds t (segmentLength s) x (elementsFrom 0 (profileOf s)))
 lowest-held t x s h =
     let p = profileOf s in
     let changed = changesFrom 0 (getD (afterElement p) 0 0) (drop 1 (afterElement p)) in

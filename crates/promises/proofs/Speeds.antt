@@ -1,5 +1,5 @@
 -- The promises on speeds, for a packet and a sheet by one law: when a question is answered, with which speed, and on which ground it is refused.
-use mathlib.Core.Path.{_≡_, refl, sym, ap, _∙_}
+use mathlib.Core.Path.{_≡_, refl, sym, ap, ap₂, _∙_}
 use mathlib.Core.Bool.{true, false}
 use mathlib.Core.List.{List}
 use mathlib.Core.Logic.{_↔_}
@@ -11,13 +11,16 @@ use Rattle.bits.specs.Bits.{Bytes}
 use Rattle.bits.proofs.Tests.{by-cases}
 use Rattle.kinds.specs.declared.Item.{Item}
 use Rattle.format.specs.Format.{Read, accepted, refused, answerOf, sheetNumbers}
+use Rattle.format.specs.Conforming.{InPacket, InSheet}
 use Rattle.format.specs.Grounds.{Ending, grounded, OneEnding}
 use Rattle.speed.specs.declared.Train.{Train}
-use Rattle.speed.specs.Speed.{validTrain, segmentLength, speedIn, inFives}
+use Rattle.speed.specs.Speed.{Element, validTrain, heldSpeeds, permitted, elementsFrom, segmentLength, profileOf, speedIn, inFives}
+use Rattle.speed.specs.Standing.{SegmentStands}
+use Rattle.speed.proofs.Standing.{segment-stands, segment-only, packet-count, sheet-count}
 use Rattle.speed_question.specs.declared.Speed.{Speed}
 use Rattle.speed_question.specs.Question.{Brought, mediumOf, noSpeed, speedOfValues, readAs, permittedSpeed}
 use Rattle.speed_question.proofs.Asked.{either-medium, asked, neither-first}
-use Rattle.promises.specs.Promised.{goodIn, SegmentValues, SegmentOfValues, Answerable, LengthOf, heldAt, LowestOf}
+use Rattle.promises.specs.Promised.{goodIn, SegmentValues, SegmentOfValues, Answerable, LengthOf, TheirElements, LowestOf}
 use Rattle.promises.specs.Refused.{Refuses, SpeedGround}
 use Rattle.promises.specs.Ranges.{SpeedEnds, OneOutcome}
 use Rattle.promises.proofs.Values.{segments}
@@ -25,6 +28,23 @@ use Rattle.promises.proofs.Held.{lowest-held}
 use Rattle.promises.proofs.Standing.{length-stands}
 use Rattle.promises.proofs.Refused.{segments-on, one-outcome, one-ending, of-values, taken, own-refused, by-judge}
 use Rattle.promises.proofs.Ranges.{packet-speed-fives, highest, own-listed, late-listed}
+
+-- the elements that stand in the values of a segment are those that its numbers give by their order, and so is L_SP
+stands-only : (b : Brought) (l : List Item) (es : List Element) (w : SegmentStands (goodIn b) 0 l es)
+    → (w .length .sheet ≡ segmentLength (sheetNumbers l)) × (es ≡ elementsFrom 0 (profileOf (sheetNumbers l)))
+stands-only Brought.packet l es w = segment-only InPacket packet-count 0 l es w
+stands-only Brought.sheet l es w = segment-only InSheet sheet-count 0 l es w
+
+-- "for values that conform": exactly one list of elements is theirs
+pub elements-theirs : (b : Brought) (l : List Item) → SegmentValues b l → TheirElements b l
+elements-theirs b l c = record { elements = elementsFrom 0 (profileOf (sheetNumbers l)); stand = stand b c; only = λ es w. stands-only b l es w .1 }
+  where
+    stand : (b : Brought) → SegmentValues b l → SegmentStands (goodIn b) 0 l (elementsFrom 0 (profileOf (sheetNumbers l)))
+    stand Brought.packet c = segment-stands InPacket packet-count 0 l c
+    stand Brought.sheet c = segment-stands InSheet sheet-count 0 l c
+
+abbrev answered : ℕ → Speed
+answered v = record { refusal = 0; place = 0; speed = v }
 
 module _ (medium : ℕ) (s : List ℕ) (t : Train) (x : ℕ) where
   -- ==== "Every permitted speed is the one the speed rules give."
@@ -58,9 +78,20 @@ module _ (medium : ℕ) (s : List ℕ) (t : Train) (x : ℕ) where
       go b k (accepted l) e d = inside b k l e d
       go b k (refused q place) e d = absurd (omega (arith, segments b .refuses s ok q place e))
 
-  -- the answer is "the lowest speed of the elements that hold there": some element holds, so it is never a speed that no element has
-  pub permitted-speed-held : (c : Answerable medium s t x) → LowestOf (permittedSpeed medium s t x .speed) (heldAt t x (sheetNumbers (c .values)))
-  permitted-speed-held c = rw (permitted-speed-value c) (lowest-held t x (sheetNumbers (c .values)) (c .inside))
+  -- in the words of the tree: the answer is the rule's over the elements that stand in the values
+  pub permitted-speed-rule : (c : Answerable medium s t x) (es : List Element) (w : SegmentStands (goodIn (c .brought)) 0 (c .values) es)
+      → permittedSpeed medium s t x ≡ record { refusal = 0; place = 0; speed = permitted t (w .length .sheet) x es }
+  permitted-speed-rule c es w =
+      let p = stands-only (c .brought) (c .values) es w in
+      permitted-speed-value c
+      ∙ ap₂ (λ (n : ℕ) (m : List Element). answered (permitted t n x m)) (sym (p .0)) (sym (p .1))
+
+  -- it is "the lowest speed of the elements that hold there": some element holds, so it is never a speed that no element has
+  pub permitted-speed-held : (c : Answerable medium s t x) (es : List Element) (w : SegmentStands (goodIn (c .brought)) 0 (c .values) es)
+      → LowestOf (permittedSpeed medium s t x .speed) (heldSpeeds t (w .length .sheet) x es)
+  permitted-speed-held c es w =
+      let p = stands-only (c .brought) (c .values) es w in
+      rw (permitted-speed-value c, p .0, p .1) (lowest-held t x (sheetNumbers (c .values)) (c .inside))
 
   -- "a refusal .. returns its number with .. speed .. 0"
   pub permitted-speed-none : (permittedSpeed medium s t x .refusal ≡ 0 → ⊥) → permittedSpeed medium s t x .speed ≡ 0

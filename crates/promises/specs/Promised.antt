@@ -19,7 +19,8 @@ use Rattle.grammar.specs.segment.Judgement.{fromPacket, fromSheet, toPacket, to
 use Rattle.grammar.specs.link.Link.{linkFields, toEitherPacket, toEitherSheet}
 use Rattle.grammar.specs.link.Grounds.{EitherPacketValues, EitherSheetValues}
 use Rattle.speed.specs.declared.Train.{Train}
-use Rattle.speed.specs.Speed.{validTrain, heldSpeeds, elementsFrom, segmentLength, profileOf, inFives}
+use Rattle.speed.specs.Speed.{Element, validTrain, segmentLength, inFives}
+use Rattle.speed.specs.Standing.{SegmentStands}
 use Rattle.speed_question.specs.declared.Speed.{Speed}
 use Rattle.speed_question.specs.Question.{Brought, packet, sheet, mediumOf}
 use Rattle.convert.specs.Convert.{Outcome}
@@ -156,9 +157,11 @@ pub record LengthOf (Good : Kind → Item → Type 0) (l : List Item) (n : ℕ) 
   pub stands : StandsAt Good (sheetFields wireChanges) lSp l item
   pub number : n ≡ item .sheet
 
--- "the elements that hold there", at x: the speed of each
-abbrev pub heldAt : Train → ℕ → List ℕ → List ℕ
-heldAt t x s = heldSpeeds t (segmentLength s) x (elementsFrom 0 (profileOf s))
+-- "Element 0 of the profile starts at 0 and each change starts the next": the elements that stand in a segment's values, and no others do
+pub record TheirElements (b : Brought) (l : List Item) : Type 0 where
+  pub elements : List Element
+  pub stand : SegmentStands (goodIn b) 0 l elements
+  pub only : (es : List Element) → SegmentStands (goodIn b) 0 l es → es ≡ elements
 
 -- "the lowest speed of the elements that hold there": v is one of the speeds l, and none of them is lower
 pub record LowestOf (v : ℕ) (l : List ℕ) : Type 0 where

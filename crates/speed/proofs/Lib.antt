@@ -1,4 +1,5 @@
 pub mod Laws
 pub mod Lowering
+pub mod Standing
 pub mod Bounds
 pub mod Desk

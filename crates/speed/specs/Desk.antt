@@ -44,6 +44,18 @@ twoFigures = segmentWith (100 ∷ 0 ∷ 2 ∷ 0 ∷ 100 ∷ 120 ∷ 0 ∷ 165 �
 abbrev pub severalEntries : List ℕ
 severalEntries = segmentWith (100 ∷ 0 ∷ 5 ∷ 0 ∷ 130 ∷ 115 ∷ 0 ∷ 165 ∷ 140 ∷ 0 ∷ 130 ∷ 112 ∷ 0 ∷ 100 ∷ 90 ∷ 0 ∷ 130 ∷ 125 ∷ 0 ∷ [])
 
+-- 100 km/h; from 500 on 140, for 100 mm 130, in P position 120, in G position at most 110
+abbrev pub changeEntries : List ℕ
+changeEntries = segmentWith (100 ∷ 1 ∷ 0 ∷ 1 ∷ 500 ∷ 140 ∷ 1 ∷ 3 ∷ 0 ∷ 100 ∷ 130 ∷ 1 ∷ 0 ∷ 120 ∷ 2 ∷ 1 ∷ 110 ∷ [])
+
+-- 140 km/h; at most 125, 105 and 115 for passengers
+abbrev pub severalLimits : List ℕ
+severalLimits = segmentWith (140 ∷ 0 ∷ 3 ∷ 2 ∷ 2 ∷ 125 ∷ 2 ∷ 2 ∷ 105 ∷ 2 ∷ 2 ∷ 115 ∷ 0 ∷ [])
+
+-- 60 km/h with Q_FRONT 0, from 500 on 100 and from 600 on 140, both with Q_FRONT 1
+abbrev pub shortElement : List ℕ
+shortElement = segmentWith (60 ∷ 0 ∷ 0 ∷ 2 ∷ 500 ∷ 100 ∷ 1 ∷ 0 ∷ 600 ∷ 140 ∷ 1 ∷ 0 ∷ [])
+
 -- the table of all questions on speed
 abbrev pub speeds : List SpeedCase
 speeds =
@@ -75,4 +87,16 @@ speeds =
     ∷ record { train = canted 150; x = 0; numbers = severalEntries; answer = 112 }
     ∷ record { train = canted 130; x = 0; numbers = severalEntries; answer = 112 }
     ∷ record { train = canted 100; x = 0; numbers = severalEntries; answer = 90 }
+    -- "N_ITER 5 and its specific entries": those of a change
+    ∷ record { train = canted 80; x = 500; numbers = changeEntries; answer = 140 }
+    ∷ record { train = canted 100; x = 500; numbers = changeEntries; answer = 130 }
+    ∷ record { train = trainOf 200 80 true false false; x = 500; numbers = changeEntries; answer = 120 }
+    ∷ record { train = trainOf 200 80 false true false; x = 500; numbers = changeEntries; answer = 110 }
+    ∷ record { train = trainOf 200 80 false true false; x = 499; numbers = changeEntries; answer = 100 }
+    -- "the lowest of this and all entries with Q_DIFF 2 whose category it belongs to"
+    ∷ record { train = trainOf 200 80 false false true; x = 0; numbers = severalLimits; answer = 105 }
+    -- "before its end plus the train's length", past the end of the next element too
+    ∷ record { train = plain; x = 599; numbers = shortElement; answer = 60 }
+    ∷ record { train = plain; x = 699; numbers = shortElement; answer = 60 }
+    ∷ record { train = plain; x = 700; numbers = shortElement; answer = 140 }
     ∷ []

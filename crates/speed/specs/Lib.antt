@@ -1,2 +1,3 @@
 pub mod Speed
+pub mod Standing
 pub mod Desk
