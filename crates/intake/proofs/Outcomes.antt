@@ -1,12 +1,12 @@
 -- The steps of the intake over plain values: a delivery, the completion, and the question for the sheet.
 use mathlib.Core.Path.{_≡_, refl}
-use mathlib.Core.Bool.{and-false}
+use mathlib.Core.Bool.{true, false, and-false}
 use mathlib.Core.List.{List, [], _++_, append-nil}
 use Prim.Native.Nat.{ℕ, _+_, _-_, _≤_, _<_}
 use native.Mathlib.Nat.{le-refl, le-of-eq}
 use native.Mathlib.Omega.{arith}
 use borrow.Author.Tests.{le-leb, lt-leb, ne-eqb}
-use lib.Dec.{leb}
+use lib.Dec.{eqb, leb}
 use lib.ListN.{length, length-drop, take, drop, drop-of-length-le}
 use lib.Seq.{take-all, drop-drop}
 use borrow.Rule.Slice.PartMut.{putMid, midOf}
@@ -21,7 +21,7 @@ use Rattle.verdict.specs.internal.Verdict.{verdictOf, sizeFrom, packetVerdict}
 use Rattle.convert.specs.declared.Converted.{Converted}
 use Rattle.convert.specs.Convert.{Outcome, packetToSheet}
 use Rattle.intake.specs.declared.Intake.{Intake}
-use Rattle.intake.specs.Intake.{gathering, passed, judgedAs, gathered, Delivered, gathersAt, delivered, judgedOf, completed, asked}
+use Rattle.intake.specs.Intake.{gathering, passed, judgedAs, gathered, Delivered, gathersAt, delivered, judgedOf, completed, isVerdict, sheetOf, asked}
 
 -- ---- a delivery that is written after n bytes
 
@@ -104,9 +104,29 @@ module _ (n : ℕ) (room : List ℕ) where
 
 -- ---- the question for the sheet
 
+module _ (r place : ℕ) where
+  pub late-verdict : 8 < r → isVerdict r place ≡ eqb r 13
+  late-verdict h = rw (lt-leb r 8 h)
+
+  pub placed-verdict : 3 < r → r < 8 → isVerdict r place ≡ true
+  placed-verdict h l = rw (le-leb r 8 (omega arith), lt-leb r 3 h, ne-eqb r 8 (λ e. omega arith))
+
+  pub placeless-verdict : r ≤ 3 → isVerdict r place ≡ eqb place 0
+  placeless-verdict h = rw (le-leb r 8 (omega arith), le-leb r 3 h)
+
+  pub room-verdict : r ≡ 8 → isVerdict r place ≡ eqb place 0
+  room-verdict e = rw e
+
 -- the answer of a refused conversion
 abbrev answered : ℕ → ℕ → Converted
 answered r place = record { refusal = r; place = place; length = 0 }
+
+module _ (n : ℕ) (taken room : List ℕ) where
+  pub cut-sheet : length taken < n → {r : Converted} → r ≡ answered 14 0 → _≡_ {A = Outcome} (record { answer = r; room = room }) (sheetOf n taken room)
+  cut-sheet h q = rw (lt-leb n (length taken) h, q)
+
+  pub whole-sheet : n ≤ length taken → {o : Outcome} → o ≡ packetToSheet (take n taken) room → o ≡ sheetOf n taken room
+  whole-sheet h q = rw (le-leb n (length taken) h) q
 
 module _ (i : Intake) (taken room : List ℕ) where
   pub early-asked : (i .phase ≡ 2 → ⊥) → {r : Converted} → r ≡ answered 14 0 → _≡_ {A = Outcome} (record { answer = r; room = room }) (asked i taken room)
@@ -114,15 +134,15 @@ module _ (i : Intake) (taken room : List ℕ) where
   early-asked e q = rw (ne-eqb (i .phase) 2 e, q)
 
   module _ (e : i .phase ≡ 2) where
-    pub refused-asked : (i .refusal ≡ 0 → ⊥) → {r : Converted} → r ≡ answered (i .refusal) (i .place) → _≡_ {A = Outcome} (record { answer = r; room = room }) (asked i taken room)
+    pub unjudged-asked : isVerdict (i .refusal) (i .place) ≡ false → {r : Converted} → r ≡ answered 14 0 → _≡_ {A = Outcome} (record { answer = r; room = room }) (asked i taken room)
     unfolding asked
-    refused-asked n q = rw (e, ne-eqb (i .refusal) 0 n, q)
+    unjudged-asked v q = rw (e, v, q)
 
-    module _ (z : i .refusal ≡ 0) where
-      pub cut-asked : length taken < i .length → {r : Converted} → r ≡ answered 14 0 → _≡_ {A = Outcome} (record { answer = r; room = room }) (asked i taken room)
+    module _ (v : isVerdict (i .refusal) (i .place) ≡ true) where
+      pub refused-asked : (i .refusal ≡ 0 → ⊥) → {r : Converted} → r ≡ answered (i .refusal) (i .place) → _≡_ {A = Outcome} (record { answer = r; room = room }) (asked i taken room)
       unfolding asked
-      cut-asked h q = rw (e, z, lt-leb (i .length) (length taken) h, q)
+      refused-asked n q = rw (e, v, ne-eqb (i .refusal) 0 n, q)
 
-      pub sheet-asked : i .length ≤ length taken → {o : Outcome} → o ≡ packetToSheet (take (i .length) taken) room → o ≡ asked i taken room
+      pub sheet-asked : i .refusal ≡ 0 → {o : Outcome} → o ≡ sheetOf (i .length) taken room → o ≡ asked i taken room
       unfolding asked
-      sheet-asked h q = rw (e, z, le-leb (i .length) (length taken) h) q
+      sheet-asked z q = rw (e, v, z) q

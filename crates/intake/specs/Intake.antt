@@ -1,5 +1,5 @@
 -- The intake of a packet in deliveries: a delivery, the completion and the question for the sheet, each a total function of the state and of every byte of the room.
-use mathlib.Core.Bool.{Bool, cond, _&&_}
+use mathlib.Core.Bool.{Bool, true, cond, _&&_, _||_}
 use mathlib.Core.List.{List, _++_}
 use Prim.Native.Nat.{ℕ, _+_}
 use lib.Dec.{eqb, leb}
@@ -57,9 +57,16 @@ unfoldable pub completed : Intake → List ℕ → Intake
 completed i room =
     cond (eqb (i .phase) 1) (judgedAs 0 8 0) (cond (leb (gathered i) (length room)) (judgedOf (gathered i) (fromEitherPacket (take (gathered i) room))) (judgedAs 0 8 0))
 
--- "14 asked too early or, after a verdict that was no refusal, with the packet's room cut short"; "where the verdict was a refusal, asking returns that number again"
+-- a completion gives no refusal but 0 to 8 and 13, and no place but 0 with 0, 1, 2, 3 and 8
+abbrev pub isVerdict : ℕ → ℕ → Bool
+isVerdict r place = cond (leb r 8) (cond (leb r 3 || eqb r 8) (eqb place 0) true) (eqb r 13)
+
+-- the sheet of the packet of n bytes that was judged: "14 .. after a verdict that was no refusal, with the packet's room cut short"
+abbrev pub sheetOf : ℕ → List ℕ → List ℕ → Outcome
+sheetOf n taken room = cond (leb n (length taken)) (packetToSheet (take n taken) room) (refusedWith 14 0 room)
+
+-- "14 asked too early": before a verdict; "where the verdict was a refusal, asking returns that number again"
 unfoldable pub asked : Intake → List ℕ → List ℕ → Outcome
 asked i taken room =
-    cond (eqb (i .phase) 2)
-    (cond (eqb (i .refusal) 0) (cond (leb (i .length) (length taken)) (packetToSheet (take (i .length) taken) room) (refusedWith 14 0 room)) (refusedWith (i .refusal) (i .place) room))
+    cond (eqb (i .phase) 2 && isVerdict (i .refusal) (i .place)) (cond (eqb (i .refusal) 0) (sheetOf (i .length) taken room) (refusedWith (i .refusal) (i .place) room))
     (refusedWith 14 0 room)

@@ -1,9 +1,11 @@
 // The intake: takes a packet in several deliveries into a lent room, and judges it when it is complete. The caller keeps its state, a value.
 ghost use mathlib.Core.Path.{_≡_};
-ghost use Rattle.intake.specs.Intake.{gathering, passed, judgedAs, gathered, gathersAt, delivered, completed, asked};
+ghost use Rattle.intake.specs.Intake.{gathering, passed, judgedAs, gathered, gathersAt, delivered, completed, isVerdict, sheetOf, asked};
 use convert::Converted;
 use convert::refused;
 use convert_packet::tree_of;
+use kinds::refusals::BITS_LEFT;
+use kinds::refusals::PACKET_LENGTH;
 use kinds::refusals::SHORT_ROOM;
 use kinds::refusals::TOO_EARLY;
 use verdict::PacketVerdict;
@@ -137,19 +139,44 @@ pub fn complete(intake: Intake, room: &[u8]) -> Intake
     judge(0, SHORT_ROOM, 0)
 }
 
+// Returns whether a completion can give this refusal at this place: 0 to 8 or 13, and with 0, 1, 2, 3 and 8 only the place 0.
+fn is_verdict(refusal: u32, place: u32) -> bool
+    ensures { λ r. ⌜ r ≡ isVerdict refusal place ⌝ }
+{
+    if SHORT_ROOM < refusal {
+        return refusal == BITS_LEFT;
+    }
+    if PACKET_LENGTH < refusal {
+        if refusal < SHORT_ROOM {
+            return true;
+        }
+    }
+    place == 0
+}
+
+// Writes the sheet of the judged packet, the first `n` bytes of `taken`, into `room`; refuses with 14 if `taken` is shorter.
+fn judged_sheet(n: u32, taken: &[u8], room: &mut [u8]) -> Converted
+    ensures { λ r. ⌜ record { answer = r; room = now (room .exit) } ≡ sheetOf n (now (taken .entry)) (now (room .entry)) ⌝ }
+{
+    if taken.len() < n as usize {
+        return refused(TOO_EARLY, 0);
+    }
+    convert_packet::packet_to_sheet(&taken[..n as usize], room)
+}
+
 // Writes the sheet of the packet that was judged at the start of `room` and answers its length. `taken` is the room with the packet.
-// Refuses with 14 if there is no verdict, then with the verdict's refusal, then with 14 if `taken` is shorter than the packet.
+// Refuses with 14 if there is no verdict that a completion gives, then with the verdict's refusal, then with 14 if `taken` is shorter than the packet.
 pub fn sheet(intake: Intake, taken: &[u8], room: &mut [u8]) -> Converted
     ensures { λ r. ⌜ record { answer = r; room = now (room .exit) } ≡ asked intake (now (taken .entry)) (now (room .entry)) ⌝ }
 {
     if intake.phase != JUDGED {
         return refused(TOO_EARLY, 0);
     }
-    if intake.refusal != 0 {
+    if is_verdict(intake.refusal, intake.place) {
+        if intake.refusal == 0 {
+            return judged_sheet(intake.length, taken, room);
+        }
         return refused(intake.refusal, intake.place);
     }
-    if taken.len() < intake.length as usize {
-        return refused(TOO_EARLY, 0);
-    }
-    convert_packet::packet_to_sheet(&taken[..intake.length as usize], room)
+    refused(TOO_EARLY, 0)
 }
