@@ -69,7 +69,7 @@ numbers-place {k} {next} every s r place (atField g) a = go (g .front) (g .stand
     go (past {i = i} good c) p f = fault (every-front (every (i .packet)) c) f
 numbers-place every s r place (leftOver g) a = placed 9 (g .number) a refl
 
-either-packet-place : (s : List ℕ) (r place : ℕ) → EitherPacketGround s r place → Among r placeless → place ≡ 0
+pub either-packet-place : (s : List ℕ) (r place : ℕ) → EitherPacketGround s r place → Among r placeless → place ≡ 0
 either-packet-place s r place (ofJourney n g) a = packet-place (treeNumber Journey) (tree-refusals Journey) s r place g a
 either-packet-place s r place (ofSegment n g) a = packet-place (treeNumber Segment) (tree-refusals Segment) s r place g a
 

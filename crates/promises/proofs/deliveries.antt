@@ -1,2 +1,3 @@
 -- The laws of the module deliveries.
+pub mod Verdicts
 pub mod Deliveries

@@ -16,6 +16,7 @@ use Rattle.grammar.proofs.link.Grounds.{either-packet-grounds, either-packet-li
 use Rattle.convert.specs.Convert.{refusedWith, packetToSheet}
 use Rattle.intake.specs.declared.Intake.{Intake}
 use Rattle.intake.specs.Intake.{gathering, passed, judgedAs, holds, Delivered, delivered, judgedOf, completed, asked}
+use Rattle.promises.proofs.deliveries.Verdicts.{judged-tested, packet-judged}
 use Rattle.promises.specs.deliveries.Deliveries.{deliveredAll, Afresh, fresh, afterVerdict, roomAfter, verdictAfter, AsJoined, TooLong}
 
 -- ---- what a room holds
@@ -58,14 +59,14 @@ past (d ∷ ds) room = by-cases (eqb (length d) 0) (λ e. rw e (past ds room)) (
 -- ---- all deliveries into a room that begins with the bytes p
 
 -- moving the next delivery to the bytes p before it changes neither the length of the room nor the joined bytes
-module _ (p rest d : List ℕ) (ds : List (List ℕ)) (fits : length d ≤ length rest) where
+module _ (p rest d : List ℕ) (n : ℕ) (fits : length d ≤ length rest) where
   same-room : length ((p ++ d) ++ drop (length d) rest) ≡ length (p ++ rest)
   same-room = rw (length-append (p ++ d) (drop (length d) rest), length-append p d, length-append p rest, length-drop (length d) rest) (omega arith)
 
-  same-count : length (p ++ d) + length (flatten ds) ≡ length p + length (d ++ flatten ds)
-  same-count = rw (length-append p d, length-append d (flatten ds)) (omega arith)
+  same-count : length (p ++ d) + n ≡ length p + (length d + n)
+  same-count = rw (length-append p d) (omega arith)
 
-  same-holds : holds ((p ++ d) ++ drop (length d) rest) (length (p ++ d) + length (flatten ds)) ≡ holds (p ++ rest) (length p + length (d ++ flatten ds))
+  same-holds : holds ((p ++ d) ++ drop (length d) rest) (length (p ++ d) + n) ≡ holds (p ++ rest) (length p + (length d + n))
   same-holds = rw (same-room, same-count)
 
 -- a delivery that the room holds fits what is left of it
@@ -86,17 +87,68 @@ within (d ∷ ds) p rest e =
     let l = length-append d (flatten ds) in
     let now : holds (p ++ rest) (length p + length d) ≡ true = holding (p ++ rest) (length p + length d) (omega (arith, h .0, l)) (omega (arith, h .1, l)) in
     let fits = fits-rest p rest d now in
-    let later = within ds (p ++ d) (drop (length d) rest) (same-holds p rest d ds fits ∙ e) in
-    rw (put p rest d some now) (later ∙ rw (same-count p rest d ds fits, append-assoc p d (flatten ds), drop-drop (length (flatten ds)) (length d) rest, l)))
+    let n = length (flatten ds) in
+    let later = within ds (p ++ d) (drop (length d) rest) (same-holds p rest d n fits ∙ rw l at e) in
+    rw (put p rest d some now) (later ∙ rw (same-count p rest d n fits, append-assoc p d (flatten ds), drop-drop n (length d) rest, l)))
 
 -- the deliveries end past the room's end, and some of their bytes were written
-abbrev Beyond : List (List ℕ) → List ℕ → List ℕ → Type 0
-Beyond ds p rest = (taken : ℕ) × (deliveredAll (gathering (length p)) ds (p ++ rest) ≡ record { intake = passed; room = (p ++ take taken (flatten ds)) ++ drop taken rest })
+-- if the room does not hold all deliveries: those before the first that passes its end, which the room begins with after the bytes p
+record Beyond (ds : List (List ℕ)) (p rest : List ℕ) : Type 0 where
+  pub before : List (List ℕ)
+  pub first : List ℕ
+  pub after : List (List ℕ)
+  pub split : ds ≡ before ++ first ∷ after
+  pub fits : holds (p ++ rest) (length p + length (flatten before)) ≡ true
+  pub passes : holds (p ++ rest) (length p + (length (flatten before) + length first)) ≡ false
+  pub room : deliveredAll (gathering (length p)) ds (p ++ rest) ≡ record { intake = passed; room = (p ++ flatten before) ++ drop (length (flatten before)) rest }
 
 skip : (d : List ℕ) (ds : List (List ℕ)) (p rest : List ℕ) → length d ≡ 0 → Beyond ds p rest → Beyond (d ∷ ds) p rest
 unfolding flatten delivered
-skip [] ds p rest e b = b
+skip [] ds p rest e b = record {
+  before = [] ∷ b .before;
+  first = b .first;
+  after = b .after;
+  split = ap (λ (l : List (List ℕ)). [] ∷ l) (b .split);
+  fits = b .fits;
+  passes = b .passes;
+  room = b .room;
+}
 skip (a ∷ d) ds p rest e b = absurd (omega arith)
+
+-- one delivery more that the room holds
+one-more : (d : List ℕ) (ds : List (List ℕ)) (p rest : List ℕ) → (length d ≡ 0 → ⊥) → holds (p ++ rest) (length p + length d) ≡ true
+    → Beyond ds (p ++ d) (drop (length d) rest) → Beyond (d ∷ ds) p rest
+unfolding flatten
+one-more d ds p rest some now b =
+    let f = flatten (b .before) in
+    let fits = fits-rest p rest d now in
+    let l = length-append d f in
+    let sum : length d + (length f + length (b .first)) ≡ (length d + length f) + length (b .first) = omega arith in
+    record {
+      before = d ∷ b .before;
+      first = b .first;
+      after = b .after;
+      split = ap (λ (m : List (List ℕ)). d ∷ m) (b .split);
+      fits = rw l (sym (same-holds p rest d (length f) fits) ∙ b .fits);
+      passes = rw (l, ← sum) (sym (same-holds p rest d (length f + length (b .first)) fits) ∙ b .passes);
+      room = rw (put p rest d some now) (b .room ∙ rw (append-assoc p d f, drop-drop (length f) (length d) rest, l));
+    }
+
+-- the first delivery passes the room's end
+at-once : (d : List ℕ) (ds : List (List ℕ)) (p rest : List ℕ) → length p ≤ 4294967295 → (length d ≡ 0 → ⊥) → holds (p ++ rest) (length p + length d) ≡ false
+    → Beyond (d ∷ ds) p rest
+unfolding flatten
+at-once d ds p rest few some now =
+    let z : 0 + length d ≡ length d = omega arith in
+    record {
+      before = [];
+      first = d;
+      after = ds;
+      split = refl;
+      fits = holding (p ++ rest) (length p + 0) (omega (arith, length-append p rest)) (omega arith);
+      passes = rw z now;
+      room = rw (over p rest d some now) (past ds (p ++ rest) ∙ rw (append-nil p));
+    }
 
 beyond : (ds : List (List ℕ)) (p rest : List ℕ) → length p ≤ 4294967295 → holds (p ++ rest) (length p + length (flatten ds)) ≡ false → Beyond ds p rest
 unfolding flatten
@@ -112,9 +164,8 @@ beyond (d ∷ ds) p rest few e =
     (λ now.
     let fits = fits-rest p rest d now in
     let most = held (p ++ rest) (length p + length d) now .1 in
-    let later = beyond ds (p ++ d) (drop (length d) rest) (rw (length-append p d) most) (same-holds p rest d ds fits ∙ e) in
-    (length d + later .0, rw (put p rest d some now) (later .1 ∙ rw (take-append-add d (flatten ds) (later .0), drop-drop (later .0) (length d) rest, append-assoc p d (take (later .0) (flatten ds))))))
-    (λ now. (0, rw (over p rest d some now) (past ds (p ++ rest) ∙ rw (append-nil p)))))
+    one-more d ds p rest some now (beyond ds (p ++ d) (drop (length d) rest) (rw (length-append p d) most) (same-holds p rest d (length (flatten ds)) fits ∙ rw (length-append d (flatten ds)) at e)))
+    (λ now. at-once d ds p rest few some now))
 
 -- ---- a state with a verdict takes deliveries as a fresh state does
 
@@ -164,8 +215,9 @@ module _ (s rest : List ℕ) where
     where
       go : (q : Read) → fromEitherPacket s ≡ q → asked (judgedOf (length s) q) (s ++ rest) out ≡ packetToSheet s out
       go (refused r place) e =
-          let n = among-positive (either-packet-listed s r place (either-packet-grounds s r place .0 e)) refl in
-          rw (ne-eqb r 0 (λ z. omega arith), e)
+          let g = either-packet-grounds s r place .0 e in
+          let n = among-positive (either-packet-listed s r place g) refl in
+          rw (judged-tested (judgedAs (length s) r place) (packet-judged (length s) s r place g), ne-eqb r 0 (λ z. omega arith), e)
       go (accepted l) e = rw (le-leb (length s) (length (s ++ rest)) (omega (arith, length-append s rest)), take-append-seam s rest)
 
 -- ---- the promises
@@ -214,5 +266,17 @@ module _ (ds : List (List ℕ)) (room : List ℕ) where
     too-long a e =
         as-fresh a λ v r.
         let n = not-in e in
-        let w : verdictAfter i ds room ≡ judgedAs 0 8 0 = v ∙ ap (λ (x : Delivered). completed (x .intake) (x .room)) (n .1) ∙ passed-verdict _ in
-        record { verdict = w; sheet = λ out. rw w (asked-again _ out); taken = n .0; stays = r ∙ ap (λ (x : Delivered). x .room) (n .1) }
+        let y : 0 + length (flatten (n .before)) ≡ length (flatten (n .before)) = omega arith in
+        let z : 0 + (length (flatten (n .before)) + length (n .first)) ≡ length (flatten (n .before)) + length (n .first) = omega arith in
+        let w : verdictAfter i ds room ≡ judgedAs 0 8 0 = v ∙ ap (λ (x : Delivered). completed (x .intake) (x .room)) (n .room) ∙ passed-verdict _ in
+        record {
+          verdict = w;
+          sheet = λ out. rw w (asked-again _ out);
+          before = n .before;
+          first = n .first;
+          after = n .after;
+          split = n .split;
+          fits = rw y at (n .fits);
+          passes = rw z at (n .passes);
+          stays = r ∙ ap (λ (x : Delivered). x .room) (n .room);
+        }

@@ -1,12 +1,13 @@
 -- What is promised of a packet that arrives in deliveries, however it was cut.
 use mathlib.Core.Path.{_≡_}
+use mathlib.Core.Bool.{true, false}
 use mathlib.Core.List.{List, [], _∷_, _++_, flatten}
-use Prim.Native.Nat.{ℕ}
-use lib.ListN.{length, take, drop}
+use Prim.Native.Nat.{ℕ, _+_}
+use lib.ListN.{length, drop}
 use Rattle.grammar.specs.link.Link.{fromEitherPacket}
 use Rattle.convert.specs.Convert.{refusedWith, packetToSheet}
 use Rattle.intake.specs.declared.Intake.{Intake}
-use Rattle.intake.specs.Intake.{gathering, judgedAs, Delivered, delivered, judgedOf, completed, asked}
+use Rattle.intake.specs.Intake.{gathering, judgedAs, holds, Delivered, delivered, judgedOf, completed, asked}
 
 -- "several deliveries, some with no bytes": one after another, into one room
 abbrev pub deliveredAll : Intake → List (List ℕ) → List ℕ → Delivered
@@ -33,9 +34,15 @@ module _ (i : Intake) (ds : List (List ℕ)) (room : List ℕ) where
     pub sheet : (out : List ℕ) → asked verdictAfter roomAfter out ≡ packetToSheet (flatten ds) out
     pub stays : roomAfter ≡ flatten ds ++ drop (length (flatten ds)) room
 
-  -- "8 at completion, before all others, if the deliveries together exceeded the room", and asking returns it again
+  -- "8 at completion, before all others, if the deliveries together exceeded the room", and asking returns it again.
+  -- "A delivery that would pass the room's end, and each after it, writes nothing until completion": the room begins with the deliveries before the first that passes its end
   pub record TooLong : Type 0 where
     pub verdict : verdictAfter ≡ judgedAs 0 8 0
     pub sheet : (out : List ℕ) → asked verdictAfter roomAfter out ≡ refusedWith 8 0 out
-    pub taken : ℕ
-    pub stays : roomAfter ≡ take taken (flatten ds) ++ drop taken room
+    pub before : List (List ℕ)
+    pub first : List ℕ
+    pub after : List (List ℕ)
+    pub split : ds ≡ before ++ first ∷ after
+    pub fits : holds room (length (flatten before)) ≡ true
+    pub passes : holds room (length (flatten before) + length first) ≡ false
+    pub stays : roomAfter ≡ flatten before ++ drop (length (flatten before)) room
