@@ -13,8 +13,10 @@ use Rattle.grammar.specs.link.Link.{linkFields, fromEitherPacket, fromEitherShe
 use Rattle.speed_question.specs.Question.{Brought, permittedSpeed}
 use Rattle.altitude.specs.Altitude.{altitudeOf}
 use Rattle.convert.specs.Convert.{packetToSheet, sheetToPacket}
+use Rattle.intake.specs.Intake.{completed, asked}
 use Rattle.promises.specs.Refused.{packetToSheetRefusals, sheetToPacketRefusals, speedRefusals, altitudeRefusals}
-use Rattle.promises.specs.Samples.{refusedPackets, convertedPackets, convertedSheets, askedSpeeds}
+use Rattle.promises.specs.Samples.{refusedPackets, convertedPackets, convertedSheets, askedSpeeds, completions, askedSheets}
+use Rattle.promises.specs.deliveries.Refused.{completionRefusals, askedRefusals}
 
 pub packet-to-sheet-reached : map (λ s. packetToSheet s [] .answer .refusal) convertedPackets ≡ packetToSheetRefusals
 unfolding fieldAt numberOf groupsIn digits place entries changes lists body fields sheetFields toPacket toSheet times journeyBody linkFields fromEitherPacket toEitherSheet packetToSheet
@@ -31,3 +33,11 @@ permitted-speed-reached = refl
 pub altitude-of-packet-reached : map (λ s. altitudeOf s .refusal) refusedPackets ≡ altitudeRefusals
 unfolding fieldAt numberOf groupsIn digits place entries changes lists body fields sheetFields fromPacket toPacket altitudeOf
 altitude-of-packet-reached = refl
+
+pub completed-reached : map (λ o. o .refusal) completions ≡ completionRefusals
+unfolding fieldAt numberOf groupsIn digits place entries changes lists body fields sheetFields toPacket times journeyBody linkFields fromEitherPacket completed
+completed-reached = refl
+
+pub asked-reached : map (λ o. o .answer .refusal) askedSheets ≡ askedRefusals
+unfolding fieldAt numberOf groupsIn digits place entries changes lists body fields sheetFields toPacket toSheet times journeyBody linkFields fromEitherPacket toEitherSheet packetToSheet completed asked
+asked-reached = refl

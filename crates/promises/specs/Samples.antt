@@ -1,8 +1,8 @@
 -- An input for each refusal that an operation lists, in the order of the list; for a question on speed, its answer.
 use mathlib.Core.Bool.{false}
-use mathlib.Core.List.{List, [], _∷_, _++_}
+use mathlib.Core.List.{List, [], _∷_, _++_, map}
 use Prim.Native.Nat.{ℕ, zero, suc}
-use lib.ListN.{replicate}
+use lib.ListN.{length, replicate}
 use Rattle.kinds.specs.declared.Item.{Item}
 use Rattle.grammar.specs.segment.Segment.{wireChanges}
 use Rattle.grammar.specs.segment.Judgement.{toPacket, toSheet}
@@ -10,6 +10,9 @@ use Rattle.grammar.specs.segment.Desk.{packetWith, firstPacket, firstSheet, cou
 use Rattle.speed.specs.Desk.{trainOf, plain}
 use Rattle.speed_question.specs.declared.Speed.{Speed}
 use Rattle.speed_question.specs.Question.{permittedSpeed}
+use Rattle.convert.specs.Convert.{Outcome}
+use Rattle.intake.specs.declared.Intake.{Intake}
+use Rattle.intake.specs.Intake.{gathering, passed, completed, asked}
 
 -- "They equal the packet fields": the item with v as its number in the sheet and its value in the packet
 abbrev item : ℕ → Item
@@ -56,3 +59,11 @@ questions medium (r ∷ l) s = permittedSpeed medium r plain 0 ∷ questions med
 -- 15, "a kind that is neither": 2, with no byte and a train of no length; then the refusals of a packet and of a sheet
 abbrev pub askedSpeeds : List Speed
 askedSpeeds = permittedSpeed 2 [] (trainOf 0 80 false false false) 1 ∷ questions 0 refusedPackets firstPacket ++ questions 1 (refusedSheets ++ [] ∷ []) firstSheet
+
+-- "judged when the radio says the packet is complete": each packet that is refused, in a room that holds it; then 8, where "the deliveries together exceeded the room"
+abbrev pub completions : List Intake
+completions = map (λ s. completed (gathering (length s)) s) refusedPackets ++ completed passed [] ∷ []
+
+-- "asking returns that number again": the sheet of each packet that is refused or too long for no room; then 14, "asked too early", of a fresh state
+abbrev pub askedSheets : List Outcome
+askedSheets = map (λ s. asked (completed (gathering (length s)) s) s []) convertedPackets ++ asked (gathering 0) [] [] ∷ []

@@ -3,6 +3,7 @@ use mathlib.Core.Path.{_≡_, refl, sym, ap, _∙_}
 use mathlib.Core.Bool.{true, false}
 use mathlib.Core.List.{List, [], _∷_, _++_, append-nil, append-assoc, flatten}
 use Prim.Native.Nat.{ℕ, _+_, _≤_}
+use mathlib.Core.Logic.{inl, inr}
 use native.Mathlib.Omega.{arith}
 use borrow.Author.Tests.{leb-true, le-leb, eqb-true, eqb-false, ne-eqb}
 use lib.Dec.{eqb, leb, lit≤}
@@ -15,7 +16,10 @@ use Rattle.grammar.specs.link.Link.{fromEitherPacket}
 use Rattle.grammar.proofs.link.Grounds.{either-packet-grounds, either-packet-listed}
 use Rattle.convert.specs.Convert.{refusedWith, packetToSheet}
 use Rattle.intake.specs.declared.Intake.{Intake}
-use Rattle.intake.specs.Intake.{gathering, passed, judgedAs, holds, Delivered, delivered, judgedOf, completed, asked}
+use Rattle.intake.specs.Intake.{gathering, passed, judgedAs, gathered, holds, Delivered, delivered, judgedOf, completed, asked}
+use Rattle.promises.specs.Ranges.{OneOutcome}
+use Rattle.promises.specs.deliveries.Refused.{DeliveryEnds}
+use Rattle.promises.proofs.Refused.{one-outcome}
 use Rattle.promises.proofs.deliveries.Verdicts.{judged-tested, packet-judged}
 use Rattle.promises.specs.deliveries.Deliveries.{deliveredAll, Afresh, fresh, afterVerdict, roomAfter, verdictAfter, AsJoined, TooLong}
 
@@ -280,3 +284,23 @@ module _ (ds : List (List ℕ)) (room : List ℕ) where
           passes = rw z at (n .passes);
           stays = r ∙ ap (λ (x : Delivered). x .room) (n .room);
         }
+
+-- "one possible outcome for every input": how a delivery ends, from any state
+pub delivered-outcome : (i : Intake) (d room : List ℕ) → OneOutcome (delivered i d room) (DeliveryEnds i d room)
+unfolding delivered
+delivered-outcome i d room =
+    one-outcome (delivered i d room)
+    (by-cases (eqb (length d) 0)
+    (λ e. DeliveryEnds.idle (eqb-true (length d) 0 e) (idle i d room (eqb-true (length d) 0 e)))
+    (λ e.
+    let n = eqb-false (length d) 0 e in
+    let some : 1 ≤ length d = filled d n in
+    by-cases (eqb (i .phase) 1)
+    (λ p. DeliveryEnds.unwritten some (inl (eqb-true (i .phase) 1 p)) (rw (e, p)))
+    (λ p. by-cases (holds room (gathered i + length d))
+    (λ h. DeliveryEnds.put some (eqb-false (i .phase) 1 p) h (rw (e, p, h)))
+    (λ h. DeliveryEnds.unwritten some (inr h) (rw (e, p, h))))))
+  where
+    filled : (l : List ℕ) → (length l ≡ 0 → ⊥) → 1 ≤ length l
+    filled [] n = absurd (n refl)
+    filled (b ∷ l) n = omega arith

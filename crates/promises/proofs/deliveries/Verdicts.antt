@@ -3,7 +3,7 @@ use mathlib.Core.Path.{_≡_, refl, sym, ap, _∙_}
 use mathlib.Core.Bool.{Bool, true, false, not, _&&_, _||_}
 use mathlib.Core.List.{List, [], _∷_}
 use mathlib.Core.Logic.{_⊎_, inl, inr}
-use Prim.Native.Nat.{ℕ, _≤_, _<_}
+use Prim.Native.Nat.{ℕ, zero, suc, _≤_, _<_}
 use native.Mathlib.Omega.{arith}
 use borrow.Author.Tests.{eqb-true, eqb-false, eq-eqb, leb-true, leb-false}
 use lib.Dec.{eqb, leb, lit≤}
@@ -17,7 +17,7 @@ use Rattle.intake.specs.declared.Intake.{Intake}
 use Rattle.intake.specs.Intake.{judgedAs, isVerdict}
 use Rattle.intake.proofs.Outcomes.{late-verdict, placed-verdict, placeless-verdict, room-verdict}
 use Rattle.promises.specs.Refused.{placeless}
-use Rattle.promises.specs.deliveries.Refused.{Judged}
+use Rattle.promises.specs.deliveries.Refused.{Judged, askedRefusals}
 use Rattle.promises.proofs.Refused.{member, among-by}
 use Rattle.promises.proofs.Placeless.{either-packet-place}
 
@@ -110,3 +110,24 @@ judged-placeless i j a =
     other : 9 ≤ i .refusal → not (eqb (i .refusal) 13) ≡ true → (i .refusal ≤ 8) ⊎ (i .refusal ≡ 13) → ⊥
     other h n (inl l) = omega arith
     other h n (inr e) = let z : not (eqb (i .refusal) 13) ≡ false = rw (eq-eqb (i .refusal) 13 e) in let y : true ≡ false = sym n ∙ z in let x : _≡_ {A = ℕ} 0 1 = cc in omega arith
+
+-- a verdict that is a refusal is one of the question's
+pub judged-listed : (i : Intake) → Judged i → 1 ≤ i .refusal → Among (i .refusal) askedRefusals
+judged-listed i j h = go (j .listed)
+  where
+    -- a number of at most 8 is one of 1 to 8
+    below : (n : ℕ) → 1 ≤ n → n ≤ 8 → member n askedRefusals ≡ true
+    below zero l m = absurd (omega arith)
+    below (suc zero) l m = refl
+    below (suc (suc zero)) l m = refl
+    below (suc (suc (suc zero))) l m = refl
+    below (suc (suc (suc (suc zero)))) l m = refl
+    below (suc (suc (suc (suc (suc zero))))) l m = refl
+    below (suc (suc (suc (suc (suc (suc zero)))))) l m = refl
+    below (suc (suc (suc (suc (suc (suc (suc zero))))))) l m = refl
+    below (suc (suc (suc (suc (suc (suc (suc (suc zero)))))))) l m = refl
+    below (suc (suc (suc (suc (suc (suc (suc (suc (suc n))))))))) l m = absurd (omega arith)
+
+    go : (i .refusal ≤ 8) ⊎ (i .refusal ≡ 13) → Among (i .refusal) askedRefusals
+    go (inl l) = among-by (i .refusal) askedRefusals (below (i .refusal) h l)
+    go (inr e) = rw e (among-by 13 askedRefusals refl)

@@ -1,17 +1,30 @@
 -- The ground of each refusal of the intake, with its place, from any state: of a completion, and of the question for the sheet. No operation is run.
 use mathlib.Core.Path.{_≡_}
+use mathlib.Core.Bool.{true, false}
 use mathlib.Core.List.{List, [], _∷_, _++_}
 use mathlib.Core.Logic.{_⊎_}
-use Prim.Native.Nat.{ℕ, _≤_, _<_}
-use lib.ListN.{length, take}
+use Prim.Native.Nat.{ℕ, _+_, _≤_, _<_}
+use lib.ListN.{length, take, drop}
 use Rattle.format.specs.Grounds.{Among}
 use Rattle.grammar.specs.segment.Grounds.{packetRefusals}
 use Rattle.grammar.specs.link.Link.{toEitherPacket}
 use Rattle.grammar.specs.link.Grounds.{EitherPacketGround, EitherPacketValues}
 use Rattle.intake.specs.declared.Intake.{Intake}
-use Rattle.intake.specs.Intake.{gathered}
+use Rattle.intake.specs.Intake.{gathering, passed, gathered, holds, Delivered}
 use Rattle.promises.specs.Promised.{OfValues, ConvertiblePacket}
 use Rattle.promises.specs.Refused.{PacketToSheetGround, packetToSheetRefusals}
+
+-- ---- "Let a packet be taken in several deliveries, some with no bytes, into a lent room"
+
+-- how a delivery ends, whatever the state: it has no refusal
+pub data DeliveryEnds (i : Intake) (d room : List ℕ) (o : Delivered) : Type 0 where
+  -- "some with no bytes": the state and the room stay
+  idle : length d ≡ 0 → o ≡ record { intake = i; room = room } → DeliveryEnds i d room o
+  -- its bytes stand behind those that are in the room, and every other byte of the room stays
+  put : 1 ≤ length d → (i .phase ≡ 1 → ⊥) → holds room (gathered i + length d) ≡ true
+      → o ≡ record { intake = gathering (gathered i + length d); room = take (gathered i) room ++ (d ++ drop (gathered i + length d) room) } → DeliveryEnds i d room o
+  -- "A delivery that would pass the room's end, and each after it, writes nothing until completion"
+  unwritten : 1 ≤ length d → (i .phase ≡ 1) ⊎ (holds room (gathered i + length d) ≡ false) → o ≡ record { intake = passed; room = room } → DeliveryEnds i d room o
 
 -- ---- "judged when the radio says the packet is complete"
 
