@@ -21,7 +21,7 @@ use Rattle.verdict.specs.internal.Verdict.{verdictOf, sizeFrom, packetVerdict}
 use Rattle.convert.specs.declared.Converted.{Converted}
 use Rattle.convert.specs.Convert.{Outcome, packetToSheet}
 use Rattle.intake.specs.declared.Intake.{Intake}
-use Rattle.intake.specs.Intake.{gathering, passed, judgedAs, gathered, Delivered, gathersAt, delivered, judgedOf, completed, isVerdict, sheetOf, asked}
+use Rattle.intake.specs.Intake.{gathering, passed, judgedAs, gathered, Delivered, gathersAt, delivered, judgedOf, completed, isVerdict, judgedSheet, asked}
 
 -- ---- a delivery that is written after n bytes
 
@@ -122,10 +122,10 @@ abbrev answered : ℕ → ℕ → Converted
 answered r place = record { refusal = r; place = place; length = 0 }
 
 module _ (n : ℕ) (taken room : List ℕ) where
-  pub cut-sheet : length taken < n → {r : Converted} → r ≡ answered 14 0 → _≡_ {A = Outcome} (record { answer = r; room = room }) (sheetOf n taken room)
+  pub cut-sheet : length taken < n → {r : Converted} → r ≡ answered 14 0 → _≡_ {A = Outcome} (record { answer = r; room = room }) (judgedSheet n taken room)
   cut-sheet h q = rw (lt-leb n (length taken) h, q)
 
-  pub whole-sheet : n ≤ length taken → {o : Outcome} → o ≡ packetToSheet (take n taken) room → o ≡ sheetOf n taken room
+  pub whole-sheet : n ≤ length taken → {o : Outcome} → o ≡ packetToSheet (take n taken) room → o ≡ judgedSheet n taken room
   whole-sheet h q = rw (le-leb n (length taken) h) q
 
 module _ (i : Intake) (taken room : List ℕ) where
@@ -143,6 +143,6 @@ module _ (i : Intake) (taken room : List ℕ) where
       unfolding asked
       refused-asked n q = rw (e, v, ne-eqb (i .refusal) 0 n, q)
 
-      pub sheet-asked : i .refusal ≡ 0 → {o : Outcome} → o ≡ sheetOf (i .length) taken room → o ≡ asked i taken room
+      pub sheet-asked : i .refusal ≡ 0 → {o : Outcome} → o ≡ judgedSheet (i .length) taken room → o ≡ asked i taken room
       unfolding asked
       sheet-asked z q = rw (e, v, z) q

@@ -62,11 +62,11 @@ abbrev pub isVerdict : ℕ → ℕ → Bool
 isVerdict r place = cond (leb r 8) (cond (leb r 3 || eqb r 8) (eqb place 0) true) (eqb r 13)
 
 -- the sheet of the packet of n bytes that was judged: "14 .. after a verdict that was no refusal, with the packet's room cut short"
-abbrev pub sheetOf : ℕ → List ℕ → List ℕ → Outcome
-sheetOf n taken room = cond (leb n (length taken)) (packetToSheet (take n taken) room) (refusedWith 14 0 room)
+abbrev pub judgedSheet : ℕ → List ℕ → List ℕ → Outcome
+judgedSheet n taken room = cond (leb n (length taken)) (packetToSheet (take n taken) room) (refusedWith 14 0 room)
 
 -- "14 asked too early": before a verdict; "where the verdict was a refusal, asking returns that number again"
 unfoldable pub asked : Intake → List ℕ → List ℕ → Outcome
 asked i taken room =
-    cond (eqb (i .phase) 2 && isVerdict (i .refusal) (i .place)) (cond (eqb (i .refusal) 0) (sheetOf (i .length) taken room) (refusedWith (i .refusal) (i .place) room))
+    cond (eqb (i .phase) 2 && isVerdict (i .refusal) (i .place)) (cond (eqb (i .refusal) 0) (judgedSheet (i .length) taken room) (refusedWith (i .refusal) (i .place) room))
     (refusedWith 14 0 room)

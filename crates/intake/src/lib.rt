@@ -1,6 +1,6 @@
 // The intake: takes a packet in several deliveries into a lent room, and judges it when it is complete. The caller keeps its state, a value.
 ghost use mathlib.Core.Path.{_≡_};
-ghost use Rattle.intake.specs.Intake.{gathering, passed, judgedAs, gathered, gathersAt, delivered, completed, isVerdict, sheetOf, asked};
+ghost use Rattle.intake.specs.Intake.{gathering, passed, judgedAs, gathered, gathersAt, delivered, completed, isVerdict, judgedSheet, asked};
 use convert::Converted;
 use convert::refused;
 use convert_packet::tree_of;
@@ -156,7 +156,7 @@ fn is_verdict(refusal: u32, place: u32) -> bool
 
 // Writes the sheet of the judged packet, the first `n` bytes of `taken`, into `room`; refuses with 14 if `taken` is shorter.
 fn judged_sheet(n: u32, taken: &[u8], room: &mut [u8]) -> Converted
-    ensures { λ r. ⌜ record { answer = r; room = now (room .exit) } ≡ sheetOf n (now (taken .entry)) (now (room .entry)) ⌝ }
+    ensures { λ r. ⌜ record { answer = r; room = now (room .exit) } ≡ judgedSheet n (now (taken .entry)) (now (room .entry)) ⌝ }
 {
     if taken.len() < n as usize {
         return refused(TOO_EARLY, 0);

@@ -1,5 +1,5 @@
 -- Any list of calls of the intake, from a fresh state and with one room lent throughout: when the sheet can be asked for, and what is answered else.
-use mathlib.Core.Path.{_≡_, refl, sym, ap, _∙_}
+use mathlib.Core.Path.{_≡_}
 use mathlib.Core.Bool.{Bool, true, false}
 use mathlib.Core.List.{List, [], _∷_}
 use mathlib.Core.Logic.{_⊎_, inl, inr, _↔_}

@@ -7,8 +7,8 @@ use mathlib.Core.Logic.{inl, inr}
 use native.Mathlib.Omega.{arith}
 use borrow.Author.Tests.{leb-true, le-leb, eqb-true, eqb-false, ne-eqb}
 use lib.Dec.{eqb, leb, lit≤}
-use lib.ListN.{length, length-append, length-drop, take, drop}
-use lib.Seq.{take-append-seam, drop-append-add, take-append-add, drop-drop}
+use lib.ListN.{length, length-append, length-drop, drop}
+use lib.Seq.{take-append-seam, drop-append-add, drop-drop}
 use Rattle.bits.proofs.Tests.{by-cases, and-left, and-right}
 use Rattle.format.specs.Format.{Read, accepted, refused}
 use Rattle.grammar.proofs.segment.Refusals.{among-positive}
