@@ -1,2 +1,3 @@
 -- What the code needs and no promise names.
+pub mod Windows
 pub mod write

@@ -6,8 +6,9 @@ use native.Mathlib.Omega.{arith}
 use lib.Dec.{lit≤}
 use lib.ListN.{length}
 use Rattle.bits.specs.Bits.{fieldAt}
+use Rattle.bits.specs.internal.Windows.{fieldsAt, parts}
 use Rattle.bits.proofs.Fields.{window-small}
-use Rattle.bits.proofs.Windows.{read-window, field-front, field-back}
+use Rattle.bits.proofs.Windows.{parts-at, part}
 use Rattle.numbers.specs.Numbers.{groupsIn}
 use Rattle.numbers.proofs.Counting.{count-five}
 use Rattle.kinds.specs.Kinds.{nIter}
@@ -20,7 +21,7 @@ use Rattle.packet_fields.specs.declared.PacketStep.the-variants.{On}
 use Rattle.packet_fields.specs.declared.PacketValue.the-variants as PacketValue
 use Rattle.packet_fields.specs.internal.Judging.{Standing, Over, Took, Gave}
 use Rattle.packet_fields.proofs.Steps.{took-some}
-use Rattle.packet_fields.specs.internal.row.Values.{fieldsAt, rowBytes}
+use Rattle.packet_fields.specs.internal.row.Values.{rowBytes}
 use Rattle.packet_fields.proofs.row.Whole.{bytes-some}
 use Rattle.packet_journey.proofs.point_bytes.Held.{all-bytes}
 use Rattle.packet_journey.specs.internal.Head.{segmentHead}
@@ -34,14 +35,9 @@ module _ (s : List ℕ) (stop : ℕ) {at n : ℕ} (h : Standing s stop at n) (ro
   inside : at + 64 ≤ 8 * length s
   inside = omega (arith, h .inside, h .before)
 
-  major : t / 16384 ≡ fieldAt s (at + 10 + 32) 8
-  major = let p : at + 10 + 32 ≡ at + 42 = omega arith in rw (et, p) (field-front s (at + 42) 8 14 (omega (arith, inside)))
-
-  minor : t / 64 % 256 ≡ fieldAt s (at + 10 + 32 + 8) 8
-  minor = rw et (read-window s (at + 42) (at + 10 + 32 + 8) 8 6 22 (omega arith) (omega arith) (omega (arith, inside)))
-
-  count : t % 32 ≡ fieldAt s (at + 59) 5
-  count = let p : at + 59 ≡ at + 42 + 17 = omega arith in rw (et, p) (field-back s (at + 42) 17 5 (omega (arith, inside)))
+  -- the major and the minor version, the direction, the count of the changes
+  values : parts (8 ∷ 8 ∷ 1 ∷ 5 ∷ []) t ≡ fieldsAt s (at + 10 + 32) (8 ∷ 8 ∷ 1 ∷ 5 ∷ [])
+  values = let p : at + 42 ≡ at + 10 + 32 = omega arith in parts-at s (at + 10 + 32) (8 ∷ 8 ∷ 1 ∷ 5 ∷ []) (rw p at et) (omega (arith, inside))
 
   head-bytes : a + b + c + d + 1 ≡ rowBytes segmentMost (fieldsAt s at segmentWidths)
   head-bytes =
@@ -49,14 +45,14 @@ module _ (s : List ℕ) (stop : ℕ) {at n : ℕ} (h : Standing s stop at n) (ro
       let l = window-small s (at + 10 + 32 + 8 + 8) 1 {v = direction} refl in
       all-bytes segmentMost (fieldsAt s at segmentWidths)
       (omega (arith, window-small s at 10 {v = fieldAt s at 10} refl), (omega (arith, window-small s (at + 10) 32 {v = fieldAt s (at + 10) 32} refl), (omega (arith, window-small s (at + 10 + 32) 8 {v = fieldAt s (at + 10 + 32) 8} refl), (omega (arith, window-small s (at + 10 + 32 + 8) 8 {v = fieldAt s (at + 10 + 32 + 8) 8} refl), (omega (arith, l), tt)))))
-      (rw (← major, ← minor) (omega (arith, ea, eb, ec, ed, counts.one-byte direction (omega (arith, l)))))
+      (rw (← part values 0, ← part values 1) (omega (arith, ea, eb, ec, ed, counts.one-byte direction (omega (arith, l)))))
 
   head-over : Over (row segmentWidths segmentMost) s stop at n (On (at + 59) (n + (a + b + c + d + 1)))
   head-over = bytes-some s stop 10 1023 (32 ∷ 8 ∷ 8 ∷ 1 ∷ []) (4294967295 ∷ 255 ∷ 255 ∷ 1 ∷ []) segment-fits h (omega arith) head-bytes (λ z. omega (arith, z))
 
   count-took : Took (nIter 31) s stop (at + 59) (n + (a + b + c + d + 1)) (PacketValue.Is (t % 32) (at + 59 + 5) (n + (a + b + c + d + 1) + 1))
   count-took =
-      took-some s stop (nIter 31) 5 refl (head-over .stands) (lit≤ tt) (omega arith) count
+      took-some s stop (nIter 31) 5 refl (head-over .stands) (lit≤ tt) (omega arith) (let p : at + 10 + 32 + 8 + 8 + 1 ≡ at + 59 = omega arith in rw p at (part values 3))
       (counts.bytes-some (nIter 31) (t % 32) (counts.both-in 0 31 (t % 32) (omega arith) (omega arith)) (counts.one-byte (t % 32) (omega arith))) (λ u. omega arith)
 
   pub head-on : Gave segmentHead s stop at n (PacketValue.Is (t % 32) (at + 64) (n + (a + b + c + d + 2)))

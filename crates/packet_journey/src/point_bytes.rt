@@ -2,7 +2,8 @@
 ghost use mathlib.Core.List.{_++_};
 ghost use mathlib.Core.Path.{_≡_};
 ghost use Prim.Native.Nat.{_<_};
-ghost use Rattle.packet_fields.specs.internal.row.Values.{parts, rowBytes};
+ghost use Rattle.bits.specs.internal.Windows.{lowParts};
+ghost use Rattle.packet_fields.specs.internal.row.Values.{rowBytes};
 ghost use Rattle.packet_journey.specs.internal.point_bytes.Windows.{latestWidths, latestMost, marksWidths, marksMost, doorsWidths, leavingWidths, eightMost};
 use kinds::journey::QStopSkipPasses;
 use kinds::journey::QTpAlignment;
@@ -12,7 +13,7 @@ use kinds::journey::TLatestArrivalSeconds;
 
 // Bytes of T_Latest_Arrival_Date and T_Latest_Arrival_Seconds in the sheet, or 0 if one is refused. `t` is their 32 bits.
 pub fn latest_bytes(t: u32) -> u32
-    ensures { λ r. ⌜ r ≡ rowBytes latestMost (parts latestWidths t) ⌝ }
+    ensures { λ r. ⌜ r ≡ rowBytes latestMost (lowParts latestWidths t) ⌝ }
 {
     let seconds = t % 131072;
     if TLatestArrivalSeconds::LARGEST < seconds {
@@ -25,7 +26,7 @@ pub fn latest_bytes(t: u32) -> u32
 // Only the window has more than one byte.
 pub fn marks_bytes(t: u32) -> u32
     requires { ⌜ t < 131072 ⌝ }
-    ensures { λ r. ⌜ r ≡ rowBytes marksMost (parts marksWidths t) ⌝ }
+    ensures { λ r. ⌜ r ≡ rowBytes marksMost (lowParts marksWidths t) ⌝ }
 {
     if QTpAlignment::LARGEST < t / 32 % 4 {
         return 0;
@@ -43,7 +44,7 @@ pub fn marks_bytes(t: u32) -> u32
 // `doors` is Q_Opening_Door_Side to T_Departure_Date (20 bits), `leaving` T_Departure_Seconds to Q_Automatic_Closing (28 bits).
 fn not_passing_bytes(doors: u32, leaving: u32) -> u32
     requires { ⌜ leaving < 268435456 ⌝ }
-    ensures { λ r. ⌜ r ≡ rowBytes (eightMost 0) (parts doorsWidths doors ++ parts leavingWidths leaving) ⌝ }
+    ensures { λ r. ⌜ r ≡ rowBytes (eightMost 0) (lowParts doorsWidths doors ++ lowParts leavingWidths leaving) ⌝ }
 {
     let seconds = leaving / 2048;
     if TDepartureSeconds::LARGEST < seconds {
@@ -57,7 +58,7 @@ fn not_passing_bytes(doors: u32, leaving: u32) -> u32
 // `doors` is Q_Opening_Door_Side to T_Departure_Date (20 bits), `leaving` T_Departure_Seconds to Q_Automatic_Closing (28 bits).
 pub fn eight_bytes(stop_skip_passes: u32, doors: u32, leaving: u32) -> u32
     requires { ⌜ (doors < 1048576) × (leaving < 268435456) ⌝ }
-    ensures { λ r. ⌜ r ≡ rowBytes (eightMost «stop_skip_passes») (parts doorsWidths doors ++ parts leavingWidths leaving) ⌝ }
+    ensures { λ r. ⌜ r ≡ rowBytes (eightMost «stop_skip_passes») (lowParts doorsWidths doors ++ lowParts leavingWidths leaving) ⌝ }
 {
     if stop_skip_passes != QStopSkipPasses::PASSING {
         return not_passing_bytes(doors, leaving);

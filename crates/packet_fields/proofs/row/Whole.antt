@@ -2,14 +2,14 @@
 use mathlib.Core.Path.{_≡_, refl, sym, _∙_}
 use mathlib.Core.Bool.{true, false}
 use mathlib.Core.List.{List, [], _∷_}
-use Prim.Native.Nat.{ℕ, _+_, _*_, _-_, _≤_}
+use Prim.Native.Nat.{ℕ, _+_, _-_, _≤_}
 use native.Mathlib.Omega.{arith}
 use borrow.Author.Tests.{leb-true, leb-false}
 use lib.Dec.{leb}
 use lib.ListN.{length}
 use Rattle.bits.specs.Bits.{fieldAt}
+use Rattle.bits.specs.internal.Windows.{bitsIn, fieldsAt}
 use Rattle.bits.proofs.Tests.{by-cases, and-left, and-right}
-use Rattle.bits.proofs.Windows.{read-window}
 use Rattle.numbers.specs.Numbers.{groupsIn}
 use Rattle.numbers.proofs.Counting.{count-some}
 use Rattle.kinds.specs.Kind.{upTo}
@@ -21,13 +21,8 @@ use Rattle.packet_fields.specs.declared.PacketStep.the-variants.{On, Ref
 use Rattle.packet_fields.specs.declared.PacketValue.the-variants as PacketValue
 use Rattle.packet_fields.specs.internal.Judging.{verdictAt, Standing, Over, Took}
 use Rattle.packet_fields.proofs.Steps.{took-none, took-some, past, past-off}
-use Rattle.packet_fields.specs.internal.row.Values.{total, parts, fieldsAt, within, groupsAll, rowBytes}
+use Rattle.packet_fields.specs.internal.row.Values.{within, groupsAll, rowBytes}
 use Rattle.packet_fields.proofs.row.Rows.{fits-first, fits-rest}
-
--- the values in a window of n bits from the bit p on, the last of which ends it
-pub parts-at : (s : List ℕ) (p n at : ℕ) (ws : List ℕ) → p ≤ at → at + total ws ≡ p + n → p + n ≤ 8 * length s → parts ws (fieldAt s p n) ≡ fieldsAt s at ws
-parts-at s p n at [] h e l = refl
-parts-at s p n at (w ∷ ws) h e l = rw (read-window s p at w (total ws) n h (omega (arith, e)) l, parts-at s p n (at + w) ws (omega arith) (omega (arith, e)) l)
 
 module _ (s : List ℕ) (stop : ℕ) where
   -- ---- one field
@@ -49,15 +44,15 @@ module _ (s : List ℕ) (stop : ℕ) where
   -- ---- a row
 
   -- the first field of a row, and the others
-  module _ (w m : ℕ) (ws ms : List ℕ) (e : fits (w ∷ ws) (m ∷ ms) ≡ true) {at n : ℕ} (h : Standing s stop at n) (room : w + total ws ≤ stop - at) where
+  module _ (w m : ℕ) (ws ms : List ℕ) (e : fits (w ∷ ws) (m ∷ ms) ≡ true) {at n : ℕ} (h : Standing s stop at n) (room : w + bitsIn ws ≤ stop - at) where
     first-in : leb (fieldAt s at w) m ≡ true → Took (upTo w m) s stop at n (PacketValue.Is (fieldAt s at w) (at + w) (n + length (groupsIn (fieldAt s at w))))
     first-in i = field-in w m (fits-first w m ws ms e .some) h (omega arith) i
 
-    on : leb (fieldAt s at w) m ≡ true → Over (row ws ms) s stop (at + w) (n + length (groupsIn (fieldAt s at w))) (On (at + w + total ws) (n + length (groupsIn (fieldAt s at w)) + groupsAll (fieldsAt s (at + w) ws)))
-        → Over (row (w ∷ ws) (m ∷ ms)) s stop at n (On (at + (w + total ws)) (n + (length (groupsIn (fieldAt s at w)) + groupsAll (fieldsAt s (at + w) ws))))
+    on : leb (fieldAt s at w) m ≡ true → Over (row ws ms) s stop (at + w) (n + length (groupsIn (fieldAt s at w))) (On (at + w + bitsIn ws) (n + length (groupsIn (fieldAt s at w)) + groupsAll (fieldsAt s (at + w) ws)))
+        → Over (row (w ∷ ws) (m ∷ ms)) s stop at n (On (at + (w + bitsIn ws)) (n + (length (groupsIn (fieldAt s at w)) + groupsAll (fieldsAt s (at + w) ws))))
     unfolding row
     on i o =
-        let p : at + w + total ws ≡ at + (w + total ws) = omega arith in
+        let p : at + w + bitsIn ws ≡ at + (w + bitsIn ws) = omega arith in
         let q : n + length (groupsIn (fieldAt s at w)) + groupsAll (fieldsAt s (at + w) ws) ≡ n + (length (groupsIn (fieldAt s at w)) + groupsAll (fieldsAt s (at + w) ws)) = omega arith in
         let r = over-on (past s stop (first-in i)) o in
         rw (← p, ← q) (record { goes = r .goes; stands = r .stands })
@@ -71,8 +66,8 @@ module _ (s : List ℕ) (stop : ℕ) where
     unfolding row
     first-off i = let r = over-off {q = row ws ms} (past-off s stop (field-out w m (fits-first w m ws ms e .some) h (omega arith) i)) in record { goes = r .goes; stands = r .stands }
 
-  pub row-in : (ws ms : List ℕ) → fits ws ms ≡ true → {at n : ℕ} → Standing s stop at n → total ws ≤ stop - at → within ms (fieldsAt s at ws) ≡ true
-      → Over (row ws ms) s stop at n (On (at + total ws) (n + groupsAll (fieldsAt s at ws)))
+  pub row-in : (ws ms : List ℕ) → fits ws ms ≡ true → {at n : ℕ} → Standing s stop at n → bitsIn ws ≤ stop - at → within ms (fieldsAt s at ws) ≡ true
+      → Over (row ws ms) s stop at n (On (at + bitsIn ws) (n + groupsAll (fieldsAt s at ws)))
   unfolding row
   row-in [] ms e {at} {n} h room i = let p : at + 0 ≡ at = omega arith in let q : n + 0 ≡ n = omega arith in rw (p, q) (record { goes = λ f. refl; stands = h })
   row-in (w ∷ ws) [] e h room i = absurd (let z : _≡_ {A = ℕ} 0 1 = cc in omega arith)
@@ -81,7 +76,7 @@ module _ (s : List ℕ) (stop : ℕ) where
       on w m ws ms e h room a (row-in ws ms (fits-rest w m ws ms e) (first-in w m ws ms e h room a .stands) (omega arith) (and-right (leb (fieldAt s at w) m) (within ms (fieldsAt s (at + w) ws)) i))
 
   -- a row that is refused at one of its fields
-  row-out : (ws ms : List ℕ) → fits ws ms ≡ true → {at n : ℕ} → Standing s stop at n → total ws ≤ stop - at → within ms (fieldsAt s at ws) ≡ false
+  row-out : (ws ms : List ℕ) → fits ws ms ≡ true → {at n : ℕ} → Standing s stop at n → bitsIn ws ≤ stop - at → within ms (fieldsAt s at ws) ≡ false
       → (place : ℕ) × Over (row ws ms) s stop at n (Refused 4 place)
   row-out [] ms e h room i = absurd (let z : _≡_ {A = ℕ} 0 1 = cc in omega arith)
   row-out (w ∷ ws) [] e h room i = absurd (let z : _≡_ {A = ℕ} 0 1 = cc in omega arith)
@@ -92,9 +87,9 @@ module _ (s : List ℕ) (stop : ℕ) where
 
   -- ---- a row, from the bytes of its values
 
-  module _ (w m : ℕ) (ws ms : List ℕ) (e : fits (w ∷ ws) (m ∷ ms) ≡ true) {at n r : ℕ} (h : Standing s stop at n) (room : total (w ∷ ws) ≤ stop - at)
+  module _ (w m : ℕ) (ws ms : List ℕ) (e : fits (w ∷ ws) (m ∷ ms) ≡ true) {at n r : ℕ} (h : Standing s stop at n) (room : bitsIn (w ∷ ws) ≤ stop - at)
       (er : r ≡ rowBytes (m ∷ ms) (fieldsAt s at (w ∷ ws))) where
-    pub bytes-some : (r ≡ 0 → ⊥) → Over (row (w ∷ ws) (m ∷ ms)) s stop at n (On (at + total (w ∷ ws)) (n + r))
+    pub bytes-some : (r ≡ 0 → ⊥) → Over (row (w ∷ ws) (m ∷ ms)) s stop at n (On (at + bitsIn (w ∷ ws)) (n + r))
     bytes-some z =
         by-cases (within (m ∷ ms) (fieldsAt s at (w ∷ ws)))
         (λ i. let q : r ≡ groupsAll (fieldsAt s at (w ∷ ws)) = er ∙ rw i in rw q (row-in (w ∷ ws) (m ∷ ms) e h room i))
@@ -102,10 +97,10 @@ module _ (s : List ℕ) (stop : ℕ) where
 
   -- ---- a row and a field on which what follows depends: what follows may as well be what follows the field's value
 
-  pub row-known : (ws ms : List ℕ) → fits ws ms ≡ true → (w m : ℕ) → 1 ≤ w → {at n : ℕ} → Standing s stop at n → total ws + w ≤ stop - at → (next : ℕ → Format)
-      → verdictAt s stop (row ws ms (field (upTo w m) next)) at n ≡ verdictAt s stop (row ws ms (then (upTo w m) (next (fieldAt s (at + total ws) w)))) at n
+  pub row-known : (ws ms : List ℕ) → fits ws ms ≡ true → (w m : ℕ) → 1 ≤ w → {at n : ℕ} → Standing s stop at n → bitsIn ws + w ≤ stop - at → (next : ℕ → Format)
+      → verdictAt s stop (row ws ms (field (upTo w m) next)) at n ≡ verdictAt s stop (row ws ms (then (upTo w m) (next (fieldAt s (at + bitsIn ws) w)))) at n
   row-known ws ms e w m some {at} h room next =
       by-cases (within ms (fieldsAt s at ws))
       (λ i. let o = row-in ws ms e h (omega arith) i in
-      o .goes (field (upTo w m) next) ∙ known w m some (o .stands) (omega arith) next ∙ sym (o .goes (then (upTo w m) (next (fieldAt s (at + total ws) w)))))
-      (λ i. let o = row-out ws ms e h (omega arith) i .1 in o .goes (field (upTo w m) next) ∙ sym (o .goes (then (upTo w m) (next (fieldAt s (at + total ws) w)))))
+      o .goes (field (upTo w m) next) ∙ known w m some (o .stands) (omega arith) next ∙ sym (o .goes (then (upTo w m) (next (fieldAt s (at + bitsIn ws) w)))))
+      (λ i. let o = row-out ws ms e h (omega arith) i .1 in o .goes (field (upTo w m) next) ∙ sym (o .goes (then (upTo w m) (next (fieldAt s (at + bitsIn ws) w)))))

@@ -1,13 +1,13 @@
 -- A temporary constraint whose bits are all present: the step over it, from the bytes of its parts.
 use mathlib.Core.Path.{_≡_, refl, _∙_}
-use mathlib.Core.List.{List}
-use Prim.Native.Nat.{ℕ, _+_, _*_, _-_, _/_, _%_, _≤_}
+use mathlib.Core.List.{List, [], _∷_}
+use Prim.Native.Nat.{ℕ, _+_, _-_, _/_, _%_, _≤_}
 use native.Mathlib.Omega.{arith}
 use lib.Dec.{lit≤}
-use lib.ListN.{length}
 use Rattle.bits.specs.Bits.{fieldAt}
+use Rattle.bits.specs.internal.Windows.{fieldsAt, lowParts, parts}
 use Rattle.bits.proofs.Fields.{window-small}
-use Rattle.bits.proofs.Windows.{read-window, field-front, field-back}
+use Rattle.bits.proofs.Windows.{low-parts-at, parts-at, part}
 use Rattle.kinds.specs.Kinds.{noCurrent}
 use Rattle.format.proofs.Ways.{over-on, value-on}
 use Rattle.kinds.specs.journey.Kinds.{qTcType, qTcRange, dTcStartLocation, dTcEndLocation, qTcFront, vSpeedLevel, qLowAdhesionRate}
@@ -49,20 +49,8 @@ module _ (s : List ℕ) (stop : ℕ) where
   -- ---- Q_FRONT to the current, by the type
 
   module _ (type t : ℕ) {at n : ℕ} (h : Standing s stop at n) (room : 21 ≤ stop - at) (et : t ≡ fieldAt s at 21) {a : ℕ} (ea : a ≡ restrictionBytes type t) (some : a ≡ 0 → ⊥) where
-    inside : at + 21 ≤ 8 * length s
-    inside = omega (arith, h .inside, h .before)
-
-    front : t / 1048576 % 2 ≡ fieldAt s at 1
-    front = rw et (read-window s at at 1 20 21 (omega arith) (omega arith) inside)
-
-    level : t / 8192 % 128 ≡ fieldAt s (at + 1) 7
-    level = rw et (read-window s at (at + 1) 7 13 21 (omega arith) (omega arith) inside)
-
-    adhesion : t / 1024 % 8 ≡ fieldAt s (at + 1 + 7) 3
-    adhesion = rw et (read-window s at (at + 1 + 7) 3 10 21 (omega arith) (omega arith) inside)
-
-    current : t % 1024 ≡ fieldAt s (at + 1 + 7 + 3) 10
-    current = let p : at + 1 + 7 + 3 ≡ at + 11 = omega arith in rw (et, p) (field-back s at 11 10 inside)
+    uses : lowParts (1 ∷ 7 ∷ 3 ∷ 10 ∷ []) t ≡ fieldsAt s at (1 ∷ 7 ∷ 3 ∷ 10 ∷ [])
+    uses = low-parts-at s at (1 ∷ 7 ∷ 3 ∷ 10 ∷ []) et (omega (arith, h .inside, h .before))
 
     restriction-on : Over (journey.restriction type) s stop at n (On (at + 21) (n + a))
     restriction-on =
@@ -74,36 +62,27 @@ module _ (s : List ℕ) (stop : ℕ) where
         let u = some-both x (both y z) (o .second) in
         let v = some-both y z (u .second) in
         let p : at + 1 + 7 + 3 + 10 ≡ at + 21 = omega arith in
-        let i = past s stop (took-some s stop (qTcFront type) 1 refl h (lit≤ tt) (omega arith) front refl (o .first)) in
-        let j = past s stop (took-some s stop (vSpeedLevel type) 7 (level-width type) (i .stands) (lit≤ tt) (omega arith) level refl (u .first)) in
-        let k = past s stop (took-some s stop (qLowAdhesionRate type) 3 refl (j .stands) (lit≤ tt) (omega arith) adhesion refl (v .first)) in
-        let l = past s stop (took-some s stop noCurrent 10 refl (k .stands) (lit≤ tt) (omega arith) current refl (v .second)) in
+        let i = past s stop (took-some s stop (qTcFront type) 1 refl h (lit≤ tt) (omega arith) (part uses 0) refl (o .first)) in
+        let j = past s stop (took-some s stop (vSpeedLevel type) 7 (level-width type) (i .stands) (lit≤ tt) (omega arith) (part uses 1) refl (u .first)) in
+        let k = past s stop (took-some s stop (qLowAdhesionRate type) 3 refl (j .stands) (lit≤ tt) (omega arith) (part uses 2) refl (v .first)) in
+        let l = past s stop (took-some s stop noCurrent 10 refl (k .stands) (lit≤ tt) (omega arith) (part uses 3) refl (v .second)) in
         rw (p, four-counted n w x y z (ea ∙ o .sum) (u .sum) (v .sum)) at (over-on i (over-on j (over-on k l)))
 
   -- ---- the whole constraint
 
   module _ {at n : ℕ} (h : Standing s stop at n) (room : 73 ≤ stop - at) {t end uses : ℕ} (et : t ≡ fieldAt s at 28) (ee : end ≡ fieldAt s (at + 28) 24) (eu : uses ≡ fieldAt s (at + 52) 21)
       {a b : ℕ} (ea : a ≡ stretchBytes (t / 16777216 % 4) (t % 16777216) end) (eb : b ≡ restrictionBytes (t / 67108864) uses) where
-    window : at + 28 ≤ 8 * length s
-    window = omega (arith, h .inside, h .before)
-
-    type : t / 67108864 ≡ fieldAt s at 2
-    type = rw et (field-front s at 2 26 window)
-
-    range : t / 16777216 % 4 ≡ fieldAt s (at + 2) 2
-    range = rw et (read-window s at (at + 2) 2 24 28 (omega arith) (omega arith) window)
-
-    start : t % 16777216 ≡ fieldAt s (at + 4) 24
-    start = rw et (field-back s at 4 24 window)
+    starts : parts (2 ∷ 2 ∷ 24 ∷ []) t ≡ fieldsAt s at (2 ∷ 2 ∷ 24 ∷ [])
+    starts = parts-at s at (2 ∷ 2 ∷ 24 ∷ []) et (omega (arith, h .inside, h .before))
 
     type-took : Took qTcType s stop at n (PacketValue.Is (t / 67108864) (at + 2) (n + 1))
-    type-took = took-some s stop qTcType 2 refl h (lit≤ tt) (omega arith) type (one-in 2 3 (t / 67108864) (omega (arith, window-small s at 28 et)) (omega (arith, window-small s at 28 et))) (λ z. omega arith)
+    type-took = took-some s stop qTcType 2 refl h (lit≤ tt) (omega arith) (part starts 0) (one-in 2 3 (t / 67108864) (omega (arith, window-small s at 28 et)) (omega (arith, window-small s at 28 et))) (λ z. omega arith)
 
     range-took : Took qTcRange s stop (at + 2) (n + 1) (PacketValue.Is (t / 16777216 % 4) (at + 4) (n + 2))
     range-took =
         let p : at + 2 + 2 ≡ at + 4 = omega arith in
         let q : n + 1 + 1 ≡ n + 2 = omega arith in
-        rw (p, q) at (took-some s stop qTcRange 2 refl (type-took .stands) (lit≤ tt) (omega arith) range (one-in 2 3 (t / 16777216 % 4) (omega arith) (omega arith)) (λ z. omega arith))
+        rw (p, q) at (took-some s stop qTcRange 2 refl (type-took .stands) (lit≤ tt) (omega arith) (part starts 1) (one-in 2 3 (t / 16777216 % 4) (omega arith) (omega arith)) (λ z. omega arith))
 
     pub constraint-small : a + b ≤ 30
     constraint-small = omega (arith, ea, stretch-most (t % 16777216) end (t / 16777216 % 4), eb, restriction-most uses (t / 67108864))
@@ -112,7 +91,8 @@ module _ (s : List ℕ) (stop : ℕ) where
     constraint-on za zb =
         let e : at + 28 ≡ at + 4 + 24 = omega arith in
         let f : at + 52 ≡ at + 4 + 48 = omega arith in
-        let o = stretch-on (t / 16777216 % 4) (t % 16777216) end (range-took .stands) (omega arith) start (rw e at ee) ea za in
+        let g : at + 2 + 2 ≡ at + 4 = omega arith in
+        let o = stretch-on (t / 16777216 % 4) (t % 16777216) end (range-took .stands) (omega arith) (rw g at (part starts 2)) (rw e at ee) ea za in
         let p : at + 4 + 48 + 21 ≡ at + 73 = omega arith in
         let q : n + 2 + a + b ≡ n + (a + b + 2) = omega arith in
         rw (p, q) at (value-on afterType type-took (value-on (afterRange (t / 67108864)) range-took (over-on o (restriction-on (t / 67108864) uses (o .stands) (omega arith) (rw f at eu) eb zb))))

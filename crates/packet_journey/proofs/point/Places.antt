@@ -3,15 +3,15 @@ use mathlib.Core.Path.{_≡_, refl, sym, ap, _∙_}
 use mathlib.Core.Bool.{true}
 use mathlib.Core.List.{List, [], _∷_, _++_}
 use Prim.Native.Nat.{ℕ, _+_, _*_, _-_, _/_, _%_, _≤_}
-use native.Mathlib.Nat.{le-refl}
 use native.Mathlib.Omega.{arith}
 use borrow.Author.Tests.{le-leb}
 use lib.Dec.{lit≤, eqb}
 use lib.ListN.{length}
 use Rattle.bits.specs.Bits.{fieldAt}
+use Rattle.bits.specs.internal.Windows.{fieldsAt, lowParts}
 use Rattle.bits.proofs.Tests.{by-cases}
 use Rattle.bits.proofs.Fields.{window-small}
-use Rattle.bits.proofs.Windows.{read-window}
+use Rattle.bits.proofs.Windows.{read-window, low-parts-at, fields-join}
 use Rattle.numbers.specs.Numbers.{groupsIn}
 use Rattle.numbers.proofs.Counting.{count-some, count-five}
 use Rattle.format.specs.Format.{Format}
@@ -25,8 +25,8 @@ use Rattle.grammar.specs.internal.journey.Parts.{arrivalWidths, arrivalMost, st
 use Rattle.grammar.proofs.journey.Parts.{point-rows, arrival-fits}
 use Rattle.packet_fields.specs.declared.PacketStep.the-variants.{On}
 use Rattle.packet_fields.specs.internal.Judging.{verdictAt, judge, Standing, Over}
-use Rattle.packet_fields.specs.internal.row.Values.{total, parts, fieldsAt, within, groupsAll, rowBytes}
-use Rattle.packet_fields.proofs.row.Whole.{parts-at, bytes-some, row-known}
+use Rattle.packet_fields.specs.internal.row.Values.{within, groupsAll, rowBytes}
+use Rattle.packet_fields.proofs.row.Whole.{bytes-some, row-known}
 use Rattle.packet_journey.specs.internal.point_bytes.Windows.{latestWidths, latestMost, marksWidths, marksMost, doorsWidths, leavingWidths, eightMost}
 
 abbrev eightWidths : List ℕ
@@ -51,11 +51,6 @@ groups-small (v ∷ vs) = omega (arith, count-five v, groups-small vs)
 row-small : (ms vs : List ℕ) → rowBytes ms vs ≤ 5 * length vs
 row-small ms vs = by-cases (within ms vs) (λ e. rw e (groups-small vs)) (λ e. rw e (omega arith))
 
--- values one after another
-fields-join : (s : List ℕ) (at : ℕ) (ws us : List ℕ) → fieldsAt s at (ws ++ us) ≡ fieldsAt s at ws ++ fieldsAt s (at + total ws) us
-fields-join s at [] us = let p : at + 0 ≡ at = omega arith in rw p
-fields-join s at (w ∷ ws) us = let p : at + w + total ws ≡ at + (w + total ws) = omega arith in rw (fields-join s (at + w) ws us, p)
-
 module _ (s : List ℕ) (stop : ℕ) {at n : ℕ} (h : Standing s stop at n) (room : 129 ≤ stop - at) where
   inside : at + 129 ≤ 8 * length s
   inside = omega (arith, h .inside, h .before)
@@ -67,8 +62,8 @@ module _ (s : List ℕ) (stop : ℕ) {at n : ℕ} (h : Standing s stop at n) (ro
       ∙ row-known s stop arrivalWidths arrivalMost arrival-fits 2 2 (lit≤ tt) h (omega arith) (λ v. row stoppingWidths (stoppingMost v) f)
 
   module _ {latest marks doors leaving : ℕ} (el : latest ≡ fieldAt s (at + 32) 32) (em : marks ≡ fieldAt s (at + 64) 17) (ed : doors ≡ fieldAt s (at + 81) 20) (ev : leaving ≡ fieldAt s (at + 101) 28)
-      {a b c d : ℕ} (ea : a ≡ length (groupsIn (fieldAt s at 32))) (eb : b ≡ rowBytes latestMost (parts latestWidths latest)) (ec : c ≡ rowBytes marksMost (parts marksWidths marks))
-      (ee : d ≡ rowBytes (eightMost (marks / 8 % 4)) (parts doorsWidths doors ++ parts leavingWidths leaving)) where
+      {a b c d : ℕ} (ea : a ≡ length (groupsIn (fieldAt s at 32))) (eb : b ≡ rowBytes latestMost (lowParts latestWidths latest)) (ec : c ≡ rowBytes marksMost (lowParts marksWidths marks))
+      (ee : d ≡ rowBytes (eightMost (marks / 8 % 4)) (lowParts doorsWidths doors ++ lowParts leavingWidths leaving)) where
     -- Q_Stop_Skip_Passes is among the marks
     from : {r : Went ℕ} → ways.Over (judge s stop) (pointRows (marks / 8 % 4)) at n r → ways.Over (judge s stop) timingPoint at n r
     from o =
@@ -81,27 +76,23 @@ module _ (s : List ℕ) (stop : ℕ) {at n : ℕ} (h : Standing s stop at n) (ro
     name-bytes = rw (le-leb (fieldAt s at 32) 4294967295 (omega (arith, window-small s at 32 {v = fieldAt s at 32} refl))) (omega (arith, ea))
 
     latest-bytes : b ≡ rowBytes latestMost (fieldsAt s (at + 32) latestWidths)
-    latest-bytes =
-        let v : parts latestWidths latest ≡ fieldsAt s (at + 32) latestWidths = rw el (parts-at s (at + 32) 32 (at + 32) latestWidths (le-refl (at + 32)) refl (omega (arith, inside))) in
-        eb ∙ ap (rowBytes latestMost) v
+    latest-bytes = eb ∙ ap (rowBytes latestMost) (low-parts-at s (at + 32) latestWidths el (omega (arith, inside)))
 
     marks-bytes : c ≡ rowBytes marksMost (fieldsAt s (at + 64) marksWidths)
-    marks-bytes =
-        let v : parts marksWidths marks ≡ fieldsAt s (at + 64) marksWidths = rw em (parts-at s (at + 64) 17 (at + 64) marksWidths (le-refl (at + 64)) refl (omega (arith, inside))) in
-        ec ∙ ap (rowBytes marksMost) v
+    marks-bytes = ec ∙ ap (rowBytes marksMost) (low-parts-at s (at + 64) marksWidths em (omega (arith, inside)))
 
-    eight-values : parts doorsWidths doors ++ parts leavingWidths leaving ≡ fieldsAt s (at + 81) eightWidths
+    eight-values : lowParts doorsWidths doors ++ lowParts leavingWidths leaving ≡ fieldsAt s (at + 81) eightWidths
     eight-values =
         let p : at + 81 + 20 ≡ at + 101 = omega arith in
-        let x : parts doorsWidths doors ≡ fieldsAt s (at + 81) doorsWidths = rw ed (parts-at s (at + 81) 20 (at + 81) doorsWidths (le-refl (at + 81)) refl (omega (arith, inside))) in
-        let y : parts leavingWidths leaving ≡ fieldsAt s (at + 101) leavingWidths = rw ev (parts-at s (at + 101) 28 (at + 101) leavingWidths (le-refl (at + 101)) refl (omega (arith, inside))) in
-        ap (λ (l : List ℕ). l ++ parts leavingWidths leaving) x ∙ ap (λ (l : List ℕ). fieldsAt s (at + 81) doorsWidths ++ l) y ∙ sym (rw p at (fields-join s (at + 81) doorsWidths leavingWidths))
+        let x = low-parts-at s (at + 81) doorsWidths ed (omega (arith, inside)) in
+        let y = low-parts-at s (at + 101) leavingWidths ev (omega (arith, inside)) in
+        ap (λ (l : List ℕ). l ++ lowParts leavingWidths leaving) x ∙ ap (λ (l : List ℕ). fieldsAt s (at + 81) doorsWidths ++ l) y ∙ sym (rw p at (fields-join s (at + 81) doorsWidths leavingWidths))
 
     eight-bytes : d ≡ rowBytes (eightMost (marks / 8 % 4)) (fieldsAt s (at + 81) eightWidths)
     eight-bytes = ee ∙ ap (rowBytes (eightMost (marks / 8 % 4))) eight-values
 
     pub small : a + b + c + d ≤ 80
-    small = omega (arith, ea, count-five (fieldAt s at 32), eb, row-small latestMost (parts latestWidths latest), ec, row-small marksMost (parts marksWidths marks), ee, row-small (eightMost (marks / 8 % 4)) (parts doorsWidths doors ++ parts leavingWidths leaving))
+    small = omega (arith, ea, count-five (fieldAt s at 32), eb, row-small latestMost (lowParts latestWidths latest), ec, row-small marksMost (lowParts marksWidths marks), ee, row-small (eightMost (marks / 8 % 4)) (lowParts doorsWidths doors ++ lowParts leavingWidths leaving))
 
     -- ---- the steps over the rows
 

@@ -2,13 +2,14 @@
 use mathlib.Core.Path.{_≡_, refl, _∙_}
 use mathlib.Core.Bool.{true}
 use mathlib.Core.List.{List, [], _∷_}
-use Prim.Native.Nat.{ℕ, _/_, _%_, _^_, _≤_}
+use Prim.Native.Nat.{ℕ, _+_, _/_, _%_, _^_, _≤_}
 use native.Mathlib.Omega.{arith}
 use borrow.Author.Tests.{leb-true, le-leb}
 use lib.Dec.{leb}
 use lib.Pow.{mod-pow-add}
+use Rattle.bits.specs.internal.Windows.{bitsIn, lowParts}
 use Rattle.bits.proofs.Tests.{by-cases, and-left, and-right}
-use Rattle.packet_fields.specs.internal.row.Values.{total, parts, within, groupsAll, rowBytes}
+use Rattle.packet_fields.specs.internal.row.Values.{within, groupsAll, rowBytes}
 
 -- each value is at most its largest value
 abbrev pub Held : List ℕ → List ℕ → Type 0
@@ -39,6 +40,9 @@ abbrev pub zeros : List ℕ → List ℕ
 zeros [] = []
 zeros (w ∷ ws) = 0 ∷ zeros ws
 
-pub all-zero : (ws : List ℕ) (t : ℕ) → Held (zeros ws) (parts ws t) → t % 2 ^ total ws ≡ 0
+pub all-zero : (ws : List ℕ) (t : ℕ) → Held (zeros ws) (lowParts ws t) → t % 2 ^ bitsIn ws ≡ 0
 all-zero [] t h = omega arith
-all-zero (w ∷ ws) t h = let z : t / 2 ^ total ws % 2 ^ w ≡ 0 = omega (arith, h .0) in mod-pow-add t w (total ws) ∙ rw (z, all-zero ws t (h .1)) (omega arith)
+all-zero (w ∷ []) t h = let p : w + 0 ≡ w = omega arith in rw p (omega (arith, h .0))
+all-zero (w ∷ (v ∷ ws)) t h =
+    let z : t / 2 ^ bitsIn (v ∷ ws) % 2 ^ w ≡ 0 = omega (arith, h .0) in
+    mod-pow-add t w (bitsIn (v ∷ ws)) ∙ rw (z, all-zero (v ∷ ws) t (h .1)) (omega arith)

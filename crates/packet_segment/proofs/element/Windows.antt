@@ -1,14 +1,15 @@
 -- Fields that are read at once, as parts of one number; and the steps over them, from the bytes counted of each.
 use mathlib.Core.Path.{_≡_, refl, _∙_}
-use mathlib.Core.List.{List}
+use mathlib.Core.List.{List, [], _∷_}
 use Prim.Native.Nat.{ℕ, zero, suc, _+_, _*_, _-_, _/_, _%_, _≤_, _<_}
 use native.Mathlib.Omega.{arith}
 use borrow.Author.Tests.{ne-eqb, lt-ltb, le-ltb}
 use lib.Dec.{eqb, lit≤}
 use lib.ListN.{length}
 use Rattle.bits.specs.Bits.{fieldAt}
+use Rattle.bits.specs.internal.Windows.{fieldsAt, parts}
 use Rattle.bits.proofs.Tests.{by-cases}
-use Rattle.bits.proofs.Windows.{field-front, field-back, read-window}
+use Rattle.bits.proofs.Windows.{parts-at, part}
 use Rattle.numbers.proofs.Counting.{count-some, count-five}
 use Rattle.kinds.specs.Kinds.{speed, qFront, nIter, qDiff, class, mVoltage, nidCTraction}
 use Rattle.kinds.specs.declared.Field.{Field}
@@ -76,42 +77,36 @@ module _ (s : List ℕ) (stop : ℕ) {at n : ℕ} (h : Standing s stop at n) whe
 
   module _ (room : 13 ≤ stop - at) {t : ℕ} (e : t ≡ fieldAt s at 13) {a b d : ℕ}
       (ea : a ≡ bytesOf (valueInPacket qDiff (t / 2048))) (eb : b ≡ bytesOf (valueInPacket (class (t / 2048)) (t / 128 % 16))) (ed : d ≡ bytesOf (valueInPacket speed (t % 128))) where
-    q-value : t / 2048 ≡ fieldAt s at 2
-    q-value = rw e (field-front s at 2 11 (inside 13 room))
-
-    class-value : t / 128 % 16 ≡ fieldAt s (at + 2) 4
-    class-value = rw e (read-window s at (at + 2) 4 7 13 (omega arith) (omega arith) (inside 13 room))
-
-    speed-value : t % 128 ≡ fieldAt s (at + 2 + 4) 7
-    speed-value = let p : at + 2 + 4 ≡ at + 6 = omega arith in rw (e, p) (field-back s at 6 7 (inside 13 room))
+    entry-values : parts (2 ∷ 4 ∷ 7 ∷ []) t ≡ fieldsAt s at (2 ∷ 4 ∷ 7 ∷ [])
+    entry-values = parts-at s at (2 ∷ 4 ∷ 7 ∷ []) e (inside 13 room)
 
     entry-off : a ≡ 0 → Over entry s stop at n (Refused 4 at)
-    entry-off z = value-off (λ q f. then (class q) (then speed f)) (took-none s stop qDiff 2 refl h (lit≤ tt) (omega arith) q-value ea z)
+    entry-off z = value-off (λ q f. then (class q) (then speed f)) (took-none s stop qDiff 2 refl h (lit≤ tt) (omega arith) (part entry-values 0) ea z)
 
     module _ (za : a ≡ 0 → ⊥) where
       q-took : Took qDiff s stop at n (PacketValue.Is (t / 2048) (at + 2) (n + a))
-      q-took = took-some s stop qDiff 2 refl h (lit≤ tt) (omega arith) q-value ea za
+      q-took = took-some s stop qDiff 2 refl h (lit≤ tt) (omega arith) (part entry-values 0) ea za
 
       class-off : b ≡ 0 → Over entry s stop at n (Refused 4 (at + 2))
       class-off z =
           value-on (λ q f. then (class q) (then speed f)) q-took
-          (over-off (past-off s stop (rw (class-refusal (t / 2048)) at (took-none s stop (class (t / 2048)) 4 (class-width (t / 2048)) (q-took .stands) (lit≤ tt) (omega arith) class-value eb z))))
+          (over-off (past-off s stop (rw (class-refusal (t / 2048)) at (took-none s stop (class (t / 2048)) 4 (class-width (t / 2048)) (q-took .stands) (lit≤ tt) (omega arith) (part entry-values 1) eb z))))
 
       module _ (zb : b ≡ 0 → ⊥) where
         class-took : Took (class (t / 2048)) s stop (at + 2) (n + a) (PacketValue.Is (t / 128 % 16) (at + 2 + 4) (n + a + b))
-        class-took = took-some s stop (class (t / 2048)) 4 (class-width (t / 2048)) (q-took .stands) (lit≤ tt) (omega arith) class-value eb zb
+        class-took = took-some s stop (class (t / 2048)) 4 (class-width (t / 2048)) (q-took .stands) (lit≤ tt) (omega arith) (part entry-values 1) eb zb
 
         speed-off : d ≡ 0 → Over entry s stop at n (Refused 4 (at + 2 + 4))
         speed-off z =
             value-on (λ q f. then (class q) (then speed f)) q-took
-            (over-on (past s stop class-took) (past-off s stop (took-none s stop speed 7 refl (class-took .stands) (lit≤ tt) (omega arith) speed-value ed z)))
+            (over-on (past s stop class-took) (past-off s stop (took-none s stop speed 7 refl (class-took .stands) (lit≤ tt) (omega arith) (part entry-values 2) ed z)))
 
         entry-on : (d ≡ 0 → ⊥) → Over entry s stop at n (On (at + 13) (n + (a + b + d)))
         entry-on z =
             let p : at + 2 + 4 + 7 ≡ at + 13 = omega arith in
             let m : n + a + b + d ≡ n + (a + b + d) = omega arith in
             rw (← m, ← p) (value-on (λ q f. then (class q) (then speed f)) q-took
-            (over-on (past s stop class-took) (past s stop (took-some s stop speed 7 refl (class-took .stands) (lit≤ tt) (omega arith) speed-value ed z))))
+            (over-on (past s stop class-took) (past s stop (took-some s stop speed 7 refl (class-took .stands) (lit≤ tt) (omega arith) (part entry-values 2) ed z))))
 
   -- the same with the bytes of Q_DIFF and class together
   module _ (room : 13 ≤ stop - at) {t : ℕ} (e : t ≡ fieldAt s at 13) {r d : ℕ} (er : r ≡ nameBytes (t / 128 / 16) (t / 128 % 16)) (ed : d ≡ bytesOf (valueInPacket speed (t % 128))) where
@@ -156,30 +151,24 @@ module _ (s : List ℕ) (stop : ℕ) {at n : ℕ} (h : Standing s stop at n) whe
   -- ---- V_STATIC 7, Q_FRONT 1, N_ITER 5: the last two may have any value
 
   module _ (room : 13 ≤ stop - at) {t : ℕ} (e : t ≡ fieldAt s at 13) {a : ℕ} (ea : a ≡ bytesOf (valueInPacket speed (t / 64))) where
-    static-value : t / 64 ≡ fieldAt s at 7
-    static-value = rw e (field-front s at 7 6 (inside 13 room))
-
-    front-value : t / 32 % 2 ≡ fieldAt s (at + 7) 1
-    front-value = rw e (read-window s at (at + 7) 1 5 13 (omega arith) (omega arith) (inside 13 room))
-
-    count-value : t % 32 ≡ fieldAt s (at + 7 + 1) 5
-    count-value = let p : at + 7 + 1 ≡ at + 8 = omega arith in rw (e, p) (field-back s at 8 5 (inside 13 room))
+    head-values : parts (7 ∷ 1 ∷ 5 ∷ []) t ≡ fieldsAt s at (7 ∷ 1 ∷ 5 ∷ [])
+    head-values = parts-at s at (7 ∷ 1 ∷ 5 ∷ []) e (inside 13 room)
 
     pub head-off : a ≡ 0 → Gave profileHead s stop at n (PacketValue.Refused 4 at)
-    head-off z = gave-off (past-off s stop (took-none s stop speed 7 refl h (lit≤ tt) (omega arith) static-value ea z))
+    head-off z = gave-off (past-off s stop (took-none s stop speed 7 refl h (lit≤ tt) (omega arith) (part head-values 0) ea z))
 
     module _ (z : a ≡ 0 → ⊥) where
       static-took : Took speed s stop at n (PacketValue.Is (t / 64) (at + 7) (n + a))
-      static-took = took-some s stop speed 7 refl h (lit≤ tt) (omega arith) static-value ea z
+      static-took = took-some s stop speed 7 refl h (lit≤ tt) (omega arith) (part head-values 0) ea z
 
       front-took : Took qFront s stop (at + 7) (n + a) (PacketValue.Is (t / 32 % 2) (at + 7 + 1) (n + a + 1))
       front-took =
-          took-some s stop qFront 1 refl (static-took .stands) (lit≤ tt) (omega arith) front-value
+          took-some s stop qFront 1 refl (static-took .stands) (lit≤ tt) (omega arith) (part head-values 1)
           (bytes-some qFront (t / 32 % 2) (both-in 0 1 (t / 32 % 2) (omega arith) (omega arith)) (one-byte (t / 32 % 2) (omega arith))) (λ u. omega arith)
 
       count-took : Took (nIter 31) s stop (at + 7 + 1) (n + a + 1) (PacketValue.Is (t % 32) (at + 7 + 1 + 5) (n + a + 1 + 1))
       count-took =
-          took-some s stop (nIter 31) 5 refl (front-took .stands) (lit≤ tt) (omega arith) count-value
+          took-some s stop (nIter 31) 5 refl (front-took .stands) (lit≤ tt) (omega arith) (part head-values 2)
           (bytes-some (nIter 31) (t % 32) (both-in 0 31 (t % 32) (omega arith) (omega arith)) (one-byte (t % 32) (omega arith))) (λ u. omega arith)
 
       pub head-on : Gave profileHead s stop at n (PacketValue.Is (t % 32) (at + 13) (n + a + 2))
@@ -192,26 +181,23 @@ module _ (s : List ℕ) (stop : ℕ) {at n : ℕ} (h : Standing s stop at n) whe
 
   module _ (room : 14 ≤ stop - at) {t : ℕ} (e : t ≡ fieldAt s at 14) {a b : ℕ}
       (ea : a ≡ bytesOf (valueInPacket mVoltage (t / 1024))) (eb : b ≡ bytesOf (valueInPacket (nidCTraction (t / 1024)) (t % 1024))) where
-    volts-value : t / 1024 ≡ fieldAt s at 4
-    volts-value = rw e (field-front s at 4 10 (inside 14 room))
-
-    traction-value : t % 1024 ≡ fieldAt s (at + 4) 10
-    traction-value = rw e (field-back s at 4 10 (inside 14 room))
+    wire-values : parts (4 ∷ 10 ∷ []) t ≡ fieldsAt s at (4 ∷ 10 ∷ [])
+    wire-values = parts-at s at (4 ∷ 10 ∷ []) e (inside 14 room)
 
     pub volts-off : a ≡ 0 → Over voltage s stop at n (Refused 4 at)
-    volts-off z = value-off (λ u f. then (nidCTraction u) f) (took-none s stop mVoltage 4 refl h (lit≤ tt) (omega arith) volts-value ea z)
+    volts-off z = value-off (λ u f. then (nidCTraction u) f) (took-none s stop mVoltage 4 refl h (lit≤ tt) (omega arith) (part wire-values 0) ea z)
 
     module _ (za : a ≡ 0 → ⊥) where
       volts-took : Took mVoltage s stop at n (PacketValue.Is (t / 1024) (at + 4) (n + a))
-      volts-took = took-some s stop mVoltage 4 refl h (lit≤ tt) (omega arith) volts-value ea za
+      volts-took = took-some s stop mVoltage 4 refl h (lit≤ tt) (omega arith) (part wire-values 0) ea za
 
       pub traction-off : b ≡ 0 → Over voltage s stop at n (Refused 4 (at + 4))
       traction-off z =
           value-on (λ u f. then (nidCTraction u) f) volts-took
-          (past-off s stop (took-none s stop (nidCTraction (t / 1024)) 10 refl (volts-took .stands) (lit≤ tt) (omega arith) traction-value eb z))
+          (past-off s stop (took-none s stop (nidCTraction (t / 1024)) 10 refl (volts-took .stands) (lit≤ tt) (omega arith) (part wire-values 1) eb z))
 
       pub wire-on : (b ≡ 0 → ⊥) → Over voltage s stop at n (On (at + 14) (n + a + b))
       wire-on z =
           let p : at + 4 + 10 ≡ at + 14 = omega arith in
           rw p at (value-on (λ u f. then (nidCTraction u) f) volts-took
-          (past s stop (took-some s stop (nidCTraction (t / 1024)) 10 refl (volts-took .stands) (lit≤ tt) (omega arith) traction-value eb z)))
+          (past s stop (took-some s stop (nidCTraction (t / 1024)) 10 refl (volts-took .stands) (lit≤ tt) (omega arith) (part wire-values 1) eb z)))

@@ -8,6 +8,7 @@ use native.Mathlib.Omega.{arith}
 use lib.Dec.{lit<}
 use lib.ListN.{length, drop, getD}
 use lib.Pow.{pow-mono}
+use Rattle.bits.specs.internal.Windows.{bitsIn}
 use Rattle.bits.specs.Bits.{bitsOf}
 use Rattle.bits.proofs.Parts.{join-small}
 use Rattle.bits.specs.internal.write.Filling.{Filling}
@@ -20,7 +21,7 @@ use Rattle.grammar.specs.internal.rows.Rows.{row, fits}
 use Rattle.packet_write_segment.specs.declared.elements.PacketSpot.{PacketSpot}
 use Rattle.packet_write_segment.specs.internal.elements.Writing.{Ready, Wrote}
 use Rattle.packet_write_segment.proofs.elements.Writing.{bits-join, Has, has-small, Gone, gone-all, gone-as, gone-there, gone-field, wrote-once}
-use Rattle.packet_write_journey.specs.internal.row.Pieces.{rowBits, part, between, Puttable}
+use Rattle.packet_write_journey.specs.internal.row.Pieces.{part, between, Puttable}
 use Rattle.packet_write_journey.proofs.row.Alone.{left-has}
 use Rattle.packet_write_journey.proofs.row.Rows.{rowFrom, Fits, fits-long, fits-at, row-more, row-none, bits-more, bits-none}
 
@@ -32,7 +33,7 @@ pub record Gathers (ws ms s room : List ℕ) (u : PacketSpot) (total i from bits
   pub width : ℕ
   pub gone : Gone s (row ws ms) (rowFrom ws ms i) (u .from) from (bitsOf width bits)
   pub small : bits < 2 ^ width
-  pub sum : width + rowBits (drop i ws) ≡ total
+  pub sum : width + bitsIn (drop i ws) ≡ total
 
 pub gathers-start : {ws ms s room : List ℕ} {u : PacketSpot} {first end total : ℕ} → Ready (between ws ms first end) s room u → Puttable ws ms first end total
     → Gathers (part ws first end) (part ms first end) s room u total 0 (u .from) 0

@@ -9,11 +9,11 @@ use borrow.Author.Tests.{leb-true, ltb-true}
 use lib.Dec.{leb, ltb}
 use lib.ListN.{length, drop, getD, drop-of-length-le}
 use lib.Seq.{drop-cons}
+use Rattle.bits.specs.internal.Windows.{bitsIn}
 use Rattle.bits.proofs.Tests.{and-left, and-right}
 use Rattle.kinds.specs.Kind.{upTo}
 use Rattle.format.specs.Format.{Format, then}
 use Rattle.grammar.specs.internal.rows.Rows.{row, fits}
-use Rattle.packet_write_journey.specs.internal.row.Pieces.{rowBits}
 
 -- a width from 1 to 32, and a largest value that it holds
 pub record Fits (w m : ℕ) : Type 0 where
@@ -61,8 +61,8 @@ row-none (w ∷ ws) ms zero h e f = absurd (omega arith)
 row-none (w ∷ ws) [] (suc i) h e f = absurd (omega arith)
 row-none (w ∷ ws) (m ∷ ms) (suc i) h e f = row-none ws ms i (omega arith) (omega arith) f
 
-pub bits-more : (ws : List ℕ) (i : ℕ) → i < length ws → rowBits (drop i ws) ≡ getD ws i 0 + rowBits (drop (i + 1) ws)
+pub bits-more : (ws : List ℕ) (i : ℕ) → i < length ws → bitsIn (drop i ws) ≡ getD ws i 0 + bitsIn (drop (i + 1) ws)
 bits-more ws i h = rw (add-one i, drop-cons ws i 0 h)
 
-pub bits-none : (ws : List ℕ) (i : ℕ) → length ws ≤ i → rowBits (drop i ws) ≡ 0
+pub bits-none : (ws : List ℕ) (i : ℕ) → length ws ≤ i → bitsIn (drop i ws) ≡ 0
 bits-none ws i h = rw (drop-of-length-le ws h)

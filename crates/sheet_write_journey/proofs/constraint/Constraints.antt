@@ -8,7 +8,7 @@ use borrow.Author.Tests.{leb-true}
 use lib.Dec.{leb}
 use Rattle.bits.specs.Bits.{fieldAt}
 use Rattle.bits.proofs.Tests.{and-right}
-use Rattle.bits.proofs.Windows.{cut-high, cut-field}
+use Rattle.bits.proofs.Windows.{parts-at, part}
 use Rattle.numbers.specs.internal.Groups.{Put}
 use Rattle.kinds.specs.Kinds.{noCurrent}
 use Rattle.format.specs.Format.{Format, field, then}
@@ -41,10 +41,12 @@ module _ (s : List ℕ) (at : ℕ) (p : Put) (h : RestrictionFits s at p) {t : �
 
   restriction-cuts : restrictionAt s at ≡ cuts
   restriction-cuts =
-      let a : t / 1048576 ≡ fieldAt s at 1 = rw e (cut-high s at 1 7 13 (h .inside)) in
-      let b : t / 8192 % 128 ≡ fieldAt s (at + 1) 7 = rw e (cut-field s at 1 7 13 (h .inside)) in
-      let c : t / 1024 % 8 ≡ fieldAt s (at + 8) 3 = rw e (cut-field s at 8 3 10 (h .inside)) in
-      rw (a, b, c)
+      let v = parts-at s at (1 ∷ 7 ∷ 3 ∷ 10 ∷ []) e (h .inside) in
+      let a : t / 1048576 ≡ fieldAt s at 1 = part v 0 in
+      let b : t / 8192 % 128 ≡ fieldAt s (at + 1) 7 = part v 1 in
+      let c : t / 1024 % 8 ≡ fieldAt s (at + 1 + 7) 3 = part v 2 in
+      let p : at + 1 + 7 ≡ at + 8 = omega arith in
+      rw (a, b, c, p)
 
   pub restriction-fits : FitAll p cuts
   restriction-fits = rw restriction-cuts at (h .holds)

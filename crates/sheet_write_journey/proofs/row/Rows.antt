@@ -1,16 +1,17 @@
 -- Numbers put one after another, and fields copied in a row: one more, two rows after one another, and the fields of a window that is read at once.
-use mathlib.Core.Path.{_≡_, refl, sym, ap, _∙_}
+use mathlib.Core.Path.{_≡_, refl, sym, _∙_}
 use mathlib.Core.List.{List, [], _∷_, _++_}
-use Prim.Native.Nat.{ℕ, _+_, _*_, _/_, _%_, _^_, _≤_, _<_}
+use Prim.Native.Nat.{ℕ, _+_, _*_, _%_, _^_, _≤_, _<_}
 use native.Mathlib.Omega.{arith}
 use lib.ListN.{length}
 use Rattle.bits.specs.Bits.{fieldAt}
-use Rattle.bits.proofs.Windows.{cut-high, cut-field, cut-low}
+use Rattle.bits.specs.internal.Windows.{bitsIn, parts}
+use Rattle.bits.proofs.Windows.{field-back, parts-at, bits-join, fields-join}
 use Rattle.numbers.specs.Numbers.{groupsIn}
 use Rattle.numbers.specs.internal.Groups.{Put}
 use Rattle.numbers.proofs.Counting.{last-group}
 use Rattle.sheet_write_segment.specs.internal.elements.Writing.{putting}
-use Rattle.sheet_write_journey.specs.internal.row.Row.{bitsIn, putAll, FitAll, none, more, valuesAt, Row, copied}
+use Rattle.sheet_write_journey.specs.internal.row.Row.{putAll, FitAll, none, more, valuesAt, Row, copied}
 
 -- ---- one more number
 
@@ -61,16 +62,9 @@ module _ (us vs : List ℕ) (p : Put) {q : Put} (e : q ≡ putAll p us) where
 
 -- ---- a row of two parts is copied part after part
 
-pub bits-join : (ws vs : List ℕ) → bitsIn (ws ++ vs) ≡ bitsIn ws + bitsIn vs
-bits-join [] vs = omega arith
-bits-join (w ∷ ws) vs = omega (arith, bits-join ws vs)
-
 pub values-join : (s : List ℕ) (at : ℕ) (ws vs : List ℕ) → valuesAt s at (ws ++ vs) ≡ valuesAt s at ws ++ valuesAt s (at + bitsIn ws) vs
 unfolding valuesAt
-values-join s at [] vs = let e : at + 0 ≡ at = omega arith in rw e
-values-join s at (w ∷ ws) vs =
-    let e : at + (w + bitsIn ws) ≡ at + w + bitsIn ws = omega arith in
-    rw e (ap (λ (l : List ℕ). fieldAt s at w ∷ l) (values-join s (at + w) ws vs))
+values-join s at ws vs = fields-join s at ws vs
 
 module _ (s : List ℕ) (at : ℕ) (ws vs : List ℕ) (p : Put) where
   abbrev here : List ℕ
@@ -101,50 +95,17 @@ module _ (s : List ℕ) (at : ℕ) (ws vs : List ℕ) (p : Put) where
 
 -- ---- fields that are read at once, as t
 
--- the fields of a window after others of it, and all of its fields
-abbrev pub cutsAfter : ℕ → List ℕ → List ℕ
-cutsAfter t [] = []
-cutsAfter t (w ∷ []) = t % 2 ^ w ∷ []
-cutsAfter t (w ∷ v ∷ ws) = t / 2 ^ bitsIn (v ∷ ws) % 2 ^ w ∷ cutsAfter t (v ∷ ws)
-
-abbrev pub cuts : ℕ → List ℕ → List ℕ
-cuts t [] = []
-cuts t (w ∷ []) = t ∷ []
-cuts t (w ∷ v ∷ ws) = t / 2 ^ bitsIn (v ∷ ws) ∷ cutsAfter t (v ∷ ws)
-
 pub cut-last : (s : List ℕ) (at o w : ℕ) {t : ℕ} → t ≡ fieldAt s at (o + w) → at + (o + w) ≤ 8 * length s → t % 2 ^ w ≡ fieldAt s (at + o) w
-cut-last s at o w e h =
-    let d : o + w ≡ o + (0 + w) = omega arith in
-    let c : at + o + 0 ≡ at + o = omega arith in
-    rw (e, d) (rw c at (cut-low s at o 0 w (omega arith)))
-
-module _ (s : List ℕ) (at t : ℕ) where
-  cuts-after : (o : ℕ) (ws : List ℕ) → t ≡ fieldAt s at (o + bitsIn ws) → at + (o + bitsIn ws) ≤ 8 * length s → cutsAfter t ws ≡ valuesAt s (at + o) ws
-  unfolding valuesAt
-  cuts-after o [] e h = refl
-  cuts-after o (w ∷ []) e h =
-      let d : o + (w + 0) ≡ o + w = omega arith in
-      rw (cut-last s at o w (e ∙ rw d) (omega arith))
-  cuts-after o (w ∷ v ∷ ws) e h =
-      let d : o + (w + bitsIn (v ∷ ws)) ≡ o + w + bitsIn (v ∷ ws) = omega arith in
-      let c : at + o + w ≡ at + (o + w) = omega arith in
-      let q : t / 2 ^ bitsIn (v ∷ ws) % 2 ^ w ≡ fieldAt s (at + o) w = rw e (cut-field s at o w (bitsIn (v ∷ ws)) h) in
-      rw (q, c, cuts-after (o + w) (v ∷ ws) (rw d at e) (omega arith))
-
-  pub cuts-all : (ws : List ℕ) → t ≡ fieldAt s at (bitsIn ws) → at + bitsIn ws ≤ 8 * length s → valuesAt s at ws ≡ cuts t ws
-  unfolding valuesAt
-  cuts-all [] e h = refl
-  cuts-all (w ∷ []) e h = let d : w + 0 ≡ w = omega arith in rw (e, d)
-  cuts-all (w ∷ v ∷ ws) e h =
-      let q : t / 2 ^ bitsIn (v ∷ ws) ≡ fieldAt s at w = rw e (cut-high s at w v (bitsIn ws) h) in
-      rw (q, cuts-after w (v ∷ ws) e h)
+cut-last s at o w e h = rw e (field-back s at o w h)
 
 module _ (s : List ℕ) (at : ℕ) (ws : List ℕ) (p : Put) (h : Row s at ws p) {t : ℕ} (e : t ≡ fieldAt s at (bitsIn ws)) where
-  pub window-fits : FitAll p (cuts t ws)
-  window-fits = rw (cuts-all s at t ws e (h .inside)) at (h .holds)
+  pub window-fits : FitAll p (parts ws t)
+  unfolding valuesAt
+  window-fits = rw (← parts-at s at ws e (h .inside)) at (h .holds)
 
-  pub window-copied : {q : Put} → q ≡ putAll p (cuts t ws) → q ≡ copied s at ws p
-  window-copied d = rw (cuts-all s at t ws e (h .inside)) d
+  pub window-copied : {q : Put} → q ≡ putAll p (parts ws t) → q ≡ copied s at ws p
+  unfolding valuesAt
+  window-copied d = rw (← parts-at s at ws e (h .inside)) d
 
 -- a number below 128
 pub single : (v : ℕ) → v < 128 → groupsIn v ≡ v ∷ []

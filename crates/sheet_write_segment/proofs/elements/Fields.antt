@@ -6,7 +6,7 @@ use native.Mathlib.Omega.{arith}
 use lib.Dec.{lit<, lit≤}
 use lib.ListN.{length}
 use Rattle.bits.specs.Bits.{fieldAt}
-use Rattle.bits.proofs.Windows.{cut-high, cut-field, cut-low}
+use Rattle.bits.proofs.Windows.{field-front, cut-field, cut-low}
 use Rattle.bits.proofs.Fields.{window-small}
 use Rattle.numbers.specs.internal.Groups.{Put}
 use Rattle.kinds.specs.Kind.{Kind}
@@ -67,7 +67,7 @@ module _ (s : List ℕ) (stop : ℕ) (k : Kind) (l : ℕ → Kind) (m : Kind) (p
 
     module _ {t : ℕ} (e : t ≡ fieldAt s at (a + (b + d))) where
       front : t / 2 ^ (b + d) ≡ fieldAt s at a
-      front = rw e (cut-high s at a b d inside)
+      front = rw e (field-front s at a (b + d) inside)
 
       between : t / 2 ^ d % 2 ^ b ≡ fieldAt s (at + a) b
       between = rw e (cut-field s at a b d inside)

@@ -2,7 +2,7 @@
 use mathlib.Core.List.{List, [], _∷_}
 use Prim.Native.Nat.{ℕ, _+_, _*_, _^_, _≤_, _<_}
 use lib.ListN.{length}
-use Rattle.bits.specs.Bits.{fieldAt}
+use Rattle.bits.specs.internal.Windows.{bitsIn, fieldsAt}
 use Rattle.numbers.specs.Numbers.{groupsIn}
 use Rattle.numbers.specs.internal.Groups.{Put}
 use Rattle.sheet_write_segment.specs.internal.elements.Writing.{putting}
@@ -20,15 +20,9 @@ pub data FitAll : Put → List ℕ → Type 0 where
 
 -- ---- fields in a row
 
--- the bits of all of them
-abbrev pub bitsIn : List ℕ → ℕ
-bitsIn [] = 0
-bitsIn (w ∷ ws) = w + bitsIn ws
-
--- their values, from the bit at on
+-- their values, from the bit at on: fieldsAt, shut so that a proof finds the widths
 unfoldable pub valuesAt : List ℕ → ℕ → List ℕ → List ℕ
-valuesAt s at [] = []
-valuesAt s at (w ∷ ws) = fieldAt s at w ∷ valuesAt s (at + w) ws
+valuesAt s at ws = fieldsAt s at ws
 
 -- all the fields are there, in a packet of at least eight bytes, and the room holds their numbers
 pub record Row (s : List ℕ) (at : ℕ) (ws : List ℕ) (p : Put) : Type 0 where
