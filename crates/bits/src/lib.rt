@@ -1,4 +1,4 @@
-// A field of up to 32 bits at any bit of a slice, read through the eight bytes that hold it.
+// Reads a field of up to 32 bits at any bit of a slice, through the eight bytes that hold it.
 pub mod write;
 
 ghost use mathlib.Core.Path.{_≡_};
@@ -6,10 +6,18 @@ ghost use Prim.Native.Nat.{_+_, _*_, _-_, _/_, _%_, _^_, _≤_, _<_, min};
 ghost use lib.ListN.{length};
 ghost use Rattle.bits.specs.Bits.{fieldAt};
 
-fn wide(x: u8) -> u64
+// Returns the byte `x` in 64 bits. A call `wider(s[i])` asks for no proof that the byte fits.
+pub fn wider(x: u8) -> u64
     ensures { λ r. ⌜ r ≡ x ⌝ }
 {
     x as u64
+}
+
+// Returns the byte `x` in 32 bits. A call `wide(s[i])` asks for no proof that the byte fits.
+pub fn wide(x: u8) -> u32
+    ensures { λ r. ⌜ r ≡ x ⌝ }
+{
+    x as u32
 }
 
 fn power(k: u32) -> u64
@@ -19,16 +27,16 @@ fn power(k: u32) -> u64
     1 << k
 }
 
-// ---- eight bytes as one number, the first byte at the top: the sum starts with the last, and compiles to one load
+// ---- eight bytes as one number, the first byte in its highest bits. For speed, the sum starts with the last byte: so it compiles to one load.
 
 fn byte(s: &[u8], i: usize) -> u64
     requires { ⌜ i < length (now s) ⌝ }
     ensures { λ r. ⌜ r ≡ fieldAt (now (s .entry)) (8 * i) 8 ⌝ }
 {
-    wide(s[i])
+    wider(s[i])
 }
 
-// Twice n bytes, from their halves. The slice and the place are for the contract alone.
+// Joins the numbers of two halves, `n` bytes each, that stand at the byte `i` of `s`. Only the contract uses `s` and `i`.
 fn joined(s: &[u8], i: usize, n: u32, low: u64, high: u64) -> u64
     requires { ⌜ (n ≤ 4) × (i + (n + n) ≤ length (now s)) × (low ≡ fieldAt (now s) (8 * (i + n)) (8 * n)) × (high ≡ fieldAt (now s) (8 * i) (8 * n)) ⌝ }
     ensures { λ r. ⌜ r ≡ fieldAt (now (s .entry)) (8 * i) (8 * n + 8 * n) ⌝ }
@@ -57,9 +65,9 @@ fn eight(s: &[u8], i: usize) -> u64
     joined(s, i, 4, four(s, i + 4), four(s, i))
 }
 
-// ---- a field of eight bytes
+// ---- a field of the eight bytes
 
-// Where the eight bytes start that hold a field at the bit at, in a slice of n: at the field's first byte, or with the last eight.
+// Returns where the eight bytes start that hold a field at the bit `at`, in a slice of `n` bytes: at the field's first byte, or 8 before the end.
 fn start(at: usize, n: usize) -> usize
     requires { ⌜ 8 ≤ n ⌝ }
     ensures { λ r. ⌜ r ≡ min (at / 8) (n - 8) ⌝ }
@@ -67,7 +75,7 @@ fn start(at: usize, n: usize) -> usize
     if at / 8 < n - 8 { at / 8 } else { n - 8 }
 }
 
-// The field of width bits before the lowest d.
+// Returns the `width` bits of `x` above its lowest `d`.
 fn cut(x: u64, d: u32, width: u32) -> u32
     requires { ⌜ (d < 64) × (width ≤ 32) ⌝ }
     ensures { λ r. ⌜ r ≡ x / 2 ^ d % 2 ^ width ⌝ }
@@ -75,9 +83,9 @@ fn cut(x: u64, d: u32, width: u32) -> u32
     ((x >> d) % power(width)) as u32
 }
 
-// ---- a field of a slice; in a slice shorter than eight bytes, one bit after the other
+// ---- a field of a slice
 
-// The bit at: the top bit of a byte stands first.
+// Reads the bit `at`. The top bit of a byte is its first.
 fn bit(s: &[u8], at: usize) -> u32
     requires { ⌜ at < 8 * length (now s) ⌝ }
     ensures { λ r. ⌜ r ≡ fieldAt (now (s .entry)) at 1 ⌝ }
@@ -85,7 +93,7 @@ fn bit(s: &[u8], at: usize) -> u32
     cut(byte(s, at / 8), (7 - at % 8) as u32, 1)
 }
 
-// The field of width bits at the bit at, in a slice of at least eight bytes.
+// Reads the `width` bits at the bit `at` of a slice of at least eight bytes.
 pub fn read_window(s: &[u8], at: usize, width: u32) -> u32
     requires { ⌜ (0 < width) × (width ≤ 32) × (at + width ≤ 8 * length (now s)) × (8 ≤ length (now s)) ⌝ }
     ensures { λ r. ⌜ r ≡ fieldAt (now (s .entry)) at width ⌝ }
@@ -94,7 +102,8 @@ pub fn read_window(s: &[u8], at: usize, width: u32) -> u32
     cut(eight(s, i), (64 - (at - 8 * i)) as u32 - width, width)
 }
 
-// The field of width bits at the bit at. It calls itself, so it stays a function of its own in the compiled code; s[0..] leaves the slice in registers.
+// Reads the `width` bits at the bit `at`; in a slice shorter than eight bytes, bit by bit.
+// For speed: a function that calls itself is not inlined, and `s[0..]` keeps the slice in registers.
 pub fn read_field(s: &[u8], at: usize, width: u32) -> u32
     requires { ⌜ (width ≤ 32) × (at + width ≤ 8 * length (now s)) × (at < 2 ^ 32) ⌝ }
     ensures { λ r. ⌜ r ≡ fieldAt (now (s .entry)) at width ⌝ }

@@ -1,4 +1,4 @@
-// Fields put one after the other into bytes. What is short of a whole byte waits in a register, so no byte is read back.
+// Puts fields one after the other into bytes. Bits that do not fill a byte yet are kept in `wait`, so no byte is read back.
 ghost use mathlib.Core.Path.{_≡_};
 ghost use Prim.Native.Nat.{_+_, _%_, _^_, _≤_, _<_};
 ghost use lib.ListN.{length};
@@ -11,7 +11,7 @@ fn low(x: u64) -> u8
     (x % 256) as u8
 }
 
-// Stores the two lowest bytes of x from the byte i on, the top byte first.
+// Stores the two lowest bytes of `x` from the byte `i` on, the higher one first.
 fn store_two(s: &mut [u8], i: usize, x: u64)
     requires { ⌜ i + 2 ≤ length (now s) ⌝ }
     ensures { λ _. ⌜ now (s .exit) ≡ sets (now (s .entry)) i (bytesIn 2 x) ⌝ }
@@ -20,7 +20,7 @@ fn store_two(s: &mut [u8], i: usize, x: u64)
     s[i + 1] = low(x);
 }
 
-// The same for four bytes.
+// Stores the four lowest bytes of `x` from the byte `i` on, the highest first.
 fn store_four(s: &mut [u8], i: usize, x: u64)
     requires { ⌜ i + 4 ≤ length (now s) ⌝ }
     ensures { λ _. ⌜ now (s .exit) ≡ sets (now (s .entry)) i (bytesIn 4 x) ⌝ }
@@ -29,7 +29,7 @@ fn store_four(s: &mut [u8], i: usize, x: u64)
     store_two(s, i + 2, x);
 }
 
-// The same for all eight.
+// Stores the eight bytes of `x` from the byte `i` on, the highest first.
 fn store_eight(s: &mut [u8], i: usize, x: u64)
     requires { ⌜ i + 8 ≤ length (now s) ⌝ }
     ensures { λ _. ⌜ now (s .exit) ≡ sets (now (s .entry)) i (bytesIn 8 x) ⌝ }
@@ -38,7 +38,8 @@ fn store_eight(s: &mut [u8], i: usize, x: u64)
     store_four(s, i + 4, x);
 }
 
-// The same where the slice ends before the eighth. The rest is shifted up, which keeps the compiler from making more of this loop than it is.
+// Stores the bytes of `x` from the byte `i` on, the highest first, up to the end of `s`, which has fewer than eight bytes there.
+// For speed: `rest` is shifted up, else the compiler makes longer code of this short loop.
 fn store_some(s: &mut [u8], i: usize, x: u64)
     requires { ⌜ length (now s) < i + 8 ⌝ }
     ensures { λ _. ⌜ now (s .exit) ≡ sets (now (s .entry)) i (bytesIn 8 x) ⌝ }
@@ -52,6 +53,7 @@ fn store_some(s: &mut [u8], i: usize, x: u64)
     }
 }
 
+// Stores the bytes of `x` from the byte `i` on, the highest first. Bytes past the end of `s` are dropped.
 fn store(s: &mut [u8], i: usize, x: u64)
     requires { ⌜ i < 2 ^ 63 ⌝ }
     ensures { λ _. ⌜ now (s .exit) ≡ sets (now (s .entry)) i (bytesIn 8 x) ⌝ }
@@ -63,7 +65,8 @@ fn store(s: &mut [u8], i: usize, x: u64)
     }
 }
 
-// Puts the width bits of v at the bit at, after those that wait, and returns what waits then. Bytes past the field may become 0; past the slice's end nothing is put.
+// Puts the `width` bits of `v` at the bit `at`, after the bits kept in `wait`, and returns the bits to keep then.
+// Bytes after the field may become 0. Past the end of `s` nothing is put.
 pub fn put(s: &mut [u8], at: usize, wait: u64, width: u32, v: u32) -> u64
     requires { ⌜ (0 < width) × (width ≤ 32) × (v < 2 ^ width) ⌝ }
     ensures { λ r. ⌜ Filling (now (s .entry)) at wait width v (now (s .exit)) r ⌝ }

@@ -1,17 +1,11 @@
 // Reads the numbers of an accepted sheet. Their form and size are not judged again.
-ghost use mathlib.Core.Path.{_≡_};
 ghost use Rattle.numbers.specs.internal.accepted.Accepted.{There, Single, Reads};
+use bits::wide;
 
 // A number, and the place of the byte after it.
 pub struct ReadNumber {
     pub value: u32,
     pub next: usize,
-}
-
-fn wide(x: u8) -> u32
-    ensures { λ r. ⌜ r ≡ x ⌝ }
-{
-    x as u32
 }
 
 // Reads the number at byte `from`, of one group. Fast path: `next` does not depend on the byte.

@@ -73,12 +73,6 @@ pub fn ranged(
     )
 }
 
-fn wide(x: u8) -> u32
-    ensures { λ r. ⌜ r ≡ x ⌝ }
-{
-    x as u32
-}
-
 // Judges a field of `width` bits from 0 to `largest` (below 128) and returns its value.
 // Fast path: a byte up to `largest` is the whole number, so that the next place does not depend on it.
 pub fn single(s: &[u8], at: usize, n: u32, width: u32, largest: u32) -> SheetValue
@@ -86,7 +80,7 @@ pub fn single(s: &[u8], at: usize, n: u32, width: u32, largest: u32) -> SheetVal
     ensures { λ r. ⌜ Took (upTo width largest) (now (s .entry)) at n r ⌝ }
 {
     if at < s.len() {
-        let v = wide(s[at]);
+        let v = bits::wide(s[at]);
         if v <= largest {
             return SheetValue::Is(v, at + 1, std::num::wrapping_add_u32(n, width));
         }

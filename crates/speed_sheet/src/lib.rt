@@ -58,18 +58,12 @@ fn entry(s: &[u8], at: usize, train: Train, lows: Lows) -> Entered
     Entered { lows, next: v.next }
 }
 
-fn wide(x: u8) -> u32
-    ensures { λ r. ⌜ r ≡ x ⌝ }
-{
-    x as u32
-}
-
 // The byte after a number of at most two groups: its first byte tells how many.
 fn short_end(s: &[u8], at: usize) -> usize
     requires { ⌜ at < length (now s) ⌝ }
     ensures { λ r. ⌜ r ≡ shortEnd (now (s .entry)) at ⌝ }
 {
-    at + 1 + (wide(s[at]) / 128) as usize
+    at + 1 + (bits::wide(s[at]) / 128) as usize
 }
 
 // The byte after an element's entries, which are passed over: Q_DIFF has one group, the class and the speed one or two.
@@ -93,8 +87,8 @@ fn element(s: &[u8], at: usize, start: u32) -> ElementAt
 {
     let v_static = number(s, at);
     let second = v_static.next;
-    let q_front = wide(s[second]);
-    let count = wide(s[second + 1]);
+    let q_front = bits::wide(s[second]);
+    let count = bits::wide(s[second + 1]);
     let entries = second + 2;
     let next = entries_end(s, entries, count);
     ElementAt {
@@ -188,7 +182,7 @@ fn run(s: &[u8], at: usize, first: u32, end: u32) -> usize
     let mut to = at;
     let mut i = first;
     while i < end {
-        i += 1 - wide(s[to]) / 128;
+        i += 1 - bits::wide(s[to]) / 128;
         to += 1;
     }
     to
