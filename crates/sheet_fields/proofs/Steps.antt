@@ -17,7 +17,7 @@ use Rattle.numbers.specs.internal.Groups.{found}
 use Rattle.numbers.proofs.Reading.{found-value, found-none, number-only}
 use Rattle.kinds.specs.declared.Item.{Item}
 use Rattle.kinds.specs.Kind.{Kind, range}
-use Rattle.kinds.specs.Kinds.{digits, nidOperational, class, dLocation, dEndAfter, noCurrent}
+use Rattle.kinds.specs.Kinds.{digits, nidOperational, dLocation, dEndAfter, noCurrent}
 use Rattle.fields.proofs.Lawful.{LawfulKind}
 use Rattle.fields.specs.internal.lower.Lowered.{valueOr, lowered}
 use Rattle.fields.proofs.lower.Lowering.{lowered-none}
@@ -146,12 +146,6 @@ unused-in v e = rw e
 
 pub unused-out : (v : ℕ) → (v ≡ 0 → ⊥) → noCurrent .lower v ≡ none
 unused-out v e = rw (ne-eqb v 0 e)
-
--- ---- classes
-
-pub class-refusal : (q v : ℕ) → class q .refusal v ≡ 4
-class-refusal zero v = refl
-class-refusal (suc q) v = refl
 
 -- ---- the digits of NID_OPERATIONAL
 

@@ -27,17 +27,9 @@ use Rattle.grammar.specs.internal.journey.Parts.{segmentWidths, segmentM
 use Rattle.grammar.specs.internal.segment.Parts.{headerWidths, headerMost}
 use Rattle.grammar.proofs.journey.Parts.{segment-rows, point-rows, segment-fits, arrival-fits, stopping-fits}
 use Rattle.grammar.proofs.segment.Parts.{header-rows, header-fits}
+use Rattle.grammar.proofs.segment.Ends.{bits, one, groups}
 use Rattle.grammar.proofs.journey.Tree.{Costs, end-width, level-width, constraint-groups, start-lawful, end-lawful, front-lawful, level-lawful, adhesion-lawful, fields-measured, sheet-measured}
 use Rattle.grammar.proofs.journey.Weighed.{Weighed, empty, more, looser, weighs}
-
-abbrev pub bits : Kind → ℕ
-bits k = k .width
-
-abbrev one : Kind → ℕ
-one k = 1
-
-abbrev groups : Kind → ℕ
-groups k = length (groupsIn (k .highest))
 
 pub bit-costs : Costs bits bits
 bit-costs = record {

@@ -1,5 +1,4 @@
 -- No segment of any limit of wire changes is smaller or larger than the ends: the bits of a body, the bytes of a packet and of a sheet.
-use mathlib.Core.Path.{_≡_, refl}
 use mathlib.Core.List.{List}
 use Prim.Native.Nat.{ℕ, zero, suc, _+_, _≤_}
 use native.Mathlib.Omega.{arith}
@@ -20,14 +19,11 @@ use Rattle.grammar.specs.segment.Frame.{packetOfBits}
 use Rattle.grammar.specs.segment.Judgement.{segmentNumber}
 use Rattle.grammar.specs.segment.Ends.{mostBits, mostBytes, mostSheet}
 use Rattle.grammar.proofs.segment.Framing.{framed-length}
+use Rattle.grammar.proofs.segment.Parts.{class-width}
 use Rattle.grammar.proofs.segment.Tree.{Costs, fields-measured, sheetFields-measured}
 
 abbrev pub bits : Kind → ℕ
 bits k = k .width
-
-class-width : (q : ℕ) → class q .width ≡ 4
-class-width zero = refl
-class-width (suc q) = refl
 
 pub bit-costs : Costs bits bits
 bit-costs = record {
@@ -47,10 +43,10 @@ bit-costs = record {
   iter-high = λ n h. omega arith;
 }
 
-abbrev one : Kind → ℕ
+abbrev pub one : Kind → ℕ
 one k = 1
 
-abbrev groups : Kind → ℕ
+abbrev pub groups : Kind → ℕ
 groups k = length (groupsIn (k .highest))
 
 class-groups : (q : ℕ) → groups (class q) ≤ 2

@@ -13,7 +13,7 @@ use Rattle.bits.specs.Bits.{Bytes, fill}
 use Rattle.bits.proofs.Tests.{by-cases}
 use Rattle.kinds.specs.declared.Item.{Item}
 use Rattle.kinds.specs.Kind.{Kind}
-use Rattle.kinds.specs.Kinds.{class}
+use Rattle.fields.proofs.size.Bytes.{class-refusal}
 use Rattle.format.specs.Format.{Format, Read, accepted, refused, read}
 use Rattle.format.specs.Media.{packet, sheet}
 use Rattle.format.specs.Conforming.{InSheet}
@@ -103,10 +103,6 @@ sheet-grounds limit s r place ok = sheet-ground (sheetFields limit) 0 s r place 
 -- a part that can stand in front of any format: its fields have a refusal of `FieldRefusal` too
 abbrev Kept : (Format → Format) → Type 0
 Kept front = (f : Format) → Every FieldRefusal f → Every FieldRefusal (front f)
-
-class-refusal : (q v : ℕ) → class q .refusal v ≡ 4
-class-refusal zero v = refl
-class-refusal (suc q) v = refl
 
 entries-refusals : (n : ℕ) → Kept (entries n)
 unfolding entries

@@ -3,7 +3,8 @@ use denote.Ref.{now}
 use Rattle.kinds.specs.Kinds.{class}
 use Rattle.fields.proofs.Lawful.{class-lawful}
 use Rattle.grammar.proofs.segment.Parts.{class-width}
-use Rattle.sheet_fields.proofs.Steps.{class-refusal, low-over}
+use Rattle.fields.proofs.size.Bytes.{class-refusal}
+use Rattle.sheet_fields.proofs.Steps.{low-over}
 use borrow.Author.Needs.{needs}
 use Rattle.sheet_fields.proofs.class.Statement.{statement}
 use Rattle.sheet_fields.proofs.class.Tie as tie
