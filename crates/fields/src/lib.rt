@@ -1,17 +1,16 @@
-// How many bits a field has by its rule; and the two tables of figures, which both conversions look up.
+// One field between packet and sheet: its width, its value lowered and raised, its bytes in the sheet, and the tables of figures.
 pub mod lower;
+pub mod raise;
 pub mod size;
+pub mod tables;
 
 ghost use mathlib.Core.Path.{_≡_};
 ghost use Rattle.kinds.specs.internal.Rules.{meaning};
-
-pub mod tables;
-
 use kinds::Rule;
 use kinds::body::MCurrent;
 use kinds::body::VStatic;
 
-// How many bits a field has in a packet.
+// Returns how many bits a field of the rule `rule` has in a packet.
 pub fn width(rule: Rule) -> u32
     ensures { λ r. ⌜ r ≡ meaning rule .width ⌝ }
 {

@@ -1,4 +1,4 @@
-// A sheet's number lowered to the value of its field, by closed tests: what judging a sheet and writing its packet share.
+// Lowers a sheet's number to the packet's value: what judging a sheet and writing its packet share.
 ghost use mathlib.Core.Path.{_≡_};
 ghost use Rattle.kinds.specs.Tables.{cantFigures};
 ghost use Rattle.kinds.specs.Kinds.{speed, ncCdDiff, ncDiff, class, mVoltage, mCurrent};
@@ -6,7 +6,7 @@ ghost use Rattle.fields.specs.internal.lower.Lowered.{lowered};
 use crate::tables;
 use kinds::body;
 
-// What stands for no value: one more than its field's bits hold.
+// Returned where a number has no value: one more than the field's bits hold.
 pub const NO_SPEED: u32 = 128;
 
 pub const NO_CLASS: u32 = 16;
@@ -15,7 +15,7 @@ pub const NO_VOLTAGE: u32 = 16;
 
 pub const NO_CURRENT: u32 = 1024;
 
-// V_STATIC or V_DIFF, in steps.
+// Returns the V_STATIC or V_DIFF of `a` km/h, in steps of 5 km/h.
 pub fn speed_steps(a: u32) -> u32
     ensures { λ r. ⌜ r ≡ lowered speed a ⌝ }
 {
@@ -26,7 +26,8 @@ pub fn speed_steps(a: u32) -> u32
     NO_SPEED
 }
 
-// A cant figure has at most one place that it can stand at, near (a - 67) / 22: one look at the table decides.
+// Returns the NC_CDDIFF of the cant figure `a` mm.
+// For speed: a figure can stand only near (a - 67) / 22 in the table, so one look decides.
 fn cant_place(figures: &[u32; 11], a: u32) -> u32
     requires { ⌜ now figures ≡ cantFigures ⌝ }
     ensures { λ r. ⌜ r ≡ lowered ncCdDiff a ⌝ }
@@ -42,6 +43,7 @@ fn cant_place(figures: &[u32; 11], a: u32) -> u32
     NO_CLASS
 }
 
+// Returns the NC_DIFF of the category `a`.
 fn category(a: u32) -> u32
     ensures { λ r. ⌜ r ≡ lowered ncDiff a ⌝ }
 {
@@ -51,7 +53,8 @@ fn category(a: u32) -> u32
     NO_CLASS
 }
 
-// The class of a specific entry by its Q_DIFF. Both are worked out and one is chosen: a branch on Q_DIFF would go up and down from entry to entry.
+// Returns the class of a specific entry: the NC_CDDIFF of `a` where `q` (Q_DIFF) is 0, else its NC_DIFF.
+// For speed: both are worked out, and one is chosen. A branch on `q` would mispredict from entry to entry.
 pub fn class_place(figures: &[u32; 11], q: u32, a: u32) -> u32
     requires { ⌜ now figures ≡ cantFigures ⌝ }
     ensures { λ r. ⌜ r ≡ lowered (class q) a ⌝ }
@@ -64,7 +67,7 @@ pub fn class_place(figures: &[u32; 11], q: u32, a: u32) -> u32
     other
 }
 
-// The place of a rated voltage in its table.
+// Returns the M_VOLTAGE of `a` volts.
 pub fn volts_place(a: u32) -> u32
     ensures { λ r. ⌜ r ≡ lowered mVoltage a ⌝ }
 {
@@ -79,7 +82,7 @@ pub fn volts_place(a: u32) -> u32
     NO_VOLTAGE
 }
 
-// A current in steps, from amperes + 1; 0 is no limit.
+// Returns the M_CURRENT of `a`, which is amperes + 1, in steps of 10 A; 0 is no limit.
 pub fn current_steps(a: u32) -> u32
     ensures { λ r. ⌜ r ≡ lowered mCurrent a ⌝ }
 {

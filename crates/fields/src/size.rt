@@ -1,18 +1,19 @@
-// How many bytes a packet's value has in the sheet, by the kind of its field: 0 where the value is refused.
+// Counts the bytes that a packet's value has in the sheet, by the kind of its field: 0 where the value is refused.
 ghost use mathlib.Core.Path.{_≡_};
 ghost use Prim.Native.Nat.{_<_};
 ghost use lib.ListN.{length};
 ghost use Rattle.numbers.specs.Numbers.{groupsIn};
-ghost use Rattle.kinds.specs.Kinds.{digits, nidOperational, speed, ncCdDiff, class, dLocation, mVoltage, mostTraction, nidCTraction, mCurrent, dEndAfter, noCurrent};
+ghost use Rattle.kinds.specs.Kinds.{digits, nidOperational, speed, ncCdDiff, class, dLocation, mVoltage, nidCTraction, mCurrent, dEndAfter, noCurrent};
 ghost use Rattle.kinds.specs.Judged.{valueInPacket};
 ghost use Rattle.kinds.specs.internal.Rules.{meaning};
 ghost use Rattle.fields.specs.internal.size.Counts.{bytesOf, BytesIn, mostClass};
+use crate::raise;
 use kinds::Rule;
 use kinds::body;
 use kinds::refusals::CHANGE_LOCATION;
 use kinds::refusals::FIELD_VALUE;
 
-// Of a number below 16,384.
+// Bytes of `v`, a number below 16,384, in the sheet.
 pub fn short(v: u32) -> u32
     requires { ⌜ v < 16384 ⌝ }
     ensures { λ r. ⌜ r ≡ length (groupsIn v) ⌝ }
@@ -23,7 +24,7 @@ pub fn short(v: u32) -> u32
     2
 }
 
-// Of a field whose largest value is below 128.
+// Bytes of `v` in the sheet: 1, or 0 if `v` exceeds `largest` (below 128).
 pub fn one(largest: u32, v: u32) -> u32
     requires { ⌜ largest < 128 ⌝ }
     ensures { λ r. ⌜ BytesIn 0 largest v r ⌝ }
@@ -34,6 +35,7 @@ pub fn one(largest: u32, v: u32) -> u32
     1
 }
 
+// Bytes of `v` in the sheet, or 0 if `v` is not in `least` to `largest`.
 pub fn within(least: u32, largest: u32, v: u32) -> u32
     ensures { λ r. ⌜ BytesIn least largest v r ⌝ }
 {
@@ -46,6 +48,7 @@ pub fn within(least: u32, largest: u32, v: u32) -> u32
     numbers::write::groups(v)
 }
 
+// Bytes of a change's location `v` in the sheet, or 0 if `v` is not after `last` and before the segment's end `lsp`.
 pub fn location(last: u32, lsp: u32, v: u32) -> u32
     ensures { λ r. ⌜ r ≡ bytesOf (valueInPacket (dLocation last lsp) v) ⌝ }
 {
@@ -58,7 +61,7 @@ pub fn location(last: u32, lsp: u32, v: u32) -> u32
     numbers::write::groups(v)
 }
 
-// From 26 steps on a speed is 128 or more.
+// Bytes of a V_STATIC or V_DIFF `v` in the sheet, or 0 if refused. From 26 steps on, the speed is 128 km/h or more.
 pub fn speed(v: u32) -> u32
     ensures { λ r. ⌜ r ≡ bytesOf (valueInPacket speed v) ⌝ }
 {
@@ -71,7 +74,7 @@ pub fn speed(v: u32) -> u32
     2
 }
 
-// The first two figures are below 128.
+// Bytes of an NC_CDDIFF `v` in the sheet, or 0 if refused. Only the first two figures are below 128.
 fn cant(v: u32) -> u32
     ensures { λ r. ⌜ r ≡ bytesOf (valueInPacket ncCdDiff v) ⌝ }
 {
@@ -84,7 +87,7 @@ fn cant(v: u32) -> u32
     2
 }
 
-// The largest class, by its Q_DIFF.
+// Returns the largest class where Q_DIFF is `q`.
 fn most_class(q: u32) -> u32
     ensures { λ r. ⌜ r ≡ mostClass q ⌝ }
 {
@@ -94,7 +97,8 @@ fn most_class(q: u32) -> u32
     body::NcDiff::LARGEST
 }
 
-// By its Q_DIFF, with no branch on it, which goes up and down from entry to entry.
+// Bytes of a specific entry's class `v` in the sheet, where Q_DIFF is `q`, or 0 if refused.
+// For speed: no branch depends on `q` alone, which would mispredict from entry to entry.
 pub fn class(q: u32, v: u32) -> u32
     ensures { λ r. ⌜ r ≡ bytesOf (valueInPacket (class q) v) ⌝ }
 {
@@ -104,7 +108,7 @@ pub fn class(q: u32, v: u32) -> u32
     1 + (q == 0) as u32 * (2 <= v) as u32
 }
 
-// 25,000 alone is 16,384 or more, and 0 below 128.
+// Bytes of an M_VOLTAGE `v` in the sheet, or 0 if refused. Only 25,000 V is 16,384 or more, and only 0 V below 128.
 pub fn volts(v: u32) -> u32
     ensures { λ r. ⌜ r ≡ bytesOf (valueInPacket mVoltage v) ⌝ }
 {
@@ -120,25 +124,17 @@ pub fn volts(v: u32) -> u32
     2
 }
 
-// The largest NID_CTRACTION, by its voltage.
-fn most_traction(voltage: u32) -> u32
-    ensures { λ r. ⌜ r ≡ mostTraction voltage ⌝ }
-{
-    if voltage == 0 {
-        return 0;
-    }
-    body::NidCTraction::LARGEST
-}
-
+// Bytes of an NID_CTRACTION `v` at the M_VOLTAGE `voltage` in the sheet, or 0 if refused.
 pub fn traction(voltage: u32, v: u32) -> u32
     ensures { λ r. ⌜ r ≡ bytesOf (valueInPacket (nidCTraction voltage) v) ⌝ }
 {
-    if most_traction(voltage) < v {
+    if body::NidCTraction::most(voltage) < v {
         return 0;
     }
     short(v)
 }
 
+// Bytes of an M_CURRENT `v` in the sheet, or 0 if refused.
 pub fn current(v: u32) -> u32
     ensures { λ r. ⌜ r ≡ bytesOf (valueInPacket mCurrent v) ⌝ }
 {
@@ -148,10 +144,10 @@ pub fn current(v: u32) -> u32
     if body::MCurrent::HIGHEST < v {
         return 0;
     }
-    numbers::write::groups(v * body::MCurrent::STEP + 1)
+    numbers::write::groups(raise::current(v))
 }
 
-// The end of a temporary constraint, after its start.
+// Bytes of the end `v` of a temporary constraint in the sheet, or 0 if `v` is not after `start`.
 pub fn after(start: u32, v: u32) -> u32
     ensures { λ r. ⌜ r ≡ bytesOf (valueInPacket (dEndAfter start) v) ⌝ }
 {
@@ -164,7 +160,7 @@ pub fn after(start: u32, v: u32) -> u32
     numbers::write::groups(v)
 }
 
-// No current, which the sheet has as 0.
+// Bytes of a current `v` that a temporary constraint does not use: 1, or 0 if `v` is not 1,023. The sheet has 0 for it.
 pub fn no_current(v: u32) -> u32
     ensures { λ r. ⌜ r ≡ bytesOf (valueInPacket noCurrent v) ⌝ }
 {
@@ -174,7 +170,7 @@ pub fn no_current(v: u32) -> u32
     0
 }
 
-// Whether each of the eight digits is 0 to 9 or F: where the top bit of one is set, its other bits are 0, 1 or 7.
+// Returns whether each of the eight digits of `v` is 0 to 9 or F: where a digit's top bit is set, its other bits are 0, 1 or 7.
 pub fn digits_good(v: u32) -> bool
     ensures { λ r. ⌜ r ≡ digits 8 v ⌝ }
 {
@@ -182,6 +178,7 @@ pub fn digits_good(v: u32) -> bool
     v & (low + 0x66666666) & 0x88888888 == v & (low + 0x11111111) & 0x88888888
 }
 
+// Bytes of an NID_OPERATIONAL `v` in the sheet, or 0 if a digit is refused.
 pub fn operational(v: u32) -> u32
     ensures { λ r. ⌜ r ≡ bytesOf (valueInPacket nidOperational v) ⌝ }
 {
@@ -192,6 +189,7 @@ pub fn operational(v: u32) -> u32
     0
 }
 
+// Bytes of `v` in the sheet, by the field's `rule`, or 0 if refused.
 pub fn by(rule: Rule, v: u32) -> u32
     ensures { λ r. ⌜ r ≡ bytesOf (valueInPacket (meaning rule) v) ⌝ }
 {
@@ -213,7 +211,7 @@ pub fn by(rule: Rule, v: u32) -> u32
     }
 }
 
-// 5 for an end that is not after its start, and 4 for one of more than 24 bits.
+// Returns the refusal of a temporary constraint's end `v`: 5 if it is not after its start, 4 if it has more than 24 bits.
 fn after_refusal(v: u32) -> u32
     ensures { λ r. ⌜ r ≡ dEndAfter 0 .refusal v ⌝ }
 {
@@ -223,7 +221,7 @@ fn after_refusal(v: u32) -> u32
     CHANGE_LOCATION
 }
 
-// The refusal of a value that is not allowed.
+// Returns the refusal of `v`, which the field's `rule` does not allow.
 pub fn refusal(rule: Rule, v: u32) -> u32
     ensures { λ r. ⌜ r ≡ meaning rule .refusal v ⌝ }
 {

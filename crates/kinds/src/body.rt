@@ -1,6 +1,6 @@
 // Field kinds of a segment's body, in packet order. `WIDTH` is in bits, `LARGEST` is the largest packet value.
 ghost use mathlib.Core.Path.{_≡_};
-ghost use Rattle.kinds.specs.Kinds.{nidC, nidSp, mSpVersion, lSp, dEoAOffset, qUtcOffset, mSpAltitude, speed, qFront, nIter, qDiff, ncCdDiff, ncDiff, class, dLocation, mVoltage, nidCTraction, mCurrent};
+ghost use Rattle.kinds.specs.Kinds.{nidC, nidSp, mSpVersion, lSp, dEoAOffset, qUtcOffset, mSpAltitude, speed, qFront, nIter, qDiff, ncCdDiff, ncDiff, class, dLocation, mVoltage, mostTraction, nidCTraction, mCurrent};
 ghost use Rattle.kinds.specs.internal.Rules.{Keeps, meaning};
 use crate::Rule;
 use crate::refusals::FIELD_VALUE;
@@ -249,15 +249,21 @@ impl NidCTraction {
 
     pub const LARGEST: u32 = 1023;
 
+    // Returns the largest value at the voltage `voltage`: 0 where that is 0.
+    pub fn most(voltage: u32) -> u32
+        ensures { λ r. ⌜ r ≡ mostTraction voltage ⌝ }
+    {
+        if voltage == 0 {
+            return 0;
+        }
+        Self::LARGEST
+    }
+
     // Returns the rule at M_VOLTAGE `voltage`.
     pub fn rule(voltage: u32) -> Rule
         ensures { λ r. ⌜ meaning r ≡ nidCTraction voltage ⌝ }
     {
-        if voltage == 0 {
-            up_to(Self::WIDTH, 0)
-        } else {
-            up_to(Self::WIDTH, Self::LARGEST)
-        }
+        up_to(Self::WIDTH, Self::most(voltage))
     }
 }
 

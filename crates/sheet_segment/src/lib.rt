@@ -2,7 +2,6 @@
 
 ghost use mathlib.Core.Path.{_≡_};
 ghost use Prim.Native.Nat.{_<_};
-ghost use Rattle.kinds.specs.Kinds as kind;
 ghost use Rattle.kinds.specs.Tables.{cantFigures};
 ghost use Rattle.grammar.specs.segment.Segment as segment;
 ghost use Rattle.grammar.specs.internal.segment.Parts as parts;
@@ -103,23 +102,13 @@ fn wire(s: &[u8], at: usize, n: u32) -> SheetStep
             n2,
             body::NidCTraction::WIDTH,
             0,
-            most_traction(u),
+            body::NidCTraction::most(u),
             FIELD_VALUE,
         ) {
             SheetValue::Refused(r, place) => SheetStep::Refused(r, place),
             SheetValue::Is(_, at3, n3) => SheetStep::On(at3, n3),
         },
     }
-}
-
-// The largest NID_CTRACTION, by its voltage.
-fn most_traction(u: u32) -> u32
-    ensures { λ r. ⌜ r ≡ kind.mostTraction u ⌝ }
-{
-    if u == 0 {
-        return 0;
-    }
-    body::NidCTraction::LARGEST
 }
 
 // What an element of a part begins with.

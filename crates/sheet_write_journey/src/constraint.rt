@@ -7,7 +7,6 @@ ghost use Rattle.sheet_write_journey.specs.internal.row.Row.{putAll, Row
 ghost use Rattle.sheet_write_journey.specs.internal.constraint.Numbers.{startWidths, restrictionAt, RestrictionFits};
 use crate::row::number;
 use crate::row::one;
-use kinds::body::VStatic;
 use kinds::journey::DTcEndLocation;
 
 // Q_TC_Type, Q_TC_Range and the start: 2, 2 and 24 bits.
@@ -28,7 +27,7 @@ fn restriction(packet: &[u8], at: usize, room: &mut [u8], n: usize) -> usize
 {
     let t = bits::read_window(packet, at, 21);
     let speed = one(room, n, t / 1048576);
-    let adhesion = numbers::write::put_short(room, speed, t / 8192 % 128 * VStatic::STEP);
+    let adhesion = numbers::write::put_short(room, speed, fields::raise::speed(t / 8192 % 128));
     let current = one(room, adhesion, t / 1024 % 8);
     one(room, current, 0)
 }

@@ -1,5 +1,4 @@
 -- The laws of the module elements.
 pub mod Fields
-pub mod Figures
 pub mod Whole
 pub mod Writing

@@ -1,22 +1,21 @@
--- A field of an accepted packet, and fields that stand side by side in one window.
+-- A field of an accepted packet, and the fields of an entry and of an element, which are read at once.
 use mathlib.Core.Path.{_≡_, refl, sym, ap, _∙_}
-use mathlib.Core.Bool.{true, false, cond}
-use mathlib.Core.List.{List}
-use Prim.Native.Nat.{ℕ, zero, suc, _+_, _*_, _-_, _/_, _%_, _^_, _≤_, _<_}
+use mathlib.Core.Bool.{true}
+use mathlib.Core.List.{List, [], _∷_}
+use Prim.Native.Nat.{ℕ, zero, suc, _+_, _*_, _-_, _/_, _%_, _≤_, _<_}
 use native.Mathlib.Omega.{arith}
-use borrow.Author.Tests.{ltb-true, ltb-false, leb-true, ne-eqb}
-use lib.Dec.{eqb, ltb, leb, lit≤}
+use borrow.Author.Tests.{ltb-true, ltb-false}
+use lib.Dec.{ltb, lit≤}
 use lib.ListN.{length, drop, getD}
-use lib.Pow.{high, low}
 use Rattle.bits.specs.Bits.{fieldAt}
-use Rattle.bits.proofs.Tests.{by-cases, and-right}
+use Rattle.bits.proofs.Tests.{by-cases}
 use Rattle.bits.proofs.Fields.{field-small}
-use Rattle.bits.proofs.Windows.{field-split}
+use Rattle.bits.proofs.Windows.{parts-at, part}
 use Rattle.kinds.specs.declared.Item.{Item}
 use Rattle.kinds.specs.Kind.{Kind}
 use Rattle.kinds.specs.Judged.{valueInPacket}
 use Rattle.kinds.specs.Kinds.{qDiff, class, speed, qFront, nIter}
-use Rattle.kinds.specs.Tables.{cantFigures}
+use Rattle.fields.proofs.raise.Raised.{category-raised}
 use Rattle.format.specs.Format.{Format, field, then, sheetNumbers}
 use Rattle.format.specs.Media.{packet}
 use Rattle.format.specs.internal.Places.{Taken, bitsBetween, takenAt, bitsTaken}
@@ -31,10 +30,6 @@ use Rattle.speed_element.specs.internal.Elements.{none, Kept}
 use Rattle.speed_element.specs.internal.Reading.{Readable, Past, Passes, FieldRead}
 use Rattle.speed_element.proofs.Reading.{entriesEnd, readable-field, entry-passes, entries-pass}
 use Rattle.speed_packet.specs.internal.Asking.{endOf, Reads}
-
-category-raised : (q v : ℕ) → 0 < q → class q .allowed v ≡ true → class q .raise v < 3
-category-raised zero v h e = absurd (omega arith)
-category-raised (suc q) v h e = omega (arith, leb-true v 2 (and-right (leb 0 v) (leb v 2) e))
 
 module _ (s : List ℕ) where
   -- a field of w bits that is there and has an allowed value
@@ -102,31 +97,13 @@ module _ (s : List ℕ) where
   pub field-read : (k : Kind) (at w to : ℕ) {v : ℕ} → k .width ≡ w → at + w ≡ to → v ≡ fieldAt s at w → FieldRead (Reads s) k at to v (k .raise v)
   field-read k at w to d g e = rw (e, ← g, ← d) (record { past = λ next l h. field-past k h; is = λ next l h. field-number k h })
 
-  -- ---- three fields side by side
-
-  module _ (at a b d : ℕ) (i : at + (a + b + d) ≤ 8 * length s) {t : ℕ} (e : t ≡ fieldAt s at (a + b + d)) where
-    front : (m n : ℕ) → at + (m + n) ≤ 8 * length s → fieldAt s at (m + n) / 2 ^ n ≡ fieldAt s at m
-    front m n h = rw (field-split s at m n h) (high (fieldAt s at m) n (field-small s (at + m) n n (omega arith)))
-
-    back : (m n : ℕ) → at + (m + n) ≤ 8 * length s → fieldAt s at (m + n) % 2 ^ n ≡ fieldAt s (at + m) n
-    back m n h = rw (field-split s at m n h) (low (fieldAt s at m) n (field-small s (at + m) n n (omega arith)))
-
-    pub three-first : t / 2 ^ (b + d) ≡ fieldAt s at a
-    three-first = let q : a + b + d ≡ a + (b + d) = omega arith in rw (e, q) (front a (b + d) (omega arith))
-
-    pub three-second : t / 2 ^ d % 2 ^ b ≡ fieldAt s (at + a) b
-    three-second = rw (e, front (a + b) d i) (back a b (omega arith))
-
-    pub three-third : t % 2 ^ d ≡ fieldAt s (at + (a + b)) d
-    three-third = rw e (back (a + b) d i)
-
   -- ---- an entry
 
   pub record EntryAt (at t : ℕ) : Type 0 where
     pub allowed : class (t / 2048) .allowed (t / 128 % 16) ≡ true
     pub first : FieldRead (Reads s) qDiff at (at + 2) (t / 2048) (t / 2048)
-    pub second : FieldRead (Reads s) (class (t / 2048)) (at + 2) (at + 6) (t / 128 % 16) (class (t / 2048) .raise (t / 128 % 16))
-    pub third : FieldRead (Reads s) speed (at + 6) (at + 13) (t % 128) (t % 128 * 5)
+    pub second : FieldRead (Reads s) (class (t / 2048)) (at + 2) (at + 2 + 4) (t / 128 % 16) (class (t / 2048) .raise (t / 128 % 16))
+    pub third : FieldRead (Reads s) speed (at + 2 + 4) (at + 13) (t % 128) (t % 128 * 5)
 
   module _ {at : ℕ} (h : Readable (Reads s) entry at) where
     entry-first : FieldRead (Reads s) qDiff at (at + 2) (fieldAt s at 2) (fieldAt s at 2)
@@ -148,21 +125,21 @@ module _ (s : List ℕ) where
         let c = field-fits speed (entry-third .reads) .whole in
         omega (arith, class-width q)
 
-    pub entry-inside : at + (2 + 4 + 7) ≤ 8 * length s
+    pub entry-inside : at + 13 ≤ 8 * length s
     entry-inside = omega (arith, entry-whole, h .reads .inside)
 
     pub entry-at : {t : ℕ} → t ≡ fieldAt s at 13 → EntryAt at t
     entry-at {t} e =
-        let i = entry-inside in
-        let f = three-first at 2 4 7 i e in
-        let g = three-second at 2 4 7 i e in
+        let v = parts-at s at (2 ∷ 4 ∷ 7 ∷ []) e entry-inside in
+        let f : t / 2048 ≡ fieldAt s at 2 = part v 0 in
+        let g : t / 128 % 16 ≡ fieldAt s (at + 2) 4 = part v 1 in
         let b = field-fits (class (fieldAt s at 2)) (entry-second .reads) .allowed in
         let w = class-width (fieldAt s at 2) in
         record {
           allowed = rw (f, g) (rw w at b);
           first = field-read qDiff at 2 (at + 2) refl refl f;
-          second = field-read (class (t / 2048)) (at + 2) 4 (at + 6) (class-width (t / 2048)) (omega arith) g;
-          third = field-read speed (at + 6) 7 (at + 13) refl (omega arith) (three-third at 2 4 7 i e);
+          second = field-read (class (t / 2048)) (at + 2) 4 (at + 2 + 4) (class-width (t / 2048)) refl g;
+          third = field-read speed (at + 2 + 4) 7 (at + 13) refl (omega arith) (part v 2);
         }
 
     pub entry-kept : {t g : ℕ} → t ≡ fieldAt s at 13 → g ≡ class (t / 2048) .raise (t / 128 % 16) → Kept (t / 2048) g (t % 128 * 5)
@@ -195,17 +172,17 @@ module _ (s : List ℕ) where
 
   pub record ElementAt (at t : ℕ) : Type 0 where
     pub first : FieldRead (Reads s) speed at (at + 7) (t / 64) (t / 64 * 5)
-    pub second : FieldRead (Reads s) qFront (at + 7) (at + 8) (t / 32 % 2) (t / 32 % 2)
-    pub third : FieldRead (Reads s) (nIter 31) (at + 8) (at + 13) (t % 32) (t % 32)
+    pub second : FieldRead (Reads s) qFront (at + 7) (at + 7 + 1) (t / 32 % 2) (t / 32 % 2)
+    pub third : FieldRead (Reads s) (nIter 31) (at + 7 + 1) (at + 13) (t % 32) (t % 32)
 
   module _ {at : ℕ} (h : Readable (Reads s) profile at) where
     front-readable : Readable (Reads s) (λ f. then qFront (field (nIter 31) λ n. entries n f)) (at + 7)
     front-readable = readable-field (Reads s) (field-read speed at 7 (at + 7) refl refl refl) (λ v f. then qFront (field (nIter 31) λ n. entries n f)) h
 
-    count-readable : Readable (Reads s) (λ f. field (nIter 31) λ n. entries n f) (at + 8)
-    count-readable = readable-field (Reads s) (field-read qFront (at + 7) 1 (at + 8) refl (omega arith) refl) (λ v f. field (nIter 31) λ n. entries n f) front-readable
+    count-readable : Readable (Reads s) (λ f. field (nIter 31) λ n. entries n f) (at + 7 + 1)
+    count-readable = readable-field (Reads s) (field-read qFront (at + 7) 1 (at + 7 + 1) refl refl refl) (λ v f. field (nIter 31) λ n. entries n f) front-readable
 
-    pub element-inside : at + (7 + 1 + 5) ≤ 8 * length s
+    pub element-inside : at + 13 ≤ 8 * length s
     element-inside =
         let a = field-fits speed (h .reads) .whole in
         let b = field-fits qFront (front-readable .reads) .whole in
@@ -214,11 +191,11 @@ module _ (s : List ℕ) where
 
     pub element-at : {t : ℕ} → t ≡ fieldAt s at 13 → ElementAt at t
     element-at {t} e =
-        let i = element-inside in
+        let v = parts-at s at (7 ∷ 1 ∷ 5 ∷ []) e element-inside in
         record {
-          first = field-read speed at 7 (at + 7) refl refl (three-first at 7 1 5 i e);
-          second = field-read qFront (at + 7) 1 (at + 8) refl (omega arith) (three-second at 7 1 5 i e);
-          third = field-read (nIter 31) (at + 8) 5 (at + 13) refl (omega arith) (three-third at 7 1 5 i e);
+          first = field-read speed at 7 (at + 7) refl refl (part v 0);
+          second = field-read qFront (at + 7) 1 (at + 7 + 1) refl refl (part v 1);
+          third = field-read (nIter 31) (at + 7 + 1) 5 (at + 13) refl (omega arith) (part v 2);
         }
 
   -- ---- one field, and what reading it asks for
@@ -229,13 +206,3 @@ module _ (s : List ℕ) where
 
     pub field-asked : (w : ℕ) → k .width ≡ w → 0 < w → w ≤ 32 → (0 < w) × (w ≤ 32) × (at + w ≤ 8 * length s) × (8 ≤ length s)
     field-asked w e a b = (a, b, omega (arith, field-inside, h .reads .inside), h .reads .long)
-
--- ---- a class's number
-
-pub class-place : (q v : ℕ) → class q .allowed v ≡ true → cond (eqb q 0) v 0 < 11
-class-place zero v e = ltb-true v 11 e
-class-place (suc q) v e = let z : eqb (suc q) 0 ≡ false = ne-eqb (suc q) 0 (λ d. omega arith) in rw z (lit≤ tt)
-
-pub class-raised : (q v : ℕ) → cond (eqb q 0) (getD cantFigures (cond (eqb q 0) v 0) 0) v ≡ class q .raise v
-class-raised zero v = refl
-class-raised (suc q) v = let z : eqb (suc q) 0 ≡ false = ne-eqb (suc q) 0 (λ d. omega arith) in rw z

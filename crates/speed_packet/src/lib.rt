@@ -1,15 +1,14 @@
-// The permitted speed at a place of an accepted packet, worked out element by element. What was accepted is not judged again.
+// Works out the permitted speed at a place of an accepted packet, element by element. What was accepted is not judged again.
 
-ghost use mathlib.Core.Bool.{true, cond};
 ghost use mathlib.Core.Path.{_≡_};
-ghost use Prim.Native.Nat.{_+_, _*_, _<_};
-ghost use Rattle.kinds.specs.Kinds as kinds;
+ghost use Prim.Native.Nat.{_+_};
 ghost use Rattle.kinds.specs.Tables.{cantFigures};
 ghost use Rattle.grammar.specs.segment.Segment as segment;
 ghost use Rattle.grammar.specs.internal.segment.Parts as parts;
 ghost use Rattle.speed.specs.Speed.{segmentLength, speedIn};
 ghost use Rattle.speed_element.specs.internal.Reading.{Readable, EntryRead, Opens, ElementRead, Ended, NextRead, ChangesRead, ProfileRead};
 ghost use Rattle.speed_packet.specs.internal.Asking.{AcceptedPacket, numbersOfPacket, Reads};
+use fields::raise;
 use fields::tables;
 use grammar::segment::layout::ELEMENT;
 use grammar::segment::layout::ENTRY;
@@ -23,37 +22,18 @@ use speed_element::Following;
 use speed_element::Lows;
 use speed_element::Open;
 
-fn chosen(so: bool, a: u32, b: u32) -> u32
-    ensures { λ r. ⌜ r ≡ cond so a b ⌝ }
-{
-    if so {
-        return a;
-    }
-    b
-}
-
-// The number in the sheet of a class. A figure is looked up in any case: no branch depends on Q_DIFF, which goes up and down from entry to entry.
-fn class_number(figures: &[u32], q_diff: u32, v: u32) -> u32
-    requires { ⌜ (now figures ≡ cantFigures) × (kinds.class «q_diff» .allowed v ≡ true) ⌝ }
-    ensures { λ r. ⌜ r ≡ kinds.class «q_diff» .raise v ⌝ }
-{
-    let by_cant = q_diff == speed::OF_CANT;
-    let figure = figures[chosen(by_cant, v, 0) as usize];
-    chosen(by_cant, figure, v)
-}
-
-// The lowest speeds with the entry at the bit at.
-fn entry(s: &[u8], at: usize, figures: &[u32], train: Train, lows: Lows) -> Lows
+// Returns `lows` with the specific entry at the bit `at` taken in. `figures` are the cant figures.
+fn entry(s: &[u8], at: usize, figures: &[u32; 11], train: Train, lows: Lows) -> Lows
     requires { ⌜ (now figures ≡ cantFigures) × Readable (Reads (now s)) (parts.entry) at ⌝ }
     ensures { λ r. ⌜ EntryRead (Reads (now (s .entry))) train lows r at (at + 13) ⌝ }
 {
     let t = bits::read_window(s, at, ENTRY as u32);
     let q_diff = t / 2048;
-    let class = class_number(figures, q_diff, t / 128 % 16);
-    lows.with(train, q_diff, class, t % 128 * body::VStatic::STEP)
+    let class = raise::class(figures, q_diff, t / 128 % 16);
+    lows.with(train, q_diff, class, raise::speed(t % 128))
 }
 
-// The element at the bit at, which starts at the location start. Its entries are passed over.
+// Reads the element at the bit `at`, which starts at the location `start`. Its entries are passed over.
 fn element(s: &[u8], at: usize, start: u32) -> ElementAt
     requires { ⌜ Readable (Reads (now s)) (segment.profile) at ⌝ }
     ensures { λ r. ⌜ ElementRead (Reads (now (s .entry))) at (r .next) (r .open) × (r .open .start ≡ start) ⌝ }
@@ -64,7 +44,7 @@ fn element(s: &[u8], at: usize, start: u32) -> ElementAt
     ElementAt {
         open: Open {
             start,
-            v_static: t / 64 * body::VStatic::STEP,
+            v_static: raise::speed(t / 64),
             q_front: t / 32 % 2,
             count,
             entries,
@@ -73,7 +53,8 @@ fn element(s: &[u8], at: usize, start: u32) -> ElementAt
     }
 }
 
-// The lowest speed held at x, once the open element ends at end. Its entries are read only where it holds.
+// Returns the lowest speed that holds at `x`: of the speed `held` so far, and of the element `open`, which ends at `end`.
+// The element's entries are read only if it holds at `x`.
 fn ended(s: &[u8], open: Open, train: Train, held: u32, end: u32, x: u32) -> u32
     requires { ⌜ Opens (Reads (now s)) «open» ⌝ }
     ensures { λ r. ⌜ Ended (Reads (now (s .entry))) train held end x «open» r ⌝ }
@@ -93,7 +74,7 @@ fn ended(s: &[u8], open: Open, train: Train, held: u32, end: u32, x: u32) -> u32
     lows.lowered(train, open.v_static, held)
 }
 
-// The next change, of so many that are left at the bit at: the open element ends at its location. After the last it ends at lsp, and nothing follows.
+// Reads the next of the `left` changes at the bit `at`: the element `open` ends at its location. If none is left, `open` ends at `lsp`.
 fn next(s: &[u8], open: Open, at: usize, left: u64, lsp: u32) -> Following
     requires { ⌜ Readable (Reads (now s)) (segment.changes segment.profile lsp («open» .start) left) at ⌝ }
     ensures { λ r. ⌜ NextRead (Reads (now (s .entry))) lsp «open» left at r ⌝ }
@@ -115,7 +96,7 @@ fn next(s: &[u8], open: Open, at: usize, left: u64, lsp: u32) -> Following
     }
 }
 
-// The permitted speed at x, from the changes after the first element. The last element ends at lsp.
+// Returns the permitted speed at `x`, from the `count` changes after the first element. The last element ends at `lsp`.
 fn changes(s: &[u8], at: usize, count: u32, train: Train, lsp: u32, x: u32, first: Open) -> u32
     requires { ⌜ Opens (Reads (now s)) first × Readable (Reads (now s)) (segment.changes segment.profile lsp (first .start) count) at ⌝ }
     ensures { λ r. ⌜ ChangesRead (Reads (now (s .entry))) train lsp x first count at r ⌝ }
@@ -134,7 +115,7 @@ fn changes(s: &[u8], at: usize, count: u32, train: Train, lsp: u32, x: u32, firs
     speed_element::permitted(held)
 }
 
-// The permitted speed at x, from the profile at the bit at: its first element, the count of its changes, and the changes.
+// Returns the permitted speed at `x`, from the profile at the bit `at`: its first element, the count of its changes, and the changes.
 fn profile(s: &[u8], at: usize, train: Train, lsp: u32, x: u32) -> u32
     requires { ⌜ Readable (Reads (now s)) (segment.part segment.profile 31 lsp) at ⌝ }
     ensures { λ r. ⌜ ProfileRead (Reads (now (s .entry))) train lsp x at r ⌝ }
@@ -144,7 +125,7 @@ fn profile(s: &[u8], at: usize, train: Train, lsp: u32, x: u32) -> u32
     changes(s, first.next + 5, count, train, lsp, x, first.open)
 }
 
-// The length of an accepted packet's segment.
+// Returns the length in centimetres of an accepted packet's segment.
 pub fn length_of(packet: &[u8]) -> u32
     requires { ⌜ AcceptedPacket (now packet) ⌝ }
     ensures { λ r. ⌜ r ≡ segmentLength (numbersOfPacket (now (packet .entry))) ⌝ }
@@ -152,7 +133,7 @@ pub fn length_of(packet: &[u8]) -> u32
     bits::read_window(packet, LENGTH, body::LSp::WIDTH)
 }
 
-// The permitted speed for a train at a place of an accepted packet.
+// Returns the permitted speed in km/h for `train` at `x`, in centimetres, in an accepted packet.
 pub fn permitted(packet: &[u8], train: Train, x: u32) -> u32
     requires { ⌜ AcceptedPacket (now packet) ⌝ }
     ensures { λ r. ⌜ r ≡ speedIn train x (numbersOfPacket (now (packet .entry))) ⌝ }

@@ -56,10 +56,6 @@ pub two-bytes : (v : ℕ) → 128 ≤ v → v < 16384 → 2 ≡ length (groupsIn
 unfolding groupsIn
 two-bytes v h l = sym (ap length (more-groups 4 v h) ∙ ap (λ (g : List ℕ). suc (length g)) (last-group 3 (v / 128) (omega arith)))
 
-pub other-traction : (u : ℕ) → (u ≡ 0 → ⊥) → 1023 ≡ mostTraction u
-other-traction zero h = absurd (h refl)
-other-traction (suc u) h = refl
-
 pub traction-small : (u : ℕ) → mostTraction u ≤ 1023
 traction-small zero = lit≤ tt
 traction-small (suc u) = lit≤ tt
@@ -93,8 +89,8 @@ module _ (v : ℕ) where
   pub current-out : (v ≡ 1023 → ⊥) → 1000 < v → 0 ≡ bytesOf (valueInPacket mCurrent v)
   current-out e h = bytes-none mCurrent v (rw (lt-leb v 1000 h, ne-eqb v 1023 e))
 
-  pub current-in : {r : ℕ} → (v ≡ 1023 → ⊥) → v ≤ 1000 → r ≡ length (groupsIn (v * 10 + 1)) → r ≡ bytesOf (valueInPacket mCurrent v)
-  current-in e h q = bytes-some mCurrent v (rw (le-leb v 1000 h)) (rw (ne-eqb v 1023 e) q)
+  pub current-allowed : v ≤ 1000 → mCurrent .allowed v ≡ true
+  current-allowed h = rw (le-leb v 1000 h)
 
 pub class-refusal : (q v : ℕ) → class q .refusal v ≡ 4
 class-refusal zero v = refl

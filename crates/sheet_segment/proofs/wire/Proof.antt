@@ -21,13 +21,13 @@ returns-2 : tie.Need-returns-2
 returns-2 c =
     let b = c .before .before .before in
     let a = b .before .before .before .before .before .before .before .args in
-    value-on (λ u f. then (nidCTraction u) f) (rw (b .before .before .before .u .given .1) at (b .before .before .before .before .before .voltage .ensures)) (plain-off (now (a .s)) (rw (c .before .r2 .given .1, b .before .most-traction .ensures) at (b .ranged .ensures)))
+    value-on (λ u f. then (nidCTraction u) f) (rw (b .before .before .before .u .given .1) at (b .before .before .before .before .before .voltage .ensures)) (plain-off (now (a .s)) (rw (c .before .r2 .given .1, b .before .most .ensures) at (b .ranged .ensures)))
 
 returns-3 : tie.Need-returns-3
 returns-3 c =
     let b = c .before .before .before in
     let a = b .before .before .before .before .before .before .before .args in
-    value-on (λ u f. then (nidCTraction u) f) (rw (b .before .before .before .u .given .1) at (b .before .before .before .before .before .voltage .ensures)) (plain-on (now (a .s)) (rw (c .before .at3 .given .1, b .before .most-traction .ensures) at (b .ranged .ensures)))
+    value-on (λ u f. then (nidCTraction u) f) (rw (b .before .before .before .u .given .1) at (b .before .before .before .before .before .voltage .ensures)) (plain-on (now (a .s)) (rw (c .before .at3 .given .1, b .before .most .ensures) at (b .ranged .ensures)))
 
 pub wire-spec : {M : Type 1} → statement M
 wire-spec = tie.close (tie.spec voltage-requires (λ c. search needs) (λ c. search needs) (λ c κs. search needs) ranged-requires (λ c. search needs) (λ c. search needs) returns returns-2 returns-3)

@@ -1,4 +1,4 @@
--- `ask_packet::ended` meets its contract.
+-- `speed_packet::ended` meets its contract.
 use mathlib.Core.Path.{refl, sym, _∙_}
 use native.Mathlib.Omega.{arith}
 use denote.Ref.{now}
@@ -24,9 +24,6 @@ no-lows-requires c κs = tt
 
 loop-holds : tie.Need-loop-holds Inv-loop μ-loop
 loop-holds c = rw (c .no-lows .ensures) (let b = c .before .before .before .before in entered-all (Reads (now (b .args .s))) (b .pre .readable))
-
-slice-aggregate-entry : tie.Need-slice-aggregate-entry Inv-loop μ-loop
-slice-aggregate-entry c = refl
 
 entry-requires : tie.Need-entry-requires Inv-loop μ-loop
 entry-requires c κs = (refl, entry-readable (Reads (now (c .before .before .before .before .before .before .before .args .s))) (c .before .loop-test .taken) (c .before .before .loop .inv .readable))
@@ -58,7 +55,6 @@ ended-spec =
     returns
     no-lows-requires
     loop-holds
-    slice-aggregate-entry
     entry-requires
     add-to
     (λ c. search needs)

@@ -1,4 +1,4 @@
--- The fields of an accepted packet, at places. What the code below a promise is held to.
+-- The fields of an accepted packet, at places, as the contracts say it. No promise names them.
 use mathlib.Core.Path.{_≡_}
 use mathlib.Core.List.{List}
 use Prim.Native.Nat.{ℕ, _+_, _*_, _^_, _≤_, _<_}

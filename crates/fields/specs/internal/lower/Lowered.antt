@@ -1,8 +1,9 @@
--- What a sheet's number becomes in the packet, as one number. What the code below a promise is held to; no promise names it.
+-- What a sheet's number becomes in the packet, as one number: what the contracts of the module lower cite. No promise names it.
 use mathlib.Core.Option.{Option, none, some}
 use Prim.Native.Nat.{ℕ, _^_}
 use Rattle.kinds.specs.Kind.{Kind}
 
+-- the value, or d where there is none
 abbrev pub valueOr : ℕ → Option ℕ → ℕ
 valueOr d none = d
 valueOr d (some v) = v

@@ -1,4 +1,4 @@
--- How many bytes a packet's value has in the sheet. What the code below a promise is held to; no promise names it.
+-- How many bytes a packet's value has in the sheet, as the contracts of the module size say it. No promise names it.
 use mathlib.Core.Path.{_≡_}
 use Prim.Native.Nat.{ℕ, zero, suc}
 use lib.ListN.{length}
@@ -13,7 +13,7 @@ abbrev pub bytesOf : Field → ℕ
 bytesOf (Is i) = length (groupsIn (i .sheet))
 bytesOf (Refused r) = 0
 
--- the same for a range, of whatever width and refusal
+-- the bytes of a value of a range, whatever its width and its refusal
 abbrev pub BytesIn : ℕ → ℕ → ℕ → ℕ → Type 0
 BytesIn least largest v r = (w x : ℕ) → r ≡ bytesOf (valueInPacket (range w least largest x) v)
 

@@ -1,4 +1,5 @@
--- `write_constraint::restriction` meets its contract.
+-- `constraint::restriction` meets its contract.
+use mathlib.Core.Path.{_∙_}
 use lib.Dec.{lit<}
 use Rattle.bits.proofs.Fields.{window-small}
 use Rattle.sheet_write_journey.proofs.row.Rows.{all-more, all-one, more-fit, one-fits}
@@ -12,23 +13,26 @@ one-requires : tie.Need-one-requires
 one-requires c κs = (omega (arith, window-small _ _ 21 (c .before .read-window .ensures)), one-fits (restriction-fits _ _ _ (c .before .before .before .before .pre) (c .before .read-window .ensures)))
 
 put-short-requires : tie.Need-put-short-requires
-put-short-requires c κs = (omega arith, one-fits (more-fit (c .before .before .before .one .ensures) (restriction-fits _ _ _ (c .before .before .before .before .before .before .before .before .pre) (c .before .before .before .before .before .read-window .ensures))))
+put-short-requires c κs =
+    let b = c .before .before .before .before .before .before .before .before .before in
+    rw (c .speed .ensures) (omega arith, one-fits (more-fit (c .before .before .before .before .one .ensures) (restriction-fits _ _ _ (b .pre) (c .before .before .before .before .before .before .read-window .ensures))))
 
 one-requires-2 : tie.Need-one-requires-2
 one-requires-2 c κs =
-    let b = c .before .before .before .before .before .before .before in
-    (omega arith, one-fits (more-fit (c .before .before .before .put-short .ensures) (more-fit (b .one .ensures) (restriction-fits _ _ _ (b .before .before .before .before .before .pre) (b .before .before .read-window .ensures)))))
+    let b = c .before .before .before .before .before .before .before .before in
+    (omega arith, one-fits (more-fit (c .before .before .before .put-short .ensures ∙ rw (c .before .before .before .before .speed .ensures)) (more-fit (b .one .ensures) (restriction-fits _ _ _ (b .before .before .before .before .before .pre) (b .before .before .read-window .ensures)))))
 
 one-requires-3 : tie.Need-one-requires-3
 one-requires-3 c κs =
-    let b = c .before .before .before .before .before .before .before .before .before .before .before in
-    (lit< tt, one-fits (more-fit (c .before .before .before .one2 .ensures) (more-fit (c .before .before .before .before .before .before .before .put-short .ensures) (more-fit (b .one .ensures) (restriction-fits _ _ _ (b .before .before .before .before .before .pre) (b .before .before .read-window .ensures))))))
+    let b = c .before .before .before .before .before .before .before .before .before .before .before .before in
+    (lit< tt, one-fits (more-fit (c .before .before .before .one2 .ensures) (more-fit (c .before .before .before .before .before .before .before .put-short .ensures ∙ rw (c .before .before .before .before .before .before .before .before .speed .ensures)) (more-fit (b .one .ensures) (restriction-fits _ _ _ (b .before .before .before .before .before .pre) (b .before .before .read-window .ensures))))))
 
 returns : tie.Need-returns
 returns c =
-    let b = c .before .before .before .before .before .before .before .before .before .before in
-    restriction-put _ _ _ (b .before .before .before .before .before .before .before .before .before .pre) (b .before .before .before .before .before .before .read-window .ensures)
-    (all-more _ _ _ (b .before .before .before .before .one .ensures) (all-more _ _ _ (b .put-short .ensures) (all-more _ _ _ (c .before .before .before .before .before .before .one2 .ensures) (all-one _ _ (c .before .before .one3 .ensures)))))
+    let q = c .before .before .before .before .before .before .before .before .before .before in
+    let b = q .before .before .before .before .before in
+    restriction-put _ _ _ (b .before .before .before .before .before .pre) (b .before .before .read-window .ensures)
+    (all-more _ _ _ (b .one .ensures) (all-more _ _ _ (q .put-short .ensures ∙ rw (q .before .speed .ensures)) (all-more _ _ _ (c .before .before .before .before .before .before .one2 .ensures) (all-one _ _ (c .before .before .one3 .ensures)))))
 
 pub restriction-spec : {M : Type 1} → statement M
 restriction-spec =
@@ -36,7 +40,7 @@ restriction-spec =
     (tie.spec
     (λ c κs. search needs)
     one-requires
-    (λ c. search needs)
+    (λ c κs. search needs)
     put-short-requires
     one-requires-2
     one-requires-3

@@ -3,7 +3,6 @@ use denote.Ref.{now}
 use mathlib.Core.Path.{_≡_, refl}
 use Prim.Native.Nat.{_+_, _*_, _-_}
 use native.Mathlib.Omega.{arith}
-use borrow.Author.Needs.{needs}
 use Rattle.grammar.specs.segment.Segment.{entries}
 use Rattle.grammar.specs.internal.segment.Parts.{entry}
 use Rattle.grammar.proofs.segment.Parts.{entries-more, entries-none}
@@ -57,7 +56,6 @@ specific-spec =
     Inv-loop
     μ-loop
     loop-holds
-    (λ c. search needs)
     entry-requires
     add-to
     (λ c. omega arith)

@@ -1,4 +1,4 @@
--- The sheet of an accepted packet written into a room, part by part. What the code below a promise is held to; no promise names it.
+-- The sheet of an accepted packet written into a room, part by part, as the contracts say it. No promise names it.
 use mathlib.Core.Path.{_≡_}
 use mathlib.Core.List.{List}
 use Prim.Native.Nat.{ℕ, _*_, _^_, _≤_, _<_}

@@ -1,0 +1,2 @@
+-- The laws of the module raise.
+pub mod Raised
