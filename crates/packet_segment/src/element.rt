@@ -1,4 +1,4 @@
-// The elements of a packet's lists judged, with the bytes of their sheet counted. Nothing is written.
+// Judges the elements of a packet's lists, and counts the bytes that they have in the sheet. Nothing is written.
 ghost use mathlib.Core.Path.{_≡_};
 ghost use Prim.Native.Nat.{_*_, _-_, _/_, _%_, _≤_, _<_};
 ghost use Rattle.grammar.specs.segment.Segment as segment;
@@ -19,7 +19,7 @@ use packet_fields::PacketValue;
 
 // ---- the specific entries
 
-// An entry field by field.
+// Judges the specific entry at the bit `at`, field by field.
 fn cut_entry(s: &[u8], stop: usize, at: usize, n: usize) -> PacketStep
     requires { ⌜ Standing (now s) stop at n ⌝ }
     ensures { λ r. ⌜ Over parts.entry (now (s .entry)) stop at n r ⌝ }
@@ -45,15 +45,17 @@ fn cut_entry(s: &[u8], stop: usize, at: usize, n: usize) -> PacketStep
     }
 }
 
-// A number above the bytes of an entry in the sheet.
+// Above the bytes of an entry in the sheet: `FAULT + d` says that the field `d` bits into the entry is refused.
 const FAULT: usize = 16;
 
-// The names that an entry may have, Q_DIFF 2 and class 4, a bit for each; and those whose class has two bytes.
+// The first six bits of an entry, Q_DIFF and class, are its name. The bit `n` is set if the name `n` is allowed.
 const NAMES: u64 = 0x7000707FF;
 
+// The bit `n` is set if the class of the name `n` has two bytes in the sheet.
 const LONG_NAMES: u64 = 0x7FC;
 
-// The bytes of an entry's Q_DIFF and class; 0 where one is refused. No branch depends on Q_DIFF.
+// Bytes of an entry's Q_DIFF and class, `name`, in the sheet, or 0 if one is refused.
+// For speed: no branch depends on Q_DIFF, which would mispredict from entry to entry.
 fn name_bytes(name: u32) -> u32
     requires { ⌜ name < 64 ⌝ }
     ensures { λ r. ⌜ r ≡ nameBytes (name / 16) (name % 16) ⌝ }
@@ -64,7 +66,7 @@ fn name_bytes(name: u32) -> u32
     2 + ((LONG_NAMES >> name) % 2) as u32
 }
 
-// The bytes of an entry whose bits are all there, read at once; or FAULT and how far on the field stands that is refused.
+// Fast path: all 13 bits of the entry at the bit `at` are present. Returns its bytes in the sheet, or `FAULT` plus the bits before the refused field.
 fn whole_entry(s: &[u8], stop: usize, at: usize, n: usize) -> usize
     requires { ⌜ Standing (now s) stop at n × (13 ≤ stop - at) ⌝ }
     ensures { λ r. ⌜ Over parts.entry (now (s .entry)) stop at n (pastEntry at n r) × (r < 29) ⌝ }
@@ -84,7 +86,7 @@ fn whole_entry(s: &[u8], stop: usize, at: usize, n: usize) -> usize
     name as usize + speed as usize
 }
 
-// Entries whose bits are all there.
+// Fast path: the bits of all `count` entries are present.
 fn whole_entries(s: &[u8], stop: usize, at: usize, n: usize, count: u32) -> PacketStep
     requires { ⌜ Standing (now s) stop at n × (13 * count ≤ stop - at) ⌝ }
     ensures { λ r. ⌜ Over (segment.entries count) (now (s .entry)) stop at n r ⌝ }
@@ -104,7 +106,7 @@ fn whole_entries(s: &[u8], stop: usize, at: usize, n: usize, count: u32) -> Pack
     PacketStep::On(to, m)
 }
 
-// Entries field by field.
+// Judges `count` entries field by field.
 fn cut_entries(s: &[u8], stop: usize, at: usize, n: usize, count: u32) -> PacketStep
     requires { ⌜ Standing (now s) stop at n ⌝ }
     ensures { λ r. ⌜ Over (segment.entries count) (now (s .entry)) stop at n r ⌝ }
@@ -127,7 +129,7 @@ fn cut_entries(s: &[u8], stop: usize, at: usize, n: usize, count: u32) -> Packet
     PacketStep::On(to, m)
 }
 
-// The specific entries of an element: whether their bits are all there is asked once.
+// Judges the `count` specific entries of an element. Takes the fast path if the bits of all of them are present.
 fn entries(s: &[u8], stop: usize, at: usize, n: usize, count: u32) -> PacketStep
     requires { ⌜ Standing (now s) stop at n ⌝ }
     ensures { λ r. ⌜ Over (segment.entries count) (now (s .entry)) stop at n r ⌝ }
@@ -140,7 +142,7 @@ fn entries(s: &[u8], stop: usize, at: usize, n: usize, count: u32) -> PacketStep
 
 // ---- the speed profile
 
-// V_STATIC, Q_FRONT and N_ITER field by field, with the last one's value.
+// Judges V_STATIC, Q_FRONT and N_ITER field by field, and returns the value of N_ITER.
 fn cut_profile(s: &[u8], stop: usize, at: usize, n: usize) -> PacketValue
     requires { ⌜ Standing (now s) stop at n ⌝ }
     ensures { λ r. ⌜ Gave profileHead (now (s .entry)) stop at n r ⌝ }
@@ -160,7 +162,7 @@ fn cut_profile(s: &[u8], stop: usize, at: usize, n: usize) -> PacketValue
     }
 }
 
-// The same: where their bits are all there, they are read at once. V_STATIC alone can be refused.
+// Judges V_STATIC, Q_FRONT and N_ITER, and returns the value of N_ITER. Fast path: all 13 bits are present, and only V_STATIC can be refused.
 fn profile_head(s: &[u8], stop: usize, at: usize, n: usize) -> PacketValue
     requires { ⌜ Standing (now s) stop at n ⌝ }
     ensures { λ r. ⌜ Gave profileHead (now (s .entry)) stop at n r ⌝ }
@@ -176,7 +178,7 @@ fn profile_head(s: &[u8], stop: usize, at: usize, n: usize) -> PacketValue
     PacketValue::Is(t % 32, at + ELEMENT, n + speed as usize + 2)
 }
 
-// V_STATIC, Q_FRONT, and the count of the entries with the entries.
+// Judges an element of the speed profile: V_STATIC, Q_FRONT, the count of its entries, and the entries.
 fn profile(s: &[u8], stop: usize, at: usize, n: usize) -> PacketStep
     requires { ⌜ Standing (now s) stop at n ⌝ }
     ensures { λ r. ⌜ Over segment.profile (now (s .entry)) stop at n r ⌝ }
@@ -189,7 +191,7 @@ fn profile(s: &[u8], stop: usize, at: usize, n: usize) -> PacketStep
 
 // ---- the rated voltage
 
-// M_VOLTAGE and NID_CTRACTION field by field.
+// Judges M_VOLTAGE and NID_CTRACTION field by field.
 fn cut_wire(s: &[u8], stop: usize, at: usize, n: usize) -> PacketStep
     requires { ⌜ Standing (now s) stop at n ⌝ }
     ensures { λ r. ⌜ Over segment.voltage (now (s .entry)) stop at n r ⌝ }
@@ -205,7 +207,7 @@ fn cut_wire(s: &[u8], stop: usize, at: usize, n: usize) -> PacketStep
 // The bits of M_VOLTAGE.
 const VOLTAGE: usize = body::MVoltage::WIDTH as usize;
 
-// The same: where their bits are all there, they are read at once.
+// Judges M_VOLTAGE and NID_CTRACTION. Fast path: all 14 bits are present, and are read at once.
 fn wire(s: &[u8], stop: usize, at: usize, n: usize) -> PacketStep
     requires { ⌜ Standing (now s) stop at n ⌝ }
     ensures { λ r. ⌜ Over segment.voltage (now (s .entry)) stop at n r ⌝ }
@@ -227,7 +229,7 @@ fn wire(s: &[u8], stop: usize, at: usize, n: usize) -> PacketStep
 
 // ---- any of the three
 
-// What an element of a part begins with.
+// Judges what an element of the list `part` has after its location.
 pub fn element(part: Part, s: &[u8], stop: usize, at: usize, n: usize) -> PacketStep
     requires { ⌜ Standing (now s) stop at n ⌝ }
     ensures { λ r. ⌜ Over (startOf part) (now (s .entry)) stop at n r ⌝ }

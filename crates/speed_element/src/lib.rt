@@ -1,4 +1,4 @@
-// One element of a speed profile: the lowest speeds of its entries that name the train, its speed, and whether it holds.
+// One element of a speed profile: the lowest speeds of the entries that name the train, the element's speed, and whether it holds.
 
 ghost use mathlib.Core.Path.{_≡_};
 ghost use mathlib.Core.Bool.{_&&_};
@@ -8,32 +8,33 @@ ghost use Rattle.speed.specs.Speed.{holds};
 ghost use Rattle.speed_element.specs.internal.Elements.{none, counted, Distant, cantOf, noLows, insteadFrom, Kept, Worked, OneMore, elementWith};
 use speed::Train;
 
-// Stands for no speed, as every number from it on. Speeds are below it, so that the lowest of it and another is the other, and no flag goes along.
+// `NONE` and every larger number stand for no speed. Speeds are below it, so the lower of a speed and no speed is the speed, and no flag is needed.
 pub const NONE: u32 = 1024;
 
-// The same of an entry's distance and speed as one number; what the distance is counted in, and modulo.
+// An entry by cant deficiency is one number, distance * SPEEDS + speed. `NO_FIGURE` stands for no entry.
 const NO_FIGURE: u64 = 4398046511104;
 
 const SPEEDS: u64 = 1024;
 
+// Distances are modulo this.
 const DISTANCES: u64 = 18014398509481984;
 
-// What a Q_DIFF adds to a figure: more than any cant deficiency.
+// Added to a figure for each Q_DIFF: more than any cant deficiency.
 const Q_DIFF: u64 = 4294967296;
 
-// The Q_DIFF of entries that replace, and of those that only lower.
+// The Q_DIFF of entries that replace the speed, and of entries that only lower it.
 const REPLACING: u32 = 1;
 
 const LOWERING: u32 = 2;
 
-// The lowest speeds of the entries that name the train, for each Q_DIFF; by cant deficiency the lowest number.
+// The lowest speeds in km/h of the entries that name the train, for each Q_DIFF. `cant` is the lowest distance * SPEEDS + speed.
 pub struct Lows {
     pub cant: u64,
     pub replacing: u32,
     pub lowering: u32,
 }
 
-// An element whose entries were not looked at: its start, V_STATIC in km/h, Q_FRONT, and the count and the place of its entries.
+// An element whose entries are not read yet: its start in cm, V_STATIC in km/h, Q_FRONT, the count of its entries, and where they stand.
 pub struct Open {
     pub start: u32,
     pub v_static: u32,
@@ -48,14 +49,14 @@ pub struct ElementAt {
     pub next: usize,
 }
 
-// Where an element ends, the element that follows, and the place after that.
+// Where an element ends in cm, the element that follows, and the place after that one.
 pub struct Following {
     pub end: u32,
     pub open: Open,
     pub next: usize,
 }
 
-// The lower speed of two.
+// Returns the lower of two speeds.
 fn lower(a: u32, b: u32) -> u32
     ensures { λ r. ⌜ r ≡ min a b ⌝ }
 {
@@ -65,7 +66,7 @@ fn lower(a: u32, b: u32) -> u32
     b
 }
 
-// The nearer entry of two, and of two that are as near the slower: the lower number.
+// Returns the lower number of two entries by cant deficiency: the nearer figure, and of two equal figures the lower speed.
 fn nearer(one: u64, other: u64) -> u64
     ensures { λ r. ⌜ r ≡ min one other ⌝ }
 {
@@ -75,7 +76,8 @@ fn nearer(one: u64, other: u64) -> u64
     other
 }
 
-// A speed where it counts, by a sum: which entries count goes up and down, and a wrong guess costs more.
+// Returns the speed `v` if `so` and `member` are true, else a number that stands for no speed.
+// For speed: a sum, and no branch, which would mispredict from entry to entry.
 fn counted(so: bool, member: bool, v: u32) -> u32
     requires { ⌜ v < none ⌝ }
     ensures { λ r. ⌜ r ≡ counted (so && member) v ⌝ }
@@ -83,7 +85,7 @@ fn counted(so: bool, member: bool, v: u32) -> u32
     v + NONE * (1 - so as u32 * member as u32)
 }
 
-// How far an entry's figure lies below the train's, by a difference that wraps where it does not count.
+// Returns how far the figure `class` lies below the train's cant deficiency, in mm; a number above any if it lies above, or if `q_diff` is not 0.
 fn distance(train: Train, q_diff: u32, class: u32) -> u64
     requires { ⌜ «q_diff» < 4 ⌝ }
     ensures { λ r. ⌜ Distant train «q_diff» class r ⌝ }
@@ -91,7 +93,7 @@ fn distance(train: Train, q_diff: u32, class: u32) -> u64
     (DISTANCES + train.cant as u64 - (class as u64 + q_diff as u64 * Q_DIFF)) % DISTANCES
 }
 
-// The lowest speed of the nearest figure instead of this, if there is one.
+// Returns the speed of the nearest figure not above the train's, which `best` holds, or `v` if there is none.
 fn by_cant(train: Train, best: u64, v: u32) -> u32
     ensures { λ r. ⌜ r ≡ cantOf train best v ⌝ }
 {
@@ -102,7 +104,7 @@ fn by_cant(train: Train, best: u64, v: u32) -> u32
     v
 }
 
-// Those of no entry.
+// Returns the lowest speeds of no entry.
 pub fn no_lows() -> Lows
     ensures { λ r. ⌜ r ≡ noLows ⌝ }
 {
@@ -113,7 +115,7 @@ pub fn no_lows() -> Lows
     }
 }
 
-// The lowest instead of this speed, if there is one.
+// Returns the speed `low`, or `v` if `low` stands for no speed.
 fn instead(low: u32, v: u32) -> u32
     ensures { λ r. ⌜ r ≡ insteadFrom low v [] ⌝ }
 {
@@ -124,7 +126,8 @@ fn instead(low: u32, v: u32) -> u32
 }
 
 impl Lows {
-    // With one entry more: each is looked at for every Q_DIFF, with no branch on its own.
+    // Returns the lowest speeds with one entry more.
+    // For speed: the entry is compared for every Q_DIFF, with no branch on its own.
     pub fn with(self, train: Train, q_diff: u32, class: u32, v: u32) -> Lows
         requires { ⌜ Kept «q_diff» class v ⌝ }
         ensures { λ r. ⌜ OneMore train self «q_diff» class v r ⌝ }
@@ -141,7 +144,7 @@ impl Lows {
         }
     }
 
-    // The lowest speed held, with the element's.
+    // Returns the lower of `held` and the element's speed for the train, from its V_STATIC `v_static` and these lowest speeds.
     pub fn lowered(self, train: Train, v_static: u32, held: u32) -> u32
         requires { ⌜ «v_static» < none ⌝ }
         ensures { λ r. ⌜ Worked train self «v_static» held r ⌝ }
@@ -152,7 +155,7 @@ impl Lows {
 }
 
 impl Open {
-    // Whether the element holds at x, where it ends at end: no entry has a say in it.
+    // Returns whether the element holds at `x`, in cm, if it ends at `end`. It does not depend on the entries.
     pub fn holds(self, train: Train, end: u32, x: u32) -> bool
         ensures { λ r. ⌜ r ≡ holds train (elementWith self []) end x ⌝ }
     {
@@ -166,7 +169,7 @@ impl Open {
     }
 }
 
-// The permitted speed, once every element has ended.
+// Returns the permitted speed in km/h, from the lowest speed `held` of all elements: 0 if none holds.
 pub fn permitted(held: u32) -> u32
     ensures { λ r. ⌜ r ≡ insteadFrom held 0 [] ⌝ }
 {

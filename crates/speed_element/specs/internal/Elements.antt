@@ -1,4 +1,4 @@
--- Speeds so far and speeds to come: what the code on one element is held to. No promise names it.
+-- The lowest speeds of the entries so far, and of those to come, as the contracts say it. No promise names it.
 use mathlib.Core.Path.{_≡_}
 use mathlib.Core.Bool.{Bool, cond}
 use mathlib.Core.List.{List, [], _∷_}
@@ -36,7 +36,7 @@ pub record Distant (t : Train) (q class far : ℕ) : Type 0 where
 abbrev pub folded : ℕ → ℕ → ℕ
 folded far v = far * 1024 + v
 
--- it counts, if its figure lies no further below the train's than that is; this one never does
+-- an entry counts, if its figure lies no further below the train's than the train's is; noFigure never does
 abbrev pub counts : Train → ℕ → Bool
 counts t best = leb (best / 1024) (t .cant)
 
@@ -51,14 +51,14 @@ foldedEntry t best = record { qDiff = 0; class = t .cant - best / 1024; vDiff = 
 abbrev pub cantFrom : Train → ℕ → ℕ → List Entry → ℕ
 cantFrom t best v es = instead v (greatestSpeeds (cond (counts t best) (foldedEntry t best ∷ notAbove t es) (notAbove t es)))
 
--- the same where no entry is to come
+-- the speed by cant deficiency where no entry is to come
 abbrev pub cantOf : Train → ℕ → ℕ → ℕ
 cantOf t best v = cond (counts t best) (best % 1024) v
 
 abbrev pub noLows : Lows
 noLows = record { cant = noFigure; replacing = none; lowering = none }
 
--- what an accepted entry's numbers keep to
+-- the bounds of an accepted entry's numbers
 pub record Kept (q class v : ℕ) : Type 0 where
   pub few : q < 4
   pub category : 0 < q → class < 3
@@ -69,7 +69,7 @@ abbrev pub speedFrom : Train → Lows → ℕ → List Entry → ℕ
 speedFrom t lows v es =
     lowestFrom (lows .lowering) (insteadFrom (lows .replacing) (cantFrom t (lows .cant) v es) (namedSpeeds t 1 es)) (namedSpeeds t 2 es)
 
--- the same where no entry is to come
+-- an element's speed where no entry is to come
 abbrev pub speedOf : Train → Lows → ℕ → ℕ
 speedOf t lows v = lowestFrom (lows .lowering) (insteadFrom (lows .replacing) (cantOf t (lows .cant) v) []) []
 

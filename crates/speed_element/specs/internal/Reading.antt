@@ -1,4 +1,4 @@
--- The parts of an accepted speed profile, read at places of any medium. What the code below a promise is held to; no promise names it.
+-- The parts of an accepted speed profile, read at places of any medium, as the contracts say it. No promise names it.
 use mathlib.Core.Path.{_≡_}
 use mathlib.Core.Bool.{cond}
 use mathlib.Core.List.{List, _∷_}
