@@ -229,7 +229,7 @@ fn wire(s: &[u8], stop: usize, at: usize, n: usize) -> PacketStep
 
 // ---- any of the three
 
-// Judges what an element of the list `part` has after its location.
+// Judges the element of the list `part` at the bit `at`, without its location.
 pub fn element(part: Part, s: &[u8], stop: usize, at: usize, n: usize) -> PacketStep
     requires { ⌜ Standing (now s) stop at n ⌝ }
     ensures { λ r. ⌜ Over (startOf part) (now (s .entry)) stop at n r ⌝ }

@@ -1,4 +1,4 @@
-// Writes what an element of each list has after its location: the speed profile with its entries, the wire, the current. What was accepted is not judged again.
+// Writes an element of each list, without its location: the speed profile with its entries, the wire, the current. What was accepted is not judged again.
 ghost use mathlib.Core.Path.{_≡_};
 ghost use Prim.Native.Nat.{_+_, _*_};
 ghost use Rattle.kinds.specs.Tables.{cantFigures};
@@ -94,7 +94,7 @@ fn amperes(packet: &[u8], stop: usize, at: usize, room: &mut [u8], n: usize) -> 
     SheetSpot { at: at + 10, n: m }
 }
 
-// Writes what an element of the list `part` has after its location, from the bit `at` of the packet, to the byte `n` of the room.
+// Writes the element of the list `part` at the bit `at`, without its location, from the byte `n` of the room on.
 pub fn element(
     part: Part,
     packet: &[u8],
