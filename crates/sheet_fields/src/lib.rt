@@ -1,5 +1,6 @@
 // Judges one field of a sheet, and counts the bits of its value in the packet. Nothing is written.
 // Parameters: `s` is the sheet, `at` the byte of the field's number, `n` the packet bits before it modulo 2^32.
+pub mod header;
 pub mod row;
 
 ghost use mathlib.Core.Path.{_≡_};
@@ -10,7 +11,7 @@ ghost use Rattle.kinds.specs.Tables.{cantFigures};
 ghost use Rattle.format.specs.Format.{then};
 ghost use Rattle.sheet_fields.specs.internal.Judging.{Standing, Took, Over, Lowers};
 use kinds::body;
-use kinds::header;
+use kinds::header::NidOperational;
 use kinds::journey::DTcEndLocation;
 use kinds::refusals::CHANGE_LOCATION;
 use kinds::refusals::FIELD_VALUE;
@@ -145,7 +146,7 @@ pub fn operational(s: &[u8], at: usize, n: u32) -> SheetStep
     if fields::size::digits_good(a.value) {
         return SheetStep::On(
             at + a.count as usize,
-            std::num::wrapping_add_u32(n, header::NidOperational::WIDTH),
+            std::num::wrapping_add_u32(n, NidOperational::WIDTH),
         );
     }
     SheetStep::Refused(FIELD_VALUE, at)

@@ -7,7 +7,6 @@ ghost use Rattle.format.specs.Format.{times};
 ghost use Rattle.grammar.specs.internal.rows.Rows as rows;
 ghost use Rattle.grammar.specs.journey.Journey as journey;
 ghost use Rattle.grammar.specs.internal.journey.Parts as parts;
-ghost use Rattle.grammar.specs.internal.segment.Parts as segment;
 ghost use Rattle.sheet_fields.specs.internal.Judging.{Standing, Over};
 use crate::point::points;
 use grammar::journey::CONSTRAINTS;
@@ -17,7 +16,7 @@ use kinds::journey::QJpStatus;
 use kinds::refusals::FIELD_VALUE;
 use sheet_fields::SheetStep;
 use sheet_fields::SheetValue;
-use sheet_fields::operational;
+use sheet_fields::header::header;
 use sheet_fields::ranged;
 use sheet_fields::row::row;
 
@@ -120,26 +119,13 @@ fn body(s: &[u8], at: usize, n: u32) -> SheetStep
     }
 }
 
-// Judges NID_ENGINE to N_PACKET_COUNTER.
-fn header_row(s: &[u8], at: usize, n: u32) -> SheetStep
-    requires { ⌜ Standing (now s) at ⌝ }
-    ensures { λ r. ⌜ Over (rows.row segment.headerWidths segment.headerMost) (now (s .entry)) at n r ⌝ }
-{
-    let widths = grammar::segment::header_widths();
-    let most = grammar::segment::header_most();
-    row(s, at, n, &widths, &most)
-}
-
 // Judges every number after the packet number.
 pub fn fields(s: &[u8], at: usize, n: u32) -> SheetStep
     requires { ⌜ Standing (now s) at ⌝ }
     ensures { λ r. ⌜ Over parts.journeyPart (now (s .entry)) at n r ⌝ }
 {
-    match operational(s, at, n) {
+    match header(s, at, n) {
         SheetStep::Refused(r, place) => SheetStep::Refused(r, place),
-        SheetStep::On(at2, n2) => match header_row(s, at2, n2) {
-            SheetStep::Refused(r, place) => SheetStep::Refused(r, place),
-            SheetStep::On(at3, n3) => body(s, at3, n3),
-        },
+        SheetStep::On(at2, n2) => body(s, at2, n2),
     }
 }

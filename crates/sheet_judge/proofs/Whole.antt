@@ -1,14 +1,13 @@
--- The verdict on a sheet, from the step over every field, and the limits of the fields before the speed profile.
+-- The verdict on a sheet, from the step over every field.
 use mathlib.Core.Path.{_≡_, refl, sym, ap, _∙_}
 use mathlib.Core.List.{List, [], _∷_}
-use Prim.Native.Nat.{ℕ, zero, suc, _+_, _^_, _≤_, _<_}
+use Prim.Native.Nat.{ℕ, _+_, _^_, _<_}
 use native.Mathlib.Nat.{mod-eq-of-lt}
 use native.Mathlib.Omega.{arith}
 use lib.Dec.{lit≤, lit<}
-use lib.ListN.{length, drop, getD, drop-of-length-le, length-drop}
+use lib.ListN.{length, drop, drop-of-length-le, length-drop}
 use Rattle.bits.specs.Bits.{Bytes}
 use Rattle.kinds.specs.declared.Item.{Item}
-use Rattle.kinds.specs.Kind.{upTo}
 use Rattle.format.specs.Format.{Format, end, Read, accepted, refused, read, write, answerOf}
 use Rattle.format.specs.Media.{packet, sheet}
 use Rattle.format.specs.internal.Pass.{pass, made}
@@ -18,7 +17,7 @@ use Rattle.format.proofs.Tasks.{made-within}
 use Rattle.format.proofs.Sized.{size-most, lowered-priced}
 use Rattle.format.specs.Conforming.{Conforming, InSheet}
 use Rattle.grammar.specs.segment.Segment.{lists, body, fields, sheetFields, wireChanges}
-use Rattle.grammar.specs.internal.segment.Parts.{kindAt, runs}
+use Rattle.grammar.specs.internal.rows.Rows.{row}
 use Rattle.grammar.proofs.segment.Ends.{sheet-bits}
 use Rattle.grammar.specs.journey.Journey.{journeyBody, journeyFields, journeySheet, constraints}
 use Rattle.grammar.proofs.journey.Ends as journey
@@ -37,7 +36,7 @@ use Rattle.sheet_judge.specs.internal.Whole.{numbersPart}
 
 -- the tree is that part and nothing after it
 whole-part : (t : Tree) → treeSheetFields t ≡ numbersPart t end
-unfolding body lists runs kindAt journeyBody
+unfolding body lists row journeyBody
 whole-part Segment = refl
 whole-part Journey = refl
 
@@ -88,32 +87,3 @@ module _ (t : Tree) (s : List ℕ) (ok : Bytes s) where
   pub place-few : {r place : ℕ} → SheetVerdict.Refused r place ≡ sheetVerdict t s → place < 2 ^ 32
   unfolding sheetVerdict
   place-few {r} {place} e = sheet-place t s r place ok (verdict-refused sheet-sorts (sizeFrom packet tree 0) (treeSheet t s) r place e)
-
--- ---- the fields before the speed profile by their number
-
--- the code's tables
-abbrev pub widthTable : List ℕ
-widthTable = 32 ∷ 24 ∷ 15 ∷ 17 ∷ 8 ∷ 10 ∷ 32 ∷ 8 ∷ 8 ∷ 24 ∷ 24 ∷ 7 ∷ 20 ∷ []
-
-abbrev pub largestTable : List ℕ
-largestTable = 4294967295 ∷ 16777215 ∷ 32767 ∷ 86399 ∷ 255 ∷ 1023 ∷ 4294967295 ∷ 255 ∷ 255 ∷ 16777215 ∷ 16777215 ∷ 112 ∷ 1048575 ∷ []
-
-pub kind-limits : (i : ℕ) → 1 ≤ i → i < 13 → (i ≡ 9 → ⊥) → kindAt i ≡ upTo (getD widthTable i 0) (getD largestTable i 0)
-unfolding kindAt
-kind-limits zero l h n = absurd (omega arith)
-kind-limits (suc zero) l h n = refl
-kind-limits (suc (suc zero)) l h n = refl
-kind-limits (suc (suc (suc zero))) l h n = refl
-kind-limits (suc (suc (suc (suc zero)))) l h n = refl
-kind-limits (suc (suc (suc (suc (suc i))))) l h n = later i (omega arith) (λ e. n (ap (λ (m : ℕ). suc (suc (suc (suc (suc m))))) e))
-  where
-    later : (j : ℕ) → j < 8 → (j ≡ 4 → ⊥) → kindAt (suc (suc (suc (suc (suc j))))) ≡ upTo (getD widthTable (suc (suc (suc (suc (suc j))))) 0) (getD largestTable (suc (suc (suc (suc (suc j))))) 0)
-    later zero g m = refl
-    later (suc zero) g m = refl
-    later (suc (suc zero)) g m = refl
-    later (suc (suc (suc zero))) g m = refl
-    later (suc (suc (suc (suc zero)))) g m = absurd (m refl)
-    later (suc (suc (suc (suc (suc zero))))) g m = refl
-    later (suc (suc (suc (suc (suc (suc zero)))))) g m = refl
-    later (suc (suc (suc (suc (suc (suc (suc zero))))))) g m = refl
-    later (suc (suc (suc (suc (suc (suc (suc (suc j)))))))) g m = absurd (omega arith)

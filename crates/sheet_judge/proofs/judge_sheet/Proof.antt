@@ -1,4 +1,4 @@
--- `judge_sheet::judge_sheet` meets its contract.
+-- `sheet_judge::judge_sheet` meets its contract.
 use Rattle.bits.proofs.Padding.{bytes-of}
 use Rattle.sheet_judge.proofs.Whole.{refused-whole, accepted-whole, left-whole, place-few}
 use borrow.Author.Needs.{needs}

@@ -1,4 +1,4 @@
--- `judge_sheet::numbers_of` meets its contract.
+-- `sheet_judge::numbers_of` meets its contract.
 use Rattle.sheet_judge.specs.internal.Whole.{afterPart}
 use Rattle.format.proofs.Ways.{value-on, value-off}
 use borrow.Author.Needs.{needs}

@@ -1,4 +1,4 @@
--- `judge_sheet::tree_numbers` meets its contract.
+-- `sheet_judge::tree_numbers` meets its contract.
 use borrow.Author.Needs.{needs}
 use Rattle.sheet_judge.proofs.tree_numbers.Statement.{statement}
 use Rattle.sheet_judge.proofs.tree_numbers.Tie as tie

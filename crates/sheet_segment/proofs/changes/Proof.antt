@@ -1,4 +1,4 @@
--- `sheet_lists::changes` meets its contract.
+-- `sheet_segment::changes` meets its contract.
 use Rattle.grammar.specs.segment.Segment.{changes}
 use Rattle.grammar.specs.internal.segment.Parts.{startOf}
 use Rattle.format.specs.internal.Ways.{Left}

@@ -1,4 +1,4 @@
--- `sheet_lists::element` meets its contract.
+-- `sheet_segment::element` meets its contract.
 use borrow.Author.Needs.{needs}
 use Rattle.sheet_segment.proofs.element.Statement.{statement}
 use Rattle.sheet_segment.proofs.element.Tie as tie

@@ -1,4 +1,4 @@
--- `sheet_lists::entries` meets its contract.
+-- `sheet_segment::entries` meets its contract.
 use mathlib.Core.Path.{refl}
 use Prim.Native.Nat.{_-_}
 use Rattle.grammar.specs.segment.Segment.{entries}

@@ -1,4 +1,4 @@
--- `sheet_lists::entry` meets its contract.
+-- `sheet_segment::entry` meets its contract.
 use Rattle.kinds.specs.Kinds.{class, speed}
 use Rattle.format.specs.Format.{then}
 use Rattle.format.proofs.Ways.{over-on, over-off, value-on, value-off}

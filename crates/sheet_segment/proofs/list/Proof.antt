@@ -1,4 +1,4 @@
--- `sheet_lists::list` meets its contract.
+-- `sheet_segment::list` meets its contract.
 use Rattle.grammar.specs.segment.Segment.{changes}
 use Rattle.grammar.specs.internal.segment.Parts.{startOf}
 use Rattle.format.proofs.Ways.{over-on, over-off, value-on, value-off}

@@ -1,4 +1,4 @@
--- `sheet_lists::lists` meets its contract.
+-- `sheet_segment::lists` meets its contract.
 use Rattle.format.proofs.Ways.{over-on, over-off}
 use lib.Dec.{lit<}
 use borrow.Author.Needs.{needs}

@@ -1,4 +1,4 @@
--- `sheet_lists::profile` meets its contract.
+-- `sheet_segment::profile` meets its contract.
 use Rattle.kinds.specs.Kinds.{nIter}
 use Rattle.format.specs.Format.{field}
 use Rattle.grammar.specs.segment.Segment.{entries}

@@ -1,4 +1,4 @@
--- `sheet_lists::wire` meets its contract.
+-- `sheet_segment::wire` meets its contract.
 use Rattle.kinds.specs.Kinds.{nidCTraction}
 use Rattle.format.specs.Format.{then}
 use Rattle.format.proofs.Ways.{value-on, value-off}

@@ -1,7 +1,7 @@
--- `sheet_journey::header_row` meets its contract.
+-- `sheet_fields::header::header_row` meets its contract.
 use borrow.Author.Needs.{needs}
-use Rattle.sheet_journey.proofs.header_row.Statement.{statement}
-use Rattle.sheet_journey.proofs.header_row.Tie as tie
+use Rattle.sheet_fields.proofs.header.header_row.Statement.{statement}
+use Rattle.sheet_fields.proofs.header.header_row.Tie as tie
 
 returns : tie.Need-returns
 returns c = rw (c .before .before .before .before .header-widths .ensures, c .before .before .before .header-most .ensures) at (c .row .ensures)
