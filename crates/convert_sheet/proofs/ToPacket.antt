@@ -28,7 +28,8 @@ use Rattle.format.specs.Format.{end, refused, answerOf}
 use Rattle.format.specs.internal.Pass.{pass}
 use Rattle.format.specs.internal.Tasks.{Told, recording}
 use Rattle.grammar.specs.segment.Segment.{lists, body}
-use Rattle.grammar.specs.internal.segment.Parts.{kindAt, runs, headerPart}
+use Rattle.grammar.specs.internal.rows.Rows.{row}
+use Rattle.grammar.specs.internal.segment.Parts.{headerRows}
 use Rattle.grammar.specs.journey.Journey.{journeyBody}
 use Rattle.grammar.specs.declared.link.Tree.{Tree}
 use Rattle.grammar.specs.declared.link.Tree.the-variants.{Segment, Journey}
@@ -51,12 +52,12 @@ use Rattle.verdict.proofs.Accepted.{verdict-accepted, verdict-refused}
 -- ---- the trees as parts
 
 body-part : (t : Tree) → treeBody t ≡ treeBodyPart t end
-unfolding body lists runs kindAt journeyBody
+unfolding body lists row journeyBody
 body-part Segment = refl
 body-part Journey = refl
 
-header-part : (t : Tree) → treeFields t ≡ headerPart (treeBodyPart t end)
-unfolding body lists runs kindAt journeyBody
+header-part : (t : Tree) → treeFields t ≡ headerRows (treeBodyPart t end)
+unfolding body lists row journeyBody
 header-part Segment = refl
 header-part Journey = refl
 
@@ -121,13 +122,13 @@ cut : (p b r f : List Bool) (n : ℕ) → f ≡ b ++ r → length (p ++ b) ≡ n
 cut p b r f n e l = ap (λ (x : List Bool). take n (p ++ x)) e ∙ ap (take n) (sym (append-assoc p b r)) ∙ take-at (p ++ b) r n l
 
 module _ (t : Tree) (s : List ℕ) (ok : Bytes s) (a : SheetAccepted t s) where
-  all-told : (x : List Bool) → writer s .run (headerPart (treeBodyPart t end)) (length (groupsIn (treeNumber t))) x ≡ Told.told (x ++ bitsOfSheet t s)
+  all-told : (x : List Bool) → writer s .run (headerRows (treeBodyPart t end)) (length (groupsIn (treeNumber t))) x ≡ Told.told (x ++ bitsOfSheet t s)
   all-told x =
       ap (λ (f : Format). writer s .run f (length (groupsIn (treeNumber t))) x) (sym (header-part t))
       ∙ run-told s (treeFields t) (length (groupsIn (treeNumber t))) x
       ∙ rw (own t s ok a .reads, sheet-bits t s ok a)
 
-  header-ready : (room : List ℕ) (x : List Bool) (wait : ℕ) → Filled x room 24 wait → Ready headerPart s room (record { from = length (groupsIn (treeNumber t)); at = 24; wait = wait })
+  header-ready : (room : List ℕ) (x : List Bool) (wait : ℕ) → Filled x room 24 wait → Ready headerRows s room (record { from = length (groupsIn (treeNumber t)); at = 24; wait = wait })
   header-ready room x wait f = record {
     bytes = ok;
     inside = own t s ok a .inside;
@@ -155,10 +156,10 @@ module _ (t : Tree) (s : List ℕ) (ok : Bytes s) (a : SheetAccepted t s) where
     begun : Filled (bitsOf 8 (treeNumber t) ++ bitsOf 16 n) h2 24 wait
     begun = two .fills (bitsOf 8 (treeNumber t)) (one .fills [] (filled-none h0))
 
-    pub header-may : Ready headerPart s h2 (record { from = length (groupsIn (treeNumber t)); at = 24; wait = wait })
+    pub header-may : Ready headerRows s h2 (record { from = length (groupsIn (treeNumber t)); at = 24; wait = wait })
     header-may = header-ready h2 (bitsOf 8 (treeNumber t) ++ bitsOf 16 n) wait begun
 
-    pub header-done : {h3 : List ℕ} {q : PacketSpot} → Wrote headerPart s h2 (record { from = length (groupsIn (treeNumber t)); at = 24; wait = wait }) h3 q → q .at ≡ 120 → Headed t s h3 (q .from)
+    pub header-done : {h3 : List ℕ} {q : PacketSpot} → Wrote headerRows s h2 (record { from = length (groupsIn (treeNumber t)); at = 24; wait = wait }) h3 q → q .at ≡ 120 → Headed t s h3 (q .from)
     header-done {h3} {q} w e =
         let b = w .bits in
         let g = apart b (q .from) (w .over [] .stands) (sym (all-told []) ∙ w .over [] .goes (treeBodyPart t end)) in

@@ -3,7 +3,7 @@ use mathlib.Core.Path.{refl}
 use lib.Dec.{lit≤}
 use Rattle.grammar.specs.internal.rows.Rows.{row}
 use Rattle.grammar.specs.internal.journey.Parts.{segmentWidths, segmentMost}
-use Rattle.packet_write_journey.proofs.row.Three.{Three}
+use Rattle.packet_write_segment.proofs.row.Three.{Three}
 
 pub segment-pieces : Three segmentWidths segmentMost 1 2 5 10 32 17
 unfolding row

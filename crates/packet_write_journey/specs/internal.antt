@@ -1,3 +1,2 @@
 -- Definitions that contracts of the code use; no promise names them.
 pub mod constraint
-pub mod row

@@ -3,10 +3,10 @@
 ghost use Rattle.grammar.specs.journey.Journey as tree;
 ghost use Rattle.packet_write_segment.specs.internal.elements.Writing.{Ready, Wrote};
 ghost use Rattle.packet_write_journey.specs.internal.constraint.Begun.{Begun};
-use crate::row::Given;
 use kinds::body::MCurrent;
 use kinds::journey::DTcEndLocation;
 use packet_write_segment::elements::PacketSpot;
+use packet_write_segment::row::Given;
 
 // Writes the type, the range and the start at once, then the end, and returns the type.
 fn location(sheet: &[u8], room: &mut [u8], p: PacketSpot) -> Given

@@ -2,7 +2,6 @@
 // Parameters: `sheet` is read and `room` is written, at the place `p` or `from`; each function returns the place after its part.
 pub mod constraint;
 pub mod point;
-pub mod row;
 
 ghost use Rattle.format.specs.Format.{times};
 ghost use Rattle.packet_write_segment.specs.internal.elements.Writing.{Ready, Wrote};
@@ -11,8 +10,6 @@ ghost use Rattle.grammar.specs.internal.journey.Parts.{segmentWidths, segmentMo
 ghost use Rattle.grammar.specs.internal.rows.Rows.{row};
 use crate::constraint::constraint;
 use crate::point::point;
-use crate::row::number;
-use crate::row::piece;
 use grammar::journey::CONSTRAINTS;
 use kinds::body::MSpVersion;
 use kinds::body::NIter;
@@ -22,6 +19,8 @@ use kinds::journey::NIterSp;
 use kinds::journey::QJpStatus;
 use kinds::journey::QSpDir;
 use packet_write_segment::elements::PacketSpot;
+use packet_write_segment::row::number;
+use packet_write_segment::row::piece;
 
 // Bits of the two versions and Q_SP_DIR, which are written at once.
 const VERSION: u32 = MSpVersion::WIDTH + MSpVersion::WIDTH + QSpDir::WIDTH;

@@ -4,8 +4,6 @@ ghost use Rattle.grammar.specs.internal.rows.Rows.{row};
 ghost use Rattle.grammar.specs.journey.Journey.{timingPoint};
 ghost use Rattle.grammar.specs.internal.journey.Parts.{arrivalWidths, arrivalMost, stoppingWidths, stoppingMost};
 ghost use Rattle.packet_write_segment.specs.internal.elements.Writing.{Ready, Wrote};
-use crate::row::number;
-use crate::row::piece;
 use kinds::journey::NidTp;
 use kinds::journey::QAutomaticClosing;
 use kinds::journey::QCentralisedOpening;
@@ -23,6 +21,8 @@ use kinds::journey::TLatestArrivalDate;
 use kinds::journey::TLatestArrivalSeconds;
 use kinds::journey::TMinimumDwellTime;
 use packet_write_segment::elements::PacketSpot;
+use packet_write_segment::row::number;
+use packet_write_segment::row::piece;
 
 // Bits of the piece T_Latest_Arrival_Date to T_Latest_Arrival_Seconds.
 const LATEST: u32 = TLatestArrivalDate::WIDTH + TLatestArrivalSeconds::WIDTH;

@@ -1,3 +1,3 @@
 -- What the code needs and no promise names.
-pub mod Widths
 pub mod elements
+pub mod row

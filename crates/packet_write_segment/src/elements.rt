@@ -1,4 +1,4 @@
-// An element of a list of an accepted sheet, put into its packet: a place in both, and what an element begins with.
+// An element of a list of an accepted sheet, put into its packet, and the places in both.
 ghost use mathlib.Core.Path.{_≡_};
 ghost use Rattle.kinds.specs.Tables.{cantFigures};
 ghost use Rattle.grammar.specs.segment.Segment as segment;
@@ -10,14 +10,14 @@ use grammar::segment::Part;
 use grammar::segment::layout;
 use kinds::body;
 
-// A place in the sheet, the packet's bit that is next, and the bits that wait for a whole byte.
+// `from`: the next byte of the sheet. `at`: the next bit of the packet. `wait`: the bits of the packet's unfinished byte.
 pub struct PacketSpot {
     pub from: usize,
     pub at: usize,
     pub wait: u64,
 }
 
-// Q_DIFF, class and V_DIFF, put at once.
+// Puts Q_DIFF, class and V_DIFF at once. `figures` is the table of cant figures.
 fn entry(sheet: &[u8], figures: &[u32; 11], room: &mut [u8], p: PacketSpot) -> PacketSpot
     requires { ⌜ Ready parts.entry (now sheet) (now room) p × (now figures ≡ cantFigures) ⌝ }
     ensures { λ r. ⌜ Wrote parts.entry (now (sheet .entry)) (now (room .entry)) p (now (room .exit)) r ⌝ }
@@ -35,7 +35,7 @@ fn entry(sheet: &[u8], figures: &[u32; 11], room: &mut [u8], p: PacketSpot) -> P
     }
 }
 
-// The specific entries of an element.
+// Puts the `count` specific entries of an element.
 fn entries(sheet: &[u8], room: &mut [u8], from: PacketSpot, count: u32) -> PacketSpot
     requires { ⌜ Ready (segment.entries count) (now sheet) (now room) from ⌝ }
     ensures { λ r. ⌜ Wrote (segment.entries count) (now (sheet .entry)) (now (room .entry)) from (now (room .exit)) r ⌝ }
@@ -50,7 +50,7 @@ fn entries(sheet: &[u8], room: &mut [u8], from: PacketSpot, count: u32) -> Packe
     p
 }
 
-// V_STATIC, Q_FRONT and the count of the entries, put at once, and the entries.
+// Puts V_STATIC, Q_FRONT and the count of the specific entries at once, and the specific entries.
 fn profile(sheet: &[u8], room: &mut [u8], p: PacketSpot) -> PacketSpot
     requires { ⌜ Ready segment.profile (now sheet) (now room) p ⌝ }
     ensures { λ r. ⌜ Wrote segment.profile (now (sheet .entry)) (now (room .entry)) p (now (room .exit)) r ⌝ }
@@ -68,7 +68,7 @@ fn profile(sheet: &[u8], room: &mut [u8], p: PacketSpot) -> PacketSpot
     entries(sheet, room, first, n.value)
 }
 
-// M_VOLTAGE and NID_CTRACTION, put at once.
+// Puts M_VOLTAGE and NID_CTRACTION at once.
 fn wire(sheet: &[u8], room: &mut [u8], p: PacketSpot) -> PacketSpot
     requires { ⌜ Ready segment.voltage (now sheet) (now room) p ⌝ }
     ensures { λ r. ⌜ Wrote segment.voltage (now (sheet .entry)) (now (room .entry)) p (now (room .exit)) r ⌝ }
@@ -84,7 +84,7 @@ fn wire(sheet: &[u8], room: &mut [u8], p: PacketSpot) -> PacketSpot
     }
 }
 
-// M_CURRENT.
+// Puts M_CURRENT.
 fn amperes(sheet: &[u8], room: &mut [u8], p: PacketSpot) -> PacketSpot
     requires { ⌜ Ready segment.current (now sheet) (now room) p ⌝ }
     ensures { λ r. ⌜ Wrote segment.current (now (sheet .entry)) (now (room .entry)) p (now (room .exit)) r ⌝ }
@@ -104,7 +104,7 @@ fn amperes(sheet: &[u8], room: &mut [u8], p: PacketSpot) -> PacketSpot
     }
 }
 
-// What an element of a part begins with.
+// Puts one element of a list: a speed element, a voltage or a current.
 pub fn element(part: Part, sheet: &[u8], room: &mut [u8], p: PacketSpot) -> PacketSpot
     requires { ⌜ Ready (startOf part) (now sheet) (now room) p ⌝ }
     ensures { λ r. ⌜ Wrote (startOf part) (now (sheet .entry)) (now (room .entry)) p (now (room .exit)) r ⌝ }

@@ -1,19 +1,21 @@
-// The packet of an accepted sheet, written part by part. What was accepted is not judged again.
+// The packet of an accepted segment sheet, written part by part. What was accepted is not judged again.
 pub mod elements;
+pub mod row;
 
 ghost use mathlib.Core.Path.{_≡_};
-ghost use Prim.Native.Nat.{_+_, _-_, _^_, _≤_, _<_};
+ghost use Prim.Native.Nat.{_+_, _^_, _<_};
+ghost use Rattle.grammar.specs.internal.rows.Rows as rows;
 ghost use Rattle.grammar.specs.segment.Segment as segment;
-ghost use Rattle.grammar.specs.internal.segment.Parts.{startOf, runs, threeLists, headerPart, bodyPart};
+ghost use Rattle.grammar.specs.internal.segment.Parts.{startOf, threeLists, headerWidths, headerMost, headerRows, identityWidths, identityMost, offsetWidths, offsetMost, bodyRows};
 ghost use Rattle.packet_write_segment.specs.internal.elements.Writing.{Ready, Wrote};
-ghost use Rattle.packet_write_segment.specs.internal.Widths.{widths};
 use crate::elements::PacketSpot;
+use crate::row::row;
 use grammar::segment::Part;
 use grammar::segment::WIRE_CHANGES;
 use kinds::body;
-use kinds::header;
+use kinds::header::NidOperational;
 
-// The changes of a part: each a location, and an element. The end of the segment and the last location are for the contract alone.
+// Puts the `count` changes of a list, each a location and an element. `lsp` and `last`, the location before, are named for the contract only.
 fn changes(
     part: Part,
     sheet: &[u8],
@@ -43,7 +45,7 @@ fn changes(
     p
 }
 
-// A part: its first element, the count of its changes, and the changes.
+// Puts a list: its first element, the count of its changes, and the changes. `lsp` and `limit` are named for the contract only.
 fn list(
     part: Part,
     sheet: &[u8],
@@ -66,7 +68,7 @@ fn list(
     changes(part, sheet, room, next, lsp, n.value)
 }
 
-// The three parts that have changes.
+// Puts the three lists: speeds, voltages, currents.
 fn lists(sheet: &[u8], room: &mut [u8], p: PacketSpot, lsp: u32) -> PacketSpot
     requires { ⌜ Ready (threeLists lsp) (now sheet) (now room) p × (lsp < 2 ^ 24) ⌝ }
     ensures { λ r. ⌜ Wrote (threeLists lsp) (now (sheet .entry)) (now (room .entry)) p (now (room .exit)) r ⌝ }
@@ -76,59 +78,57 @@ fn lists(sheet: &[u8], room: &mut [u8], p: PacketSpot, lsp: u32) -> PacketSpot
     list(Part::Amperes, sheet, room, two, lsp, WIRE_CHANGES)
 }
 
-// The widths of the fields before the speed profile, in their order.
-const WIDTHS: [u32; 13] = [
-    header::NidOperational::WIDTH,
-    header::NidEngine::WIDTH,
-    header::TTimestampDate::WIDTH,
-    header::TTimestampSeconds::WIDTH,
-    header::NPacketCounter::WIDTH,
-    body::NidC::WIDTH,
-    body::NidSp::WIDTH,
-    body::MSpVersion::WIDTH,
-    body::MSpVersion::WIDTH,
-    body::LSp::WIDTH,
-    body::DEoAOffset::WIDTH,
-    body::QUtcOffset::WIDTH,
-    body::MSpAltitude::WIDTH,
-];
-
-// A run of these fields, from the field first up to the field end.
-fn run(sheet: &[u8], room: &mut [u8], from: PacketSpot, first: u32, end: u32) -> PacketSpot
-    requires { ⌜ Ready (runs first (end - first)) (now sheet) (now room) from × (first ≤ end) × (end ≤ 13) ⌝ }
-    ensures { λ r. ⌜ Wrote (runs first (end - first)) (now (sheet .entry)) (now (room .entry)) from (now (room .exit)) r × (r .at ≡ from .at + widths first (end - first)) ⌝ }
+// Puts NID_ENGINE to N_PACKET_COUNTER, 64 bits.
+fn header_row(sheet: &[u8], room: &mut [u8], p: PacketSpot) -> PacketSpot
+    requires { ⌜ Ready (rows.row headerWidths headerMost) (now sheet) (now room) p ⌝ }
+    ensures { λ r. ⌜ Wrote (rows.row headerWidths headerMost) (now (sheet .entry)) (now (room .entry)) p (now (room .exit)) r × (r .at ≡ p .at + 64) ⌝ }
 {
-    let table = WIDTHS;
-    let mut p = from;
-    let mut i = first;
-    while i < end {
-        let a = numbers::accepted::number(sheet, p.from);
-        let width = table[i as usize];
-        let wait = bits::write::put(room, p.at, p.wait, width, a.value);
-        p = PacketSpot {
-            from: a.next,
-            at: p.at + width as usize,
-            wait,
-        };
-        i += 1;
-    }
-    p
+    let widths = grammar::segment::header_widths();
+    let most = grammar::segment::header_most();
+    row(sheet, room, p, &widths, &most)
 }
 
-// The fields of the header after L_PACKET_ATO, 96 bits.
+// Puts the fields of the header after L_PACKET_ATO, 96 bits.
 pub fn header(sheet: &[u8], room: &mut [u8], p: PacketSpot) -> PacketSpot
-    requires { ⌜ Ready headerPart (now sheet) (now room) p ⌝ }
-    ensures { λ r. ⌜ Wrote headerPart (now (sheet .entry)) (now (room .entry)) p (now (room .exit)) r × (r .at ≡ p .at + 96) ⌝ }
+    requires { ⌜ Ready headerRows (now sheet) (now room) p ⌝ }
+    ensures { λ r. ⌜ Wrote headerRows (now (sheet .entry)) (now (room .entry)) p (now (room .exit)) r × (r .at ≡ p .at + 96) ⌝ }
 {
-    run(sheet, room, p, 0, 5)
+    let a = numbers::accepted::number(sheet, p.from);
+    let wait = bits::write::put(room, p.at, p.wait, NidOperational::WIDTH, a.value);
+    let next = PacketSpot {
+        from: a.next,
+        at: p.at + NidOperational::WIDTH as usize,
+        wait,
+    };
+    header_row(sheet, room, next)
 }
 
-// The fields of the body.
-pub fn body(sheet: &[u8], room: &mut [u8], p: PacketSpot) -> PacketSpot
-    requires { ⌜ Ready bodyPart (now sheet) (now room) p ⌝ }
-    ensures { λ r. ⌜ Wrote bodyPart (now (sheet .entry)) (now (room .entry)) p (now (room .exit)) r ⌝ }
+// Puts NID_C, NID_SP and the two versions.
+fn identity(sheet: &[u8], room: &mut [u8], p: PacketSpot) -> PacketSpot
+    requires { ⌜ Ready (rows.row identityWidths identityMost) (now sheet) (now room) p ⌝ }
+    ensures { λ r. ⌜ Wrote (rows.row identityWidths identityMost) (now (sheet .entry)) (now (room .entry)) p (now (room .exit)) r ⌝ }
 {
-    let names = run(sheet, room, p, 5, 9);
+    let widths = grammar::segment::identity_widths();
+    let most = grammar::segment::identity_most();
+    row(sheet, room, p, &widths, &most)
+}
+
+// Puts D_EoA_Offset, Q_UTC_Offset and M_SP_Altitude.
+fn offsets(sheet: &[u8], room: &mut [u8], p: PacketSpot) -> PacketSpot
+    requires { ⌜ Ready (rows.row offsetWidths offsetMost) (now sheet) (now room) p ⌝ }
+    ensures { λ r. ⌜ Wrote (rows.row offsetWidths offsetMost) (now (sheet .entry)) (now (room .entry)) p (now (room .exit)) r ⌝ }
+{
+    let widths = grammar::segment::offset_widths();
+    let most = grammar::segment::offset_most();
+    row(sheet, room, p, &widths, &most)
+}
+
+// Puts the fields of the body.
+pub fn body(sheet: &[u8], room: &mut [u8], p: PacketSpot) -> PacketSpot
+    requires { ⌜ Ready bodyRows (now sheet) (now room) p ⌝ }
+    ensures { λ r. ⌜ Wrote bodyRows (now (sheet .entry)) (now (room .entry)) p (now (room .exit)) r ⌝ }
+{
+    let names = identity(sheet, room, p);
     let l = numbers::accepted::number(sheet, names.from);
     let wait = bits::write::put(room, names.at, names.wait, body::LSp::WIDTH, l.value);
     let next = PacketSpot {
@@ -136,6 +136,6 @@ pub fn body(sheet: &[u8], room: &mut [u8], p: PacketSpot) -> PacketSpot
         at: names.at + body::LSp::WIDTH as usize,
         wait,
     };
-    let offsets = run(sheet, room, next, 10, 13);
-    lists(sheet, room, offsets, l.value)
+    let first = offsets(sheet, room, next);
+    lists(sheet, room, first, l.value)
 }

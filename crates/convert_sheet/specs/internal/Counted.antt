@@ -3,7 +3,7 @@ use mathlib.Core.List.{List}
 use Prim.Native.Nat.{ℕ}
 use Rattle.format.specs.Format.{Format}
 use Rattle.format.specs.Media.{packet}
-use Rattle.grammar.specs.internal.segment.Parts.{bodyPart}
+use Rattle.grammar.specs.internal.segment.Parts.{bodyRows}
 use Rattle.grammar.specs.internal.journey.Parts.{journeyBodyPart}
 use Rattle.grammar.specs.declared.link.Tree.{Tree}
 use Rattle.grammar.specs.declared.link.Tree.the-variants.{Segment, Journey}
@@ -19,5 +19,5 @@ countedVerdict t s = verdictOf SheetVerdict.PacketBits SheetVerdict.Refused (siz
 
 -- the body of a tree, in front of the fields f
 abbrev pub treeBodyPart : Tree → Format → Format
-treeBodyPart Segment f = bodyPart f
+treeBodyPart Segment f = bodyRows f
 treeBodyPart Journey f = journeyBodyPart f

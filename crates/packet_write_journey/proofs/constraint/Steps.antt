@@ -20,7 +20,7 @@ use Rattle.grammar.proofs.journey.Tree.{end-width, level-width, start-lawful, e
 use Rattle.packet_write_segment.specs.declared.elements.PacketSpot.{PacketSpot}
 use Rattle.packet_write_segment.specs.internal.elements.Writing.{Ready, Wrote}
 use Rattle.packet_write_segment.proofs.elements.Writing.{bits-join, Has, has-same, has-small, Gone, gone-all, gone-there, gone-has, gone-field, Along, along-next, along-on, along-none, along-put, wrote-once, along-once}
-use Rattle.packet_write_journey.specs.declared.row.Given.{Given}
+use Rattle.packet_write_segment.specs.declared.row.Given.{Given}
 use Rattle.packet_write_journey.specs.internal.constraint.Begun.{Begun}
 use Rattle.packet_write_journey.proofs.constraint.Values.{end-same, level-steps, no-limit}
 

@@ -4,7 +4,7 @@ use Prim.Native.Nat.{ℕ}
 use lib.Dec.{lit≤, eqb}
 use Rattle.bits.proofs.Tests.{by-cases}
 use Rattle.grammar.specs.internal.rows.Rows.{row}
-use Rattle.packet_write_journey.proofs.row.Three.{Three}
+use Rattle.packet_write_segment.proofs.row.Three.{Three}
 use Rattle.grammar.specs.internal.journey.Parts.{arrivalWidths, arrivalMost, stoppingWidths, stoppingMost}
 
 pub arrival-pieces : Three arrivalWidths arrivalMost 1 3 5 32 32 12

@@ -10,9 +10,9 @@ use Rattle.grammar.proofs.journey.Parts.{point-rows}
 use Rattle.packet_write_segment.specs.declared.elements.PacketSpot.{PacketSpot}
 use Rattle.packet_write_segment.specs.internal.elements.Writing.{Ready, Wrote}
 use Rattle.packet_write_segment.proofs.elements.Writing.{Along, along-all, along-as, along-next, along-on, along-none}
-use Rattle.packet_write_journey.specs.declared.row.Given.{Given}
-use Rattle.packet_write_journey.specs.internal.row.Alone.{Offers, Gives}
-use Rattle.packet_write_journey.proofs.row.Alone.{along-offers, along-gives}
+use Rattle.packet_write_segment.specs.declared.row.Given.{Given}
+use Rattle.packet_write_segment.specs.internal.row.Alone.{Offers, Gives}
+use Rattle.packet_write_segment.proofs.row.Alone.{along-offers, along-gives}
 
 abbrev arrival : Format → Format
 arrival f = row arrivalWidths arrivalMost f

@@ -1,12 +1,28 @@
--- `write_packet::header` meets its contract.
-use Rattle.packet_write_segment.proofs.Head.{header-size}
+-- `packet_write_segment::header` meets its contract.
+use lib.Dec.{lit<, lit≤}
+use Rattle.packet_write_segment.proofs.elements.Writing.{at-small}
+use Rattle.packet_write_segment.proofs.Steps.{operational-there, operational-small, header-row-ready, header-wrote}
 use native.Mathlib.Omega.{arith}
 use borrow.Author.Needs.{needs}
 use Rattle.packet_write_segment.proofs.header.Statement.{statement}
 use Rattle.packet_write_segment.proofs.header.Tie as tie
 
+number-requires : tie.Need-number-requires
+number-requires c κs = operational-there (c .before .before .pre)
+
+put-requires : tie.Need-put-requires
+put-requires c κs = (lit< tt, lit≤ tt, operational-small (c .before .before .before .before .pre) (c .before .number .ensures))
+
+add-t10 : tie.Need-add-t10
+add-t10 c = omega (arith, at-small (c .before .before .before .before .before .before .before .before .pre))
+
+header-row-requires : tie.Need-header-row-requires
+header-row-requires c κs = header-row-ready (c .before .before .before .before .before .before .before .before .before .pre) (c .before .before .before .before .before .before .number .ensures) (c .before .before .before .before .put .ensures)
+
 returns : tie.Need-returns
-returns c = (c .before .before .run .ensures .0, omega (arith, c .before .before .run .ensures .1, header-size))
+returns c =
+    let w = c .before .before .header-row .ensures in
+    (header-wrote (c .before .before .before .before .before .before .before .before .before .before .before .before .pre) (c .before .before .before .before .before .before .before .before .before .number .ensures) (c .before .before .before .before .before .before .before .put .ensures) (w .0), omega (arith, w .1))
 
 pub header-spec : {M : Type 1} → statement M
-header-spec = tie.close (tie.spec (λ c κs. search needs) (λ c. search needs) returns)
+header-spec = tie.close (tie.spec number-requires put-requires (λ c. omega arith) add-t10 header-row-requires (λ c. search needs) returns)

@@ -6,7 +6,7 @@ use Rattle.format.specs.Format.{Format}
 use Rattle.format.specs.internal.Ways.{Left}
 use Rattle.packet_write_segment.specs.declared.elements.PacketSpot.{PacketSpot}
 use Rattle.packet_write_segment.specs.internal.elements.Writing.{writer, Puts}
-use Rattle.packet_write_journey.specs.declared.row.Given.{Given}
+use Rattle.packet_write_segment.specs.declared.row.Given.{Given}
 
 -- The first fields are written, and what is left of the part depends on the value r; this holds whatever stands before the part or after it.
 pub record Begun (part : Format → Format) (rest : ℕ → Format → Format) (s room : List ℕ) (p : PacketSpot) (after : List ℕ) (r : Given) : Type 0 where

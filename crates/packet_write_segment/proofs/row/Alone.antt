@@ -11,11 +11,11 @@ use Rattle.kinds.specs.Kind.{Kind, upTo}
 use Rattle.fields.proofs.Lawful.{upTo-lawful}
 use Rattle.format.specs.Format.{Format, field}
 use Rattle.format.proofs.Ways.{left-value}
 use Rattle.packet_write_segment.specs.declared.elements.PacketSpot.{PacketSpot}
 use Rattle.packet_write_segment.specs.internal.elements.Writing.{Ready}
 use Rattle.packet_write_segment.proofs.elements.Writing.{Has, has-same, has-small, Gone, gone-all, gone-there, gone-has, Along, along-next, puts-none, puts-field, puts-on}
-use Rattle.packet_write_journey.specs.declared.row.Given.{Given}
-use Rattle.packet_write_journey.specs.internal.row.Alone.{Offers, Gives}
+use Rattle.packet_write_segment.specs.declared.row.Given.{Given}
+use Rattle.packet_write_segment.specs.internal.row.Alone.{Offers, Gives}
 
 -- the number of a field that what is left of a part begins with
 pub left-has : {p : Format → Format} {s room : List ℕ} {u : PacketSpot} → Ready p s room u → (width most : ℕ) (part : ℕ → Format → Format) {to : ℕ} {bits : List Bool}

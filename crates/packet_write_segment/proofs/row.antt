@@ -3,3 +3,4 @@ pub mod Alone
 pub mod Rows
 pub mod Pieces
 pub mod Three
+pub mod Whole

@@ -6,9 +6,9 @@ use Rattle.bits.specs.Bits.{bitsOf}
 use Rattle.kinds.specs.Kind.{Kind}
 use Rattle.format.specs.Format.{Format, field}
 use Rattle.format.specs.internal.Ways.{Got, Took}
 use Rattle.packet_write_segment.specs.declared.elements.PacketSpot.{PacketSpot}
 use Rattle.packet_write_segment.specs.internal.elements.Writing.{writer, Ready, Puts}
-use Rattle.packet_write_journey.specs.declared.row.Given.{Given}
+use Rattle.packet_write_segment.specs.declared.row.Given.{Given}
 
 -- A number of the kind k is next: the sheet is accepted with it and what follows it, which may depend on its value.
 pub record Offers (k : Kind) (s room : List ℕ) (p : PacketSpot) : Type 0 where

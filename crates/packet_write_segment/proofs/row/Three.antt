@@ -4,10 +4,10 @@ use mathlib.Core.List.{List}
 use Prim.Native.Nat.{ℕ}
 use Rattle.format.specs.Format.{Format}
 use Rattle.grammar.specs.internal.rows.Rows.{row}
 use Rattle.packet_write_segment.specs.declared.elements.PacketSpot.{PacketSpot}
 use Rattle.packet_write_segment.specs.internal.elements.Writing.{Ready, Wrote}
 use Rattle.packet_write_segment.proofs.elements.Writing.{Along, along-all, along-as, along-next, along-on, along-none}
-use Rattle.packet_write_journey.specs.internal.row.Pieces.{between, Puttable}
+use Rattle.packet_write_segment.specs.internal.row.Pieces.{between, Puttable}
 
 -- a row is its fields up to i, from i to j, and from j to k, and each of the three pieces is written at once
 pub record Three (ws ms : List ℕ) (i j k a b c : ℕ) : Type 0 where

@@ -1,14 +1,14 @@
--- `packet_write_journey::row::piece` meets its contract. The loop's invariant: the fields so far are gathered.
+-- `packet_write_segment::row::piece` meets its contract. The loop's invariant: the fields so far are gathered.
 use Prim.Native.Nat.{_-_}
 use native.Mathlib.Nat.{lt-of-lt-of-le}
 use lib.ListN.{length}
 use lib.Pow.{pow-mono}
 use Rattle.packet_write_segment.proofs.elements.Writing.{at-small}
-use Rattle.packet_write_journey.specs.internal.row.Pieces as pieces
-use Rattle.packet_write_journey.proofs.row.Pieces.{Gathers, gathers-start, gathers-there, gathers-narrow, joined-small, gathers-more, gathered-small, gathers-wrote}
+use Rattle.packet_write_segment.specs.internal.row.Pieces as pieces
+use Rattle.packet_write_segment.proofs.row.Pieces.{Gathers, gathers-start, gathers-there, gathers-narrow, joined-small, gathers-more, gathered-small, gathers-wrote}
 use native.Mathlib.Omega.{arith}
-use Rattle.packet_write_journey.proofs.row.piece.Statement.{statement}
-use Rattle.packet_write_journey.proofs.row.piece.Tie as tie
+use Rattle.packet_write_segment.proofs.row.piece.Statement.{statement}
+use Rattle.packet_write_segment.proofs.row.piece.Tie as tie
 
 abbrev Inv-loop : tie.InvT-loop
 Inv-loop sheet room p widths most first end total part from₀ bits₀ i₀ from bits i = Gathers part (pieces.part most first end) sheet room p total i from bits

@@ -1,10 +1,10 @@
--- `packet_write_journey::row::number` meets its contract.
+-- `packet_write_segment::row::number` meets its contract.
 use Rattle.packet_write_segment.proofs.elements.Writing.{at-small}
-use Rattle.packet_write_journey.proofs.row.Alone.{number-there, number-small, number-gives}
+use Rattle.packet_write_segment.proofs.row.Alone.{number-there, number-small, number-gives}
 use native.Mathlib.Omega.{arith}
 use borrow.Author.Needs.{needs}
-use Rattle.packet_write_journey.proofs.row.number.Statement.{statement}
-use Rattle.packet_write_journey.proofs.row.number.Tie as tie
+use Rattle.packet_write_segment.proofs.row.number.Statement.{statement}
+use Rattle.packet_write_segment.proofs.row.number.Tie as tie
 
 number-requires : tie.Need-number-requires
 number-requires c κs = number-there (c .before .before .pre .0)

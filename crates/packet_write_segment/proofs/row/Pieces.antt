@@ -15,15 +15,15 @@ use Rattle.bits.specs.internal.write.Filling.{Filling}
 use Rattle.numbers.specs.declared.accepted.ReadNumber.{ReadNumber}
 use Rattle.numbers.specs.internal.accepted.Accepted.{There, Reads}
 use Rattle.kinds.specs.Kind.{upTo}
-use Rattle.fields.proofs.Lawful.{upTo-lawful}
+use Rattle.fields.proofs.Lawful.{LawfulKind}
 use Rattle.format.specs.Format.{then}
 use Rattle.grammar.specs.internal.rows.Rows.{row, fits}
 use Rattle.packet_write_segment.specs.declared.elements.PacketSpot.{PacketSpot}
 use Rattle.packet_write_segment.specs.internal.elements.Writing.{Ready, Wrote}
 use Rattle.packet_write_segment.proofs.elements.Writing.{bits-join, Has, has-small, Gone, gone-all, gone-as, gone-there, gone-field, wrote-once}
-use Rattle.packet_write_journey.specs.internal.row.Pieces.{part, between, Puttable}
-use Rattle.packet_write_journey.proofs.row.Alone.{left-has}
-use Rattle.packet_write_journey.proofs.row.Rows.{rowFrom, Fits, fits-long, fits-at, row-more, row-none, bits-more, bits-none}
+use Rattle.packet_write_segment.specs.internal.row.Pieces.{part, between, Puttable}
+use Rattle.packet_write_segment.proofs.row.Alone.{left-has}
+use Rattle.packet_write_segment.proofs.row.Rows.{rowFrom, fits-long, fits-at, row-more, row-none, bits-more, bits-none}
 
 pub record Gathers (ws ms s room : List ℕ) (u : PacketSpot) (total i from bits : ℕ) : Type 0 where
   pub ready : Ready (row ws ms) s room u
@@ -48,24 +48,24 @@ module _ {ws ms s room : List ℕ} {u : PacketSpot} {total i from bits : ℕ} (g
     abbrev m : ℕ
     m = getD ms i 0
 
-    fit : Fits w m
+    fit : LawfulKind (upTo w m)
     fit = fits-at ws ms (g .fit) i l
 
     left : Gone s (row ws ms) (λ x. then (upTo w m) (rowFrom ws ms (i + 1) x)) (u .from) from (bitsOf (g .width) bits)
-    left = gone-as (λ x. then (upTo w m) (rowFrom ws ms (i + 1) x)) (row-more ws ms i l (fits-long ws ms (g .fit))) (g .gone)
+    left = gone-as (λ x. then (upTo w m) (rowFrom ws ms (i + 1) x)) (row-more ws ms (fits-long ws ms (g .fit)) i l) (g .gone)
 
     pub gathers-there : There s from
     gathers-there = gone-there (g .ready) refl (upTo w m) (λ v. rowFrom ws ms (i + 1)) left
 
     pub gathers-narrow : w ≤ 32
-    gathers-narrow = fit .most
+    gathers-narrow = fit .narrow .most
 
     module _ {a : ReadNumber} (t : Reads s from a) where
       has : Has (upTo w m) s from (a .value) (a .next) (a .value)
       has = left-has (g .ready) w m (λ v. rowFrom ws ms (i + 1)) left t
 
       value-small : a .value < 2 ^ w
-      value-small = has-small has (upTo-lawful w m (record { some = fit .some; most = fit .most }) (fit .holds))
+      value-small = has-small has fit
 
       joined : bits * 2 ^ w + a .value < 2 ^ 32
       joined =
@@ -104,4 +104,4 @@ module _ {ws ms s room : List ℕ} {u : PacketSpot} {total i from bits : ℕ} (g
     pub gathers-wrote : {end : List ℕ} {r : ℕ} → Filling room (u .at) (u .wait) total bits end r
         → Wrote (row ws ms) s room u end (record { from = from; at = u .at + total; wait = r })
     gathers-wrote d =
-        wrote-once (rw all at (gone-as (λ x. x) (row-none ws ms i l (fits-long ws ms (g .fit))) (g .gone))) refl d
+        wrote-once (rw all at (gone-as (λ x. x) (row-none ws ms (fits-long ws ms (g .fit)) i l) (g .gone))) refl d
