@@ -9,13 +9,12 @@ use lib.ListN.{length, drop, getD, length-append, length-drop, List·getD-append
 use lib.Seq.{getD-drop}
 use Rattle.bits.specs.Bits.{Bytes}
 use Rattle.bits.proofs.Tests.{by-cases}
-use Rattle.numbers.specs.declared.Number.the-variants.{Value}
-use Rattle.numbers.specs.Numbers.{numberIn, groupsOf, groupsIn}
+use Rattle.numbers.specs.Numbers.{groupsOf, groupsIn}
 use Rattle.numbers.specs.internal.Groups.{counted}
 use Rattle.numbers.proofs.Counting.{last-group, more-groups, fewer, some-group, count-some}
 use Rattle.numbers.proofs.Reading.{Spelled, number-only}
 use Rattle.format.proofs.Media.{bytes-drop}
-use Rattle.speed_sheet.specs.internal.Asking.{countedAt}
+use Rattle.speed_sheet.specs.internal.Asking.{countedAt, NumberHere}
 
 -- of n groups, the one at i is the byte b
 pub record Group (n i b : ℕ) : Type 0 where
@@ -53,10 +52,6 @@ group-of (suc g) v h i l = go (group-of g (v / 128) (fewer g v h))
 group-in : (v i : ℕ) → v < 2 ^ 32 → i < length (groupsIn v) → Group (length (groupsIn v)) i (getD (groupsIn v) i 0)
 unfolding groupsIn
 group-in v i h l = group-of 5 v (omega arith) i l
-
--- there is a number at the byte at
-abbrev pub NumberHere : List ℕ → ℕ → Type 0
-NumberHere s at = numberIn (drop at s) ≡ Value (countedAt s at % 4294967296)
 
 module _ (s : List ℕ) (at : ℕ) (ok : Bytes s) (h : NumberHere s at) where
   value : ℕ

@@ -1,34 +1,35 @@
 -- The parts of an accepted sheet, from the numbers that the code reads.
 use mathlib.Core.Path.{_≡_, refl, sym, ap, _∙_}
 use mathlib.Core.Bool.{Bool, true, false, _&&_}
-use mathlib.Core.List.{List}
+use mathlib.Core.List.{List, [], _∷_}
 use mathlib.Core.Option.{some}
 use Prim.Native.Nat.{ℕ, zero, suc, _+_, _-_, _/_, _%_, _≤_, _<_}
 use native.Mathlib.Omega.{arith}
-use borrow.Author.Tests.{leb-true}
-use lib.Dec.{leb, lit<}
+use borrow.Author.Tests.{leb-true, ltb-true, ltb-false}
+use lib.Dec.{leb, ltb, lit<}
 use lib.ListN.{length, drop, getD}
 use Rattle.bits.specs.Bits.{Bytes}
-use Rattle.bits.proofs.Tests.{and-left, and-right}
+use Rattle.bits.proofs.Tests.{by-cases, and-left, and-right}
 use Rattle.numbers.specs.Numbers.{groupsIn}
 use Rattle.numbers.proofs.Counting.{count-some, last-count}
 use Rattle.kinds.specs.declared.Item.{Item}
-use Rattle.kinds.specs.Kind.{Kind, when}
-use Rattle.kinds.specs.Kinds.{nidPacketAto, qDiff, class, speed, qFront, nIter, lSp}
+use Rattle.kinds.specs.Kind.{Kind, when, upTo}
+use Rattle.kinds.specs.Kinds.{nidPacketAto, nidOperational, qDiff, class, speed, qFront, nIter, lSp}
 use Rattle.fields.proofs.Lawful.{LawfulKind, narrow, upTo-lawful, speed-lawful, class-lawful}
 use Rattle.format.specs.Format.{Format, end, field, then, read, valuesOf, sheetNumbers}
 use Rattle.format.specs.Media.{sheet}
-use Rattle.grammar.specs.segment.Segment.{entries, profile, voltage, current, part, lists, body, fields, sheetFields, wireChanges}
+use Rattle.grammar.specs.internal.rows.Rows.{row}
+use Rattle.grammar.specs.segment.Segment.{entries, profile, voltage, current, part, sheetFields, wireChanges}
 use Rattle.grammar.specs.segment.Judgement.{fromSheet}
-use Rattle.grammar.specs.internal.segment.Parts.{entry, kindAt, runs, threeLists}
-use Rattle.grammar.proofs.segment.Parts.{runs-more, runs-none}
+use Rattle.grammar.specs.internal.segment.Parts.{entry, threeLists, headerWidths, headerMost, identityWidths, identityMost, offsetWidths, offsetMost, offsetRows, segmentRows}
+use Rattle.grammar.proofs.segment.Parts.{fields-rows}
 use Rattle.speed.specs.declared.Train.{Train}
 use Rattle.speed.specs.Speed.{speedIn}
 use Rattle.speed.proofs.Lowering.{when-is}
 use Rattle.speed_element.specs.internal.Elements.{none, Kept}
 use Rattle.speed_element.specs.internal.Reading.{Readable, Past, Passes, FieldRead, ProfileRead}
-use Rattle.speed_element.proofs.Reading.{readable-field, past-here, then-past, then-is, passes-past}
-use Rattle.speed_sheet.specs.internal.Asking.{AcceptedSheet, numbersOfSheet, countedAt, NumberAt, numberEnd, shortEnd, entryEnd, Reads, HeadRead}
+use Rattle.speed_element.proofs.Reading.{readable-field, past-here, then-past, then-is}
+use Rattle.speed_sheet.specs.internal.Asking.{AcceptedSheet, numbersOfSheet, countedAt, NumberAt, NumberHere, numbersEnd, Numbers, shortEnd, entryEnd, Reads, HeadRead}
 use Rattle.speed_sheet.proofs.Numbers.{valueOr, field-read, field-any, known}
 
 class-highest : (q : ℕ) → class q .highest < 16384
@@ -144,41 +145,28 @@ module _ (s : List ℕ) where
 
   -- ---- the head
 
-  -- every way into a run is a way to what is left of it
-  pub record Running (first end at i to : ℕ) : Type 0 where
-    pub from : first ≤ i
-    pub up : i ≤ end
-    pub going : (f : Format) (l : List Item) → Reads s (runs first (end - first) f) at l → Past (Reads s) (runs i (end - i) f) to (drop (i - first) (sheetNumbers l))
+  -- n numbers are read from the byte from on, after d numbers of all; the tree f follows
+  record Walked (from d : ℕ) (all : List ℕ) (n : ℕ) (f : Format) : Type 0 where
+    pub here : (i : ℕ) → i < n → NumberHere s (numbersEnd s from i)
+    pub past : Past (Reads s) f (numbersEnd s from n) (drop (d + n) all)
 
-  pub running-all : {first end at : ℕ} → first ≤ end → Running first end at first at
-  running-all {first} {end} {at} h =
-      record { from = omega arith; up = h; going = λ f l i. let z : first - first ≡ 0 = omega arith in rw z (past-here (Reads s) l i) }
+  module _ {from d : ℕ} {all : List ℕ} where
+    walk-start : {f : Format} → Past (Reads s) f from (drop (d + 0) all) → Walked from d all 0 f
+    walk-start p = record { here = λ i h. absurd (omega arith); past = p }
 
-  module _ {first end at i to : ℕ} (g : Running first end at i to) where
-    module _ (h : i < end) where
-      runs-next : (f : Format) → runs i (end - i) f ≡ then (kindAt i) (runs (i + 1) (end - (i + 1)) f)
-      runs-next f = let z : end - i - 1 ≡ end - (i + 1) = omega arith in rw (← z) (runs-more i (end - i) (omega arith) f)
+    walk-field : {n : ℕ} (k : Kind) {f : Format} → Walked from d all n (then k f) → Walked from d all (suc n) f
+    walk-field {n} k w =
+        let z : d + n + 1 ≡ d + suc n = omega arith in
+        record {
+          here = λ i h. by-cases (ltb i n) (λ e. w .here i (ltb-true i n e)) (λ e. let q : i ≡ n = omega (arith, ltb-false i n e) in rw q (known s k (w .past .reads) .number));
+          past = rw z at (then-past (Reads s) (field-any s k (record { next = refl; value = refl })) (d + n) all (w .past));
+        }
 
-      pub running-readable : Readable (Reads s) (runs first (end - first)) at → Readable (Reads s) (λ f. then (kindAt i) (runs (i + 1) (end - (i + 1)) f)) to
-      running-readable a =
-          let p = g .going (a .follows) (a .values) (a .reads) in
-          record { follows = a .follows; values = p .values; reads = rw (runs-next (a .follows)) at (p .reads) }
-
-      pub running-next : {next : ℕ} → next ≡ numberEnd s to → Running first end at (i + 1) next
-      running-next e =
-          record {
-            from = omega (arith, g .from);
-            up = omega arith;
-            going = λ f l u.
-                let p = rw (runs-next f) at (g .going f l u) in
-                let z : i - first + 1 ≡ i + 1 - first = omega (arith, g .from) in
-                rw z at (then-past (Reads s) (field-any s (kindAt i) (record { next = e; value = refl })) (i - first) (sheetNumbers l) p);
-          }
-
-    pub running-end : end ≤ i → Passes (Reads s) (runs first (end - first)) (drop (end - first)) at to
-    running-end h =
-        let e : i ≡ end = omega (arith, g .up) in
-        record { past = λ f l u. let p = rw e at (g .going f l u) in rw (runs-none end (end - end) (omega arith) f) at p }
+    walk-row : {n : ℕ} (ws ms : List ℕ) → length ws ≡ length ms → {f : Format} → Walked from d all n (row ws ms f) → Walked from d all (n + length ws) f
+    unfolding row
+    walk-row {n} [] ms e x = let z : n + 0 ≡ n = omega arith in rw z x
+    walk-row (w ∷ ws) [] e x = absurd (omega arith)
+    walk-row {n} (w ∷ ws) (m ∷ ms) e x = let z : suc n + length ws ≡ n + suc (length ws) = omega arith in rw z at (walk-row ws ms (omega arith) (walk-field (upTo w m) x))
 
   -- the first number is the packet number, one byte
   number-first : {a v : ℕ} → nidPacketAto .lower a ≡ some v → a ≡ 6
@@ -192,43 +180,45 @@ module _ (s : List ℕ) where
   unfolding groupsIn
   one-group = refl
 
-  abbrev pub headPart : Format
-  headPart = runs 0 9 (field lSp λ lsp. runs 10 3 (threeLists lsp end))
-
-  sheet-part : sheetFields wireChanges ≡ then nidPacketAto headPart
-  unfolding sheetFields fields body lists runs kindAt
-  sheet-part = refl
+  sheet-rows : sheetFields wireChanges ≡ then nidPacketAto (segmentRows end)
+  unfolding sheetFields
+  sheet-rows = ap (then nidPacketAto) fields-rows
 
   module _ (e : AcceptedSheet s) (ok : Bytes s) where
-    all-reads : Reads s (then nidPacketAto headPart) 0 (valuesOf (fromSheet wireChanges s))
+    abbrev all : List ℕ
+    all = numbersOfSheet s
+
+    all-reads : Reads s (then nidPacketAto (segmentRows end)) 0 (valuesOf (fromSheet wireChanges s))
     unfolding fromSheet
-    all-reads = record { before = omega arith; ok = ok; reads = ap (λ (f : Format). read sheet f 0 s) (sym sheet-part) ∙ e }
+    all-reads = record { before = omega arith; ok = ok; reads = ap (λ (f : Format). read sheet f 0 s) (sym sheet-rows) ∙ e }
 
     -- the fields after the packet number
-    pub head-past : Past (Reads s) headPart 1 (drop 1 (numbersOfSheet s))
+    head-past : Past (Reads s) (segmentRows end) 1 (drop 1 all)
     head-past =
         let w = known s nidPacketAto all-reads in
         let g : countedAt s 0 / 4294967296 ≡ 1 = w .groups ∙ ap (λ (a : ℕ). length (groupsIn a)) (number-first (w .lowers)) ∙ one-group in
-        then-past (Reads s) (field-any s nidPacketAto (record { next = omega arith; value = refl })) 0 (numbersOfSheet s) (past-here (Reads s) (valuesOf (fromSheet wireChanges s)) all-reads)
+        then-past (Reads s) (field-any s nidPacketAto (record { next = omega arith; value = refl })) 0 all (past-here (Reads s) (valuesOf (fromSheet wireChanges s)) all-reads)
 
-    -- L_SP, and the fields after it
-    pub head-readable : Readable (Reads s) (runs 0 9) 1
-    head-readable = record { follows = field lSp λ lsp. runs 10 3 (threeLists lsp end); values = head-past .values; reads = head-past .reads }
+    -- up to L_SP
+    head-walk : Walked 1 1 all 9 (field lSp λ lsp. offsetRows lsp end)
+    head-walk = walk-row identityWidths identityMost refl (walk-row headerWidths headerMost refl (walk-field nidOperational (walk-start head-past)))
 
-    module _ {at : ℕ} (r : Passes (Reads s) (runs 0 9) (drop 9) 1 at) where
-      length-past : Past (Reads s) (field lSp λ lsp. runs 10 3 (threeLists lsp end)) at (drop 10 (numbersOfSheet s))
-      length-past = passes-past (Reads s) 9 r 1 (numbersOfSheet s) head-past
+    pub head-numbers : Numbers s 1 9
+    head-numbers = record { ok = ok; here = head-walk .here }
 
-      module _ {to a : ℕ} (n : NumberAt s at to a) where
-        after-past : Past (Reads s) (runs 10 3 (threeLists a end)) to (drop 11 (numbersOfSheet s))
-        after-past = then-past (Reads s) (same-read n lSp (λ u. refl)) 10 (numbersOfSheet s) length-past
+    module _ {at : ℕ} (r : at ≡ numbersEnd s 1 9) {to a : ℕ} (n : NumberAt s at to a) where
+      length-past : Past (Reads s) (field lSp λ lsp. offsetRows lsp end) at (drop 10 all)
+      length-past = rw r (head-walk .past)
 
-        pub after-readable : Readable (Reads s) (runs 10 3) to
-        after-readable = record { follows = threeLists a end; values = after-past .values; reads = after-past .reads }
+      -- up to the speed profile
+      offset-walk : Walked to 11 all 3 (threeLists a end)
+      offset-walk = walk-row offsetWidths offsetMost refl (walk-start (then-past (Reads s) (same-read n lSp (λ u. refl)) 10 all length-past))
 
-        pub head-read : {p : ℕ} → Passes (Reads s) (runs 10 3) (drop 3) to p → HeadRead s a p
-        head-read q =
-            record { length-is = sym (then-is (Reads s) (same-read n lSp (λ u. refl)) 10 (numbersOfSheet s) length-past); past = passes-past (Reads s) 3 q 11 (numbersOfSheet s) after-past }
+      pub offset-numbers : Numbers s to 3
+      offset-numbers = record { ok = ok; here = offset-walk .here }
+
+      pub head-read : {p : ℕ} → p ≡ numbersEnd s to 3 → HeadRead s a p
+      head-read q = record { length-is = sym (then-is (Reads s) (same-read n lSp (λ u. refl)) 10 all length-past); past = rw q (offset-walk .past) }
 
   -- ---- the whole
 

@@ -1,14 +1,14 @@
 // The permitted speed at a place of an accepted sheet, worked out element by element. What was accepted is not judged again.
+// Locations and lengths are in cm, speeds in km/h.
 
 ghost use mathlib.Core.Path.{_≡_};
-ghost use Prim.Native.Nat.{_+_, _-_, _≤_, _<_};
-ghost use lib.ListN.{length, drop};
+ghost use Prim.Native.Nat.{_<_};
+ghost use lib.ListN.{length};
 ghost use Rattle.grammar.specs.segment.Segment as segment;
 ghost use Rattle.grammar.specs.internal.segment.Parts as parts;
-ghost use Rattle.grammar.specs.internal.segment.Parts.{runs};
 ghost use Rattle.speed.specs.Speed.{afterEntries, speedIn};
 ghost use Rattle.speed_element.specs.internal.Reading.{Readable, Passes, EntryRead, Opens, ElementRead, Ended, NextRead, ChangesRead, ProfileRead};
-ghost use Rattle.speed_sheet.specs.internal.Asking.{AcceptedSheet, numbersOfSheet, NumberAt, shortEnd, Reads, HeadRead};
+ghost use Rattle.speed_sheet.specs.internal.Asking.{AcceptedSheet, numbersOfSheet, NumberAt, Numbers, numbersEnd, shortEnd, Reads, HeadRead};
 use numbers::accepted::ReadNumber;
 use speed::Train;
 use speed_element::ElementAt;
@@ -16,26 +16,28 @@ use speed_element::Following;
 use speed_element::Lows;
 use speed_element::Open;
 
-// The byte after the packet number, the field L_SP, and the field after the last before the speed profile.
+// The byte after the packet number.
 const FIRST: usize = 1;
 
-const LENGTH: u32 = 9;
+// The count of numbers between the packet number and L_SP: NID_OPERATIONAL, 4 of the header, 4 of the identity.
+const BEFORE_LENGTH: u32 = 9;
 
-const PROFILE: u32 = 13;
+// The count of numbers between L_SP and the speed profile.
+const OFFSETS: u32 = 3;
 
-// The lowest speeds with an entry, and the byte after it.
+// The lowest speeds, with one entry more, and the byte after the entry.
 pub struct Entered {
     pub lows: Lows,
     pub next: usize,
 }
 
-// L_SP, and the byte where the speed profile starts.
+// `lsp`: the value of L_SP. `profile`: the byte where the speed profile starts.
 pub struct Start {
     pub lsp: u32,
     pub profile: usize,
 }
 
-// The number at the byte at.
+// Reads the number at the byte `at`.
 fn number(s: &[u8], at: usize) -> ReadNumber
     ensures { λ r. ⌜ NumberAt (now (s .entry)) at (r .next) (r .value) ⌝ }
 {
@@ -46,7 +48,7 @@ fn number(s: &[u8], at: usize) -> ReadNumber
     }
 }
 
-// The lowest speeds with the entry at the byte at.
+// Reads the entry at the byte `at`, and returns the lowest speeds `lows` with that entry.
 fn entry(s: &[u8], at: usize, train: Train, lows: Lows) -> Entered
     requires { ⌜ Readable (Reads (now s)) (parts.entry) at ⌝ }
     ensures { λ r. ⌜ EntryRead (Reads (now (s .entry))) train lows (r .lows) at (r .next) ⌝ }
@@ -58,7 +60,7 @@ fn entry(s: &[u8], at: usize, train: Train, lows: Lows) -> Entered
     Entered { lows, next: v.next }
 }
 
-// The byte after a number of at most two groups: its first byte tells how many.
+// Returns the byte after a number of one or two groups, whose first byte is at `at` and tells how many.
 fn short_end(s: &[u8], at: usize) -> usize
     requires { ⌜ at < length (now s) ⌝ }
     ensures { λ r. ⌜ r ≡ shortEnd (now (s .entry)) at ⌝ }
@@ -66,7 +68,7 @@ fn short_end(s: &[u8], at: usize) -> usize
     at + 1 + (bits::wide(s[at]) / 128) as usize
 }
 
-// The byte after an element's entries, which are passed over: Q_DIFF has one group, the class and the speed one or two.
+// Returns the byte after the `count` entries at the byte `at`. Q_DIFF has one group, the class and the speed one or two.
 fn entries_end(s: &[u8], at: usize, count: u32) -> usize
     requires { ⌜ Readable (Reads (now s)) (segment.entries count) at ⌝ }
     ensures { λ r. ⌜ Passes (Reads (now (s .entry))) (segment.entries count) (afterEntries count) at r ⌝ }
@@ -80,7 +82,7 @@ fn entries_end(s: &[u8], at: usize, count: u32) -> usize
     to
 }
 
-// The element at the byte at, which starts at the location start: Q_FRONT and N_ITER have one group. Its entries are passed over.
+// Reads the element at the byte `at`, which starts at the location `start`, and skips its entries. Q_FRONT and N_ITER have one group.
 fn element(s: &[u8], at: usize, start: u32) -> ElementAt
     requires { ⌜ Readable (Reads (now s)) (segment.profile) at ⌝ }
     ensures { λ r. ⌜ ElementRead (Reads (now (s .entry))) at (r .next) (r .open) × (r .open .start ≡ start) ⌝ }
@@ -103,7 +105,7 @@ fn element(s: &[u8], at: usize, start: u32) -> ElementAt
     }
 }
 
-// The lowest speed held at x, once the open element ends at end. Its entries are read only where it holds.
+// Returns the lowest speed that holds at `x`: `held`, or the speed of the element `open`, which ends at `end`. Reads the element's entries only if the element holds at `x`.
 fn ended(s: &[u8], open: Open, train: Train, held: u32, end: u32, x: u32) -> u32
     requires { ⌜ Opens (Reads (now s)) «open» ⌝ }
     ensures { λ r. ⌜ Ended (Reads (now (s .entry))) train held end x «open» r ⌝ }
@@ -123,7 +125,7 @@ fn ended(s: &[u8], open: Open, train: Train, held: u32, end: u32, x: u32) -> u32
     lows.lowered(train, open.v_static, held)
 }
 
-// The next change, of so many that are left at the byte at: the open element ends at its location. After the last it ends at lsp, and nothing follows.
+// Reads the next of `left` changes at the byte `at`. The element `open` ends at the location of that change, or at `lsp` if no change is left.
 fn next(s: &[u8], open: Open, at: usize, left: u64, lsp: u32) -> Following
     requires { ⌜ Readable (Reads (now s)) (segment.changes segment.profile lsp («open» .start) left) at ⌝ }
     ensures { λ r. ⌜ NextRead (Reads (now (s .entry))) lsp «open» left at r ⌝ }
@@ -145,7 +147,7 @@ fn next(s: &[u8], open: Open, at: usize, left: u64, lsp: u32) -> Following
     }
 }
 
-// The permitted speed at x, from the changes after the first element. The last element ends at lsp.
+// Returns the permitted speed at `x`, from the element `first` and the `count` changes at the byte `at`. The last element ends at `lsp`.
 fn changes(s: &[u8], at: usize, count: u32, train: Train, lsp: u32, x: u32, first: Open) -> u32
     requires { ⌜ Opens (Reads (now s)) first × Readable (Reads (now s)) (segment.changes segment.profile lsp (first .start) count) at ⌝ }
     ensures { λ r. ⌜ ChangesRead (Reads (now (s .entry))) train lsp x first count at r ⌝ }
@@ -164,7 +166,7 @@ fn changes(s: &[u8], at: usize, count: u32, train: Train, lsp: u32, x: u32, firs
     speed_element::permitted(held)
 }
 
-// The permitted speed at x, from the profile at the byte at: its first element, the count of its changes, and the changes.
+// Returns the permitted speed at `x`, from the speed profile at the byte `at`: its first element, the count of its changes, and the changes.
 fn profile(s: &[u8], at: usize, train: Train, lsp: u32, x: u32) -> u32
     requires { ⌜ Readable (Reads (now s)) (segment.part segment.profile 31 lsp) at ⌝ }
     ensures { λ r. ⌜ ProfileRead (Reads (now (s .entry))) train lsp x at r ⌝ }
@@ -174,34 +176,35 @@ fn profile(s: &[u8], at: usize, train: Train, lsp: u32, x: u32) -> u32
     changes(s, count.next, count.value, train, lsp, x, first.open)
 }
 
-// The byte after the numbers of the fields from first up to end: each ends at its first byte below 128. How many groups they have is guessed nowhere.
-fn run(s: &[u8], at: usize, first: u32, end: u32) -> usize
-    requires { ⌜ (first ≤ end) × Readable (Reads (now s)) (runs first (end - first)) at ⌝ }
-    ensures { λ r. ⌜ Passes (Reads (now (s .entry))) (runs first (end - first)) (drop (end - first)) at r ⌝ }
+// Returns the byte after the `count` numbers that stand at the byte `at`: each number ends at its first byte below 128.
+// For speed the loop counts bytes and not groups: no branch depends on the size of a number.
+fn numbers_end(s: &[u8], at: usize, count: u32) -> usize
+    requires { ⌜ Numbers (now s) at count ⌝ }
+    ensures { λ r. ⌜ r ≡ numbersEnd (now (s .entry)) at count ⌝ }
 {
     let mut to = at;
-    let mut i = first;
-    while i < end {
+    let mut i = 0;
+    while i < count {
         i += 1 - bits::wide(s[to]) / 128;
         to += 1;
     }
     to
 }
 
-// The head of an accepted sheet.
+// Reads L_SP of an accepted sheet, and finds the speed profile.
 pub fn head(sheet: &[u8]) -> Start
     requires { ⌜ AcceptedSheet (now sheet) ⌝ }
     ensures { λ r. ⌜ HeadRead (now (sheet .entry)) (r .lsp) (r .profile) ⌝ }
 {
-    let at = run(sheet, FIRST, 0, LENGTH);
+    let at = numbers_end(sheet, FIRST, BEFORE_LENGTH);
     let length = number(sheet, at);
     Start {
         lsp: length.value,
-        profile: run(sheet, length.next, LENGTH + 1, PROFILE),
+        profile: numbers_end(sheet, length.next, OFFSETS),
     }
 }
 
-// The permitted speed for a train at a place of an accepted sheet, whose head was read.
+// Returns the permitted speed of `train` at the location `x` of an accepted sheet. `start` is what `head` returned for that sheet.
 pub fn permitted(sheet: &[u8], start: Start, train: Train, x: u32) -> u32
     requires { ⌜ HeadRead (now sheet) (start .lsp) (start .profile) ⌝ }
     ensures { λ r. ⌜ r ≡ speedIn train x (numbersOfSheet (now (sheet .entry))) ⌝ }

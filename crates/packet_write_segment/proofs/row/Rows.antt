@@ -2,14 +2,14 @@
 use mathlib.Core.Path.{_≡_, refl}
 use mathlib.Core.Bool.{true}
 use mathlib.Core.List.{List, [], _∷_}
-use Prim.Native.Nat.{ℕ, zero, suc, _+_, _^_, _≤_, _<_}
+use Prim.Native.Nat.{ℕ, zero, suc, _+_, _≤_, _<_}
 use native.Mathlib.Numerals.{add-one}
 use native.Mathlib.Omega.{arith}
 use lib.ListN.{length, drop, getD, drop-of-length-le}
 use lib.Seq.{drop-cons}
 use Rattle.bits.specs.internal.Windows.{bitsIn}
 use Rattle.kinds.specs.Kind.{upTo}
-use Rattle.fields.proofs.Lawful.{LawfulKind, upTo-lawful}
+use Rattle.fields.proofs.Lawful.{LawfulKind}
 use Rattle.format.specs.Format.{Format, then}
 use Rattle.grammar.specs.internal.rows.Rows.{row, fits}
 use Rattle.grammar.proofs.rows.Measured.{no-row, first-fits, first-lawful}

@@ -1,4 +1,4 @@
--- `ask_sheet::element` meets its contract.
+-- `speed_sheet::element` meets its contract.
 use mathlib.Core.Path.{refl}
 use native.Mathlib.Omega.{arith}
 use denote.Ref.{now}

@@ -1,4 +1,4 @@
--- `ask_sheet::ended` meets its contract.
+-- `speed_sheet::ended` meets its contract.
 use mathlib.Core.Path.{sym, _∙_}
 use native.Mathlib.Omega.{arith}
 use denote.Ref.{now}

@@ -1,4 +1,4 @@
--- `ask_sheet::entries_end` meets its contract.
+-- `speed_sheet::entries_end` meets its contract.
 use mathlib.Core.Path.{_≡_, refl, ap, _∙_}
 use native.Mathlib.Omega.{arith}
 use denote.Ref.{now}

@@ -1,4 +1,4 @@
--- `ask_sheet::entry` meets its contract.
+-- `speed_sheet::entry` meets its contract.
 use mathlib.Core.Path.{refl}
 use denote.Ref.{now}
 use Rattle.kinds.specs.Kinds.{qDiff}

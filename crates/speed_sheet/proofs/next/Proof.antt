@@ -1,4 +1,4 @@
--- `ask_sheet::next` meets its contract.
+-- `speed_sheet::next` meets its contract.
 use mathlib.Core.Path.{refl}
 use native.Mathlib.Omega.{arith}
 use denote.Ref.{now}

@@ -1,4 +1,4 @@
--- `ask_sheet::number` meets its contract. Past the end there is no number, so that the sum fits for any place.
+-- `speed_sheet::number` meets its contract. Past the end there is no number, so that the sum fits for any place.
 use denote.Ref.{now}
 use native.Mathlib.Omega.{arith}
 use borrow.Author.Tests.{ltb-true, ltb-false}

@@ -1,4 +1,4 @@
--- `ask_sheet::permitted` meets its contract.
+-- `speed_sheet::permitted` meets its contract.
 use denote.Ref.{now}
 use Rattle.speed_sheet.proofs.Parts.{speed-asked}
 use borrow.Author.Needs.{needs}

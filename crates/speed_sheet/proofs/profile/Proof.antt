@@ -1,4 +1,4 @@
--- `ask_sheet::profile` meets its contract.
+-- `speed_sheet::profile` meets its contract.
 use mathlib.Core.Path.{refl}
 use denote.Ref.{now}
 use Rattle.kinds.specs.Kinds.{nIter}

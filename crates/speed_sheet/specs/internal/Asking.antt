@@ -1,9 +1,10 @@
 -- The numbers of an accepted sheet, at places. What the code below a promise is held to.
 use mathlib.Core.Path.{_≡_}
 use mathlib.Core.List.{List}
-use Prim.Native.Nat.{ℕ, _+_, _/_, _%_, _≤_}
+use Prim.Native.Nat.{ℕ, zero, suc, _+_, _/_, _%_, _≤_, _<_}
 use lib.ListN.{length, drop, getD}
 use Rattle.bits.specs.Bits.{Bytes}
+use Rattle.numbers.specs.declared.Number.the-variants.{Value}
 use Rattle.numbers.specs.Numbers.{numberIn}
 use Rattle.numbers.specs.internal.Groups.{counted}
 use Rattle.kinds.specs.declared.Item.{Item}
@@ -35,6 +36,20 @@ numberEnd s at = at + countedAt s at / 4294967296
 pub record NumberAt (s : List ℕ) (at to a : ℕ) : Type 0 where
   pub next : to ≡ numberEnd s at
   pub value : a ≡ countedAt s at % 4294967296
+
+-- there is a number at the byte at
+abbrev pub NumberHere : List ℕ → ℕ → Type 0
+NumberHere s at = numberIn (drop at s) ≡ Value (countedAt s at % 4294967296)
+
+-- the byte after n numbers at the byte at
+abbrev pub numbersEnd : List ℕ → ℕ → ℕ → ℕ
+numbersEnd s at zero = at
+numbersEnd s at (suc n) = numberEnd s (numbersEnd s at n)
+
+-- n numbers stand at the byte at, one after the other
+pub record Numbers (s : List ℕ) (at n : ℕ) : Type 0 where
+  pub ok : Bytes s
+  pub here : (i : ℕ) → i < n → NumberHere s (numbersEnd s at i)
 
 -- the byte after a number of at most two groups, and after an entry: its Q_DIFF has one group
 abbrev pub shortEnd : List ℕ → ℕ → ℕ
