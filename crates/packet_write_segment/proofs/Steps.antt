@@ -1,19 +1,22 @@
--- The header and the body up to the lists, step by step: what may be put next, and what is put once all steps are taken.
+-- The header, the body and a list, step by step: the field that is next, what may be put after it, and what is put once all steps are taken.
 use mathlib.Core.Path.{refl}
 use mathlib.Core.List.{List}
-use Prim.Native.Nat.{ℕ, _+_, _^_, _<_}
+use Prim.Native.Nat.{ℕ, _-_, _+_, _^_, _<_}
 use lib.Dec.{lit<}
 use Rattle.bits.specs.internal.write.Filling.{Filling}
 use Rattle.numbers.specs.declared.accepted.ReadNumber.{ReadNumber}
-use Rattle.numbers.specs.internal.accepted.Accepted.{There, Reads}
-use Rattle.kinds.specs.Kinds.{nidOperational, lSp}
-use Rattle.fields.proofs.Lawful.{narrow, range-lawful, operational-lawful}
+use Rattle.numbers.specs.internal.accepted.Accepted.{Reads}
+use Rattle.kinds.specs.Kinds.{nidOperational, lSp, nIter, dLocation}
+use Rattle.fields.proofs.Lawful.{narrow, range-lawful, upTo-lawful, operational-lawful, location-lawful}
 use Rattle.format.specs.Format.{Format, field}
+use Rattle.grammar.specs.declared.segment.Part.{Part}
+use Rattle.grammar.specs.segment.Segment as segment
 use Rattle.grammar.specs.internal.rows.Rows.{row}
-use Rattle.grammar.specs.internal.segment.Parts.{threeLists, headerWidths, headerMost, headerRows, identityWidths, identityMost, offsetWidths, offsetMost, offsetRows, bodyRows}
+use Rattle.grammar.specs.internal.segment.Parts.{startOf, threeLists, headerWidths, headerMost, headerRows, identityWidths, identityMost, offsetWidths, offsetMost, offsetRows, bodyRows}
+use Rattle.grammar.proofs.segment.Parts.{changes-more}
 use Rattle.packet_write_segment.specs.declared.elements.PacketSpot.{PacketSpot}
 use Rattle.packet_write_segment.specs.internal.elements.Writing.{Ready, Wrote}
-use Rattle.packet_write_segment.proofs.elements.Writing.{Along, along-all, along-next, along-on, along-none, along-small, along-there, plain-small, along-put}
+use Rattle.packet_write_segment.proofs.elements.Writing.{Along, along-all, along-as, along-next, along-on, along-none, Next, next-on}
 
 -- ---- the header
 
@@ -21,25 +24,15 @@ abbrev headerRow : Format → Format
 headerRow f = row headerWidths headerMost f
 
 module _ {s room : List ℕ} {p : PacketSpot} (h : Ready headerRows s room p) where
-  pub operational-there : There s (p .from)
-  operational-there = along-there nidOperational (λ v. headerRow) (along-all h) h
+  pub operational-next : Next headerRows nidOperational (λ v. headerRow) s room p room p
+  operational-next = record { ready = h; along = along-all h; lawful = operational-lawful; same = λ n. refl }
 
-  module _ {t : ReadNumber} (d : Reads s (p .from) t) where
-    pub operational-small : t .value < 2 ^ 32
-    operational-small = plain-small nidOperational (λ v. headerRow) (along-all h) h d (nidOperational .allowed (t .value)) refl operational-lawful
+  module _ {t : ReadNumber} (d : Reads s (p .from) t) {mid : List ℕ} {r : ℕ} (f : Filling room (p .at) (p .wait) 32 (t .value) mid r) where
+    pub header-row-ready : Ready headerRow s mid (record { from = t .next; at = p .at + 32; wait = r })
+    header-row-ready = along-next headerRow (λ f. f) (next-on operational-next d refl f) h
 
-    module _ {mid : List ℕ} {r : ℕ} (f : Filling room (p .at) (p .wait) 32 (t .value) mid r) where
-      abbrev next : PacketSpot
-      next = record { from = t .next; at = p .at + 32; wait = r }
-
-      after-operational : Along headerRows headerRow s room p mid next
-      after-operational = along-put nidOperational (λ v. headerRow) (along-all h) h d (nidOperational .allowed (t .value)) refl refl f
-
-      pub header-row-ready : Ready headerRow s mid next
-      header-row-ready = along-next headerRow (λ f. f) after-operational h
-
-      pub header-wrote : {end : List ℕ} {q : PacketSpot} → Wrote headerRow s mid next end q → Wrote headerRows s room p end q
-      header-wrote w = along-none (along-on headerRow (λ f. f) after-operational w)
+    pub header-wrote : {end : List ℕ} {q : PacketSpot} → Wrote headerRow s mid (record { from = t .next; at = p .at + 32; wait = r }) end q → Wrote headerRows s room p end q
+    header-wrote w = along-none (along-on headerRow (λ f. f) (next-on operational-next d refl f) w)
 
 -- ---- the body
 
@@ -57,35 +50,61 @@ module _ {s room : List ℕ} {p : PacketSpot} (h : Ready bodyRows s room p) wher
   identity-ready = along-next identity rest (along-all h) h
 
   module _ {mid : List ℕ} {q : PacketSpot} (a : Wrote identity s room p mid q) where
-    after-identity : Along bodyRows rest s room p mid q
-    after-identity = along-on identity rest (along-all h) a
+    pub length-next : Next bodyRows lSp offsetRows s room p mid q
+    length-next = record { ready = h; along = along-on identity rest (along-all h) a; lawful = range-lawful 24 1 16777215 4 (narrow tt) (lit< tt); same = λ n. refl }
 
-    pub length-near : q .at < 2 ^ 32
-    length-near = along-small after-identity h
+    module _ {t : ReadNumber} (d : Reads s (q .from) t) {far : List ℕ} {r : ℕ} (f : Filling mid (q .at) (q .wait) 24 (t .value) far r) where
+      pub offsets-ready : Ready offsets s far (record { from = t .next; at = q .at + 24; wait = r })
+      offsets-ready = along-next offsets (threeLists (t .value)) (next-on length-next d refl f) h
 
-    pub length-there : There s (q .from)
-    length-there = along-there lSp offsetRows after-identity h
+      module _ {last : List ℕ} {v : PacketSpot} (o : Wrote offsets s far (record { from = t .next; at = q .at + 24; wait = r }) last v) where
+        after-offsets : Along bodyRows (threeLists (t .value)) s room p last v
+        after-offsets = along-on offsets (threeLists (t .value)) (next-on length-next d refl f) o
 
-    module _ {t : ReadNumber} (d : Reads s (q .from) t) where
-      pub length-small : t .value < 2 ^ 24
-      length-small = plain-small lSp offsetRows after-identity h d (lSp .allowed (t .value)) refl (range-lawful 24 1 16777215 4 (narrow tt) (lit< tt))
+        pub lists-ready : Ready (threeLists (t .value)) s last v
+        lists-ready = along-next (threeLists (t .value)) (λ f. f) after-offsets h
 
-      module _ {far : List ℕ} {r : ℕ} (f : Filling mid (q .at) (q .wait) 24 (t .value) far r) where
-        abbrev after : PacketSpot
-        after = record { from = t .next; at = q .at + 24; wait = r }
+        pub body-wrote : {end : List ℕ} {w : PacketSpot} → Wrote (threeLists (t .value)) s last v end w → Wrote bodyRows s room p end w
+        body-wrote w = along-none (along-on (threeLists (t .value)) (λ f. f) after-offsets w)
 
-        after-length : Along bodyRows (offsetRows (t .value)) s room p far after
-        after-length = along-put lSp offsetRows after-identity h d (lSp .allowed (t .value)) refl refl f
+-- ---- a list
 
-        pub offsets-ready : Ready offsets s far after
-        offsets-ready = along-next offsets (threeLists (t .value)) after-length h
+module _ (part : Part) (lsp : ℕ) where
+  abbrev start : Format → Format
+  start f = startOf part f
 
-        module _ {last : List ℕ} {v : PacketSpot} (o : Wrote offsets s far after last v) where
-          after-offsets : Along bodyRows (threeLists (t .value)) s room p last v
-          after-offsets = along-on offsets (threeLists (t .value)) after-length o
+  abbrev changes : ℕ → ℕ → Format → Format
+  changes last n f = segment.changes (startOf part) lsp last n f
 
-          pub lists-ready : Ready (threeLists (t .value)) s last v
-          lists-ready = along-next (threeLists (t .value)) (λ f. f) after-offsets h
+  module _ (limit : ℕ) {s room : List ℕ} {p : PacketSpot} (h : Ready (segment.part (startOf part) limit lsp) s room p) where
+    abbrev counted : Format → Format
+    counted f = field (nIter limit) λ n. changes 0 n f
 
-          pub body-wrote : {end : List ℕ} {w : PacketSpot} → Wrote (threeLists (t .value)) s last v end w → Wrote bodyRows s room p end w
-          body-wrote w = along-none (along-on (threeLists (t .value)) (λ f. f) after-offsets w)
+    pub element-ready : Ready start s room p
+    element-ready = along-next start counted (along-all h) h
+
+    module _ (few : limit < 32) {mid : List ℕ} {q : PacketSpot} (a : Wrote start s room p mid q) where
+      pub count-next : Next (segment.part (startOf part) limit lsp) (nIter limit) (changes 0) s room p mid q
+      count-next = record { ready = h; along = along-on start counted (along-all h) a; lawful = upTo-lawful 5 limit (narrow tt) few; same = λ n. refl }
+
+      module _ {t : ReadNumber} (d : Reads s (q .from) t) {far : List ℕ} {r : ℕ} (f : Filling mid (q .at) (q .wait) 5 (t .value) far r) where
+        pub changes-ready : Ready (changes 0 (t .value)) s far (record { from = t .next; at = q .at + 5; wait = r })
+        changes-ready = along-next (changes 0 (t .value)) (λ f. f) (next-on count-next d refl f) h
+
+        pub list-wrote : {end : List ℕ} {w : PacketSpot} → Wrote (changes 0 (t .value)) s far (record { from = t .next; at = q .at + 5; wait = r }) end w → Wrote (segment.part (startOf part) limit lsp) s room p end w
+        list-wrote w = along-none (along-on (changes 0 (t .value)) (λ f. f) (next-on count-next d refl f) w)
+
+  -- the next change, after the location last: n are left
+  module _ (count last n : ℕ) {s room mid : List ℕ} {u v : PacketSpot} (h : Ready (changes 0 count) s room u) (small : lsp < 2 ^ 24) (l : Along (changes 0 count) (changes last n) s room u mid v) (some : 0 < n) where
+    abbrev after : ℕ → Format → Format
+    after x f = start (changes x (n - 1) f)
+
+    pub location-next : Next (changes 0 count) (dLocation last lsp) after s room u mid v
+    location-next = record { ready = h; along = along-as (λ f. field (dLocation last lsp) λ x. after x f) (changes-more (startOf part) lsp last n some) l; lawful = location-lawful last lsp small; same = λ n. refl }
+
+    module _ {t : ReadNumber} (d : Reads s (v .from) t) {far : List ℕ} {r : ℕ} (f : Filling mid (v .at) (v .wait) 24 (t .value) far r) where
+      pub change-ready : Ready start s far (record { from = t .next; at = v .at + 24; wait = r })
+      change-ready = along-next start (changes (t .value) (n - 1)) (next-on location-next d refl f) h
+
+      pub change-on : {end : List ℕ} {w : PacketSpot} → Wrote start s far (record { from = t .next; at = v .at + 24; wait = r }) end w → Along (changes 0 count) (changes (t .value) (n - 1)) s room u end w
+      change-on w = along-on start (changes (t .value) (n - 1)) (next-on location-next d refl f) w

@@ -19,7 +19,7 @@ use Rattle.grammar.specs.internal.journey.Parts.{afterType, afterRange}
 use Rattle.grammar.proofs.journey.Tree.{end-width, level-width, start-lawful, end-lawful, front-lawful, level-lawful, adhesion-lawful}
 use Rattle.packet_write_segment.specs.declared.elements.PacketSpot.{PacketSpot}
 use Rattle.packet_write_segment.specs.internal.elements.Writing.{Ready, Wrote}
-use Rattle.packet_write_segment.proofs.elements.Writing.{bits-join, Has, has-same, has-small, Gone, gone-all, gone-there, gone-has, gone-field, Along, along-next, along-on, along-none, along-put, wrote-once, along-once}
+use Rattle.packet_write_segment.proofs.elements.Writing.{bits-join, Has, has-same, has-small, Gone, gone-all, gone-there, gone-has, gone-field, Along, along-next, along-on, along-none, wrote-once, along-once, Next, next-on}
 use Rattle.packet_write_segment.specs.declared.row.Given.{Given}
 use Rattle.packet_write_journey.specs.internal.constraint.Begun.{Begun}
 use Rattle.packet_write_journey.proofs.constraint.Values.{end-same, level-steps, no-limit}
@@ -99,7 +99,8 @@ module _ {s room : List ℕ} {p : PacketSpot} (h : Ready temporaryConstraint s r
           begun {mid} {r = r} f f2 =
               let n : (t .value * 4 + g .value) * 16777216 + a .value ≡ t .value * 67108864 + g .value * 16777216 + a .value = omega arith in
               let l : Along temporaryConstraint (afterStart (a .value)) s room p mid (record { from = a .next; at = p .at + 28; wait = r }) = along-once (rw n at three) refl f in
-              let m = along-put end afterEnd l h de (end .allowed (e .value)) (end-same (g .value) (a .value) (e .value)) (end-width (g .value) (a .value)) f2 in
+              let x : Next temporaryConstraint end afterEnd s room p mid (record { from = a .next; at = p .at + 28; wait = r }) = record { ready = h; along = l; lawful = end-lawful (g .value) (a .value); same = end-same (g .value) (a .value) } in
+              let m = next-on x de (end-width (g .value) (a .value)) f2 in
               record { bits = m .bits; left = m .gone; puts = m .puts }
 
 -- ---- the restriction

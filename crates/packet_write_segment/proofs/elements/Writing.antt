@@ -228,22 +228,28 @@ module _ {s room : List ℕ} {u : PacketSpot} where
 
 -- ---- a field that is put alone, and whose number in the sheet is its value
 
-pub along-small : {p q : Format → Format} {s room mid : List ℕ} {u v : PacketSpot} → Along p q s room u mid v → Ready p s room u → v .at < 2 ^ 32
-along-small {q = q} l h = at-small (along-next q (λ f. f) l h)
+-- it is next in what is left of a part
+pub record Next (p : Format → Format) (k : Kind) (part : ℕ → Format → Format) (s room : List ℕ) (u : PacketSpot) (mid : List ℕ) (v : PacketSpot) : Type 0 where
+  pub ready : Ready p s room u
+  pub along : Along p (λ f. field k (λ x. part x f)) s room u mid v
+  pub lawful : LawfulKind k
+  pub same : (n : ℕ) → k .lower n ≡ when (k .allowed n) n
 
-module _ {s room mid : List ℕ} {u v : PacketSpot} {p : Format → Format} (k : Kind) (part : ℕ → Format → Format) (l : Along p (λ f. field k (λ x. part x f)) s room u mid v)
-    (h : Ready p s room u) where
-  pub along-there : There s (v .from)
-  along-there = gone-there h refl k part (l .gone)
+module _ {p : Format → Format} {k : Kind} {part : ℕ → Format → Format} {s room mid : List ℕ} {u v : PacketSpot} (g : Next p k part s room u mid v) where
+  pub next-near : v .at < 2 ^ 32
+  next-near = at-small (along-next (λ f. field k (λ x. part x f)) (λ f. f) (g .along) (g .ready))
 
-  module _ {t : ReadNumber} (d : Reads s (v .from) t) (b : Bool) (e : k .lower (t .value) ≡ when b (t .value)) where
-    here : Has k s (v .from) (t .value) (t .next) (t .value)
-    here = has-same (gone-has h refl k part (l .gone) d) b e
+  pub next-there : There s (v .from)
+  next-there = gone-there (g .ready) refl k part (g .along .gone)
 
-    pub plain-small : LawfulKind k → t .value < 2 ^ k .width
-    plain-small w = has-small here w
+  module _ {t : ReadNumber} (d : Reads s (v .from) t) where
+    pub next-has : Has k s (v .from) (t .value) (t .next) (t .value)
+    next-has = has-same (gone-has (g .ready) refl k part (g .along .gone) d) (k .allowed (t .value)) (g .same (t .value))
 
-    pub along-put : {w : ℕ} → k .width ≡ w → {end : List ℕ} {r : ℕ} → Filling mid (v .at) (v .wait) w (t .value) end r
+    pub next-small : t .value < 2 ^ k .width
+    next-small = has-small next-has (g .lawful)
+
+    pub next-on : {w : ℕ} → k .width ≡ w → {end : List ℕ} {r : ℕ} → Filling mid (v .at) (v .wait) w (t .value) end r
         → Along p (part (t .value)) s room u end (record { from = t .next; at = v .at + w; wait = r })
-    along-put {w} q f =
-        record { bits = l .bits ++ bitsOf w (t .value); gone = rw q at (gone-field k part (l .gone) here); puts = puts-field (l .puts) f }
+    next-on {w} q f =
+        record { bits = g .along .bits ++ bitsOf w (t .value); gone = rw q at (gone-field k part (g .along .gone) next-has); puts = puts-field (g .along .puts) f }

@@ -1,4 +1,4 @@
--- `write_packet::lists` meets its contract.
+-- `packet_write_segment::lists` meets its contract.
 use lib.Dec.{lit<}
 use Rattle.grammar.specs.segment.Segment.{profile, voltage, current, part, wireChanges}
 use Rattle.packet_write_segment.proofs.elements.Writing.{along-all, along-next, along-on, along-none}

@@ -20,9 +20,8 @@ use Rattle.format.specs.Format.{then}
 use Rattle.grammar.specs.internal.rows.Rows.{row, fits}
 use Rattle.packet_write_segment.specs.declared.elements.PacketSpot.{PacketSpot}
 use Rattle.packet_write_segment.specs.internal.elements.Writing.{Ready, Wrote}
-use Rattle.packet_write_segment.proofs.elements.Writing.{bits-join, Has, has-small, Gone, gone-all, gone-as, gone-there, gone-field, wrote-once}
+use Rattle.packet_write_segment.proofs.elements.Writing.{bits-join, Has, has-same, has-small, Gone, gone-all, gone-as, gone-there, gone-has, gone-field, wrote-once}
 use Rattle.packet_write_segment.specs.internal.row.Pieces.{part, between, Puttable}
-use Rattle.packet_write_segment.proofs.row.Alone.{left-has}
 use Rattle.packet_write_segment.proofs.row.Rows.{rowFrom, fits-long, fits-at, row-more, row-none, bits-more, bits-none}
 
 pub record Gathers (ws ms s room : List ℕ) (u : PacketSpot) (total i from bits : ℕ) : Type 0 where
@@ -62,7 +61,7 @@ module _ {ws ms s room : List ℕ} {u : PacketSpot} {total i from bits : ℕ} (g
 
     module _ {a : ReadNumber} (t : Reads s from a) where
       has : Has (upTo w m) s from (a .value) (a .next) (a .value)
-      has = left-has (g .ready) w m (λ v. rowFrom ws ms (i + 1)) left t
+      has = has-same (gone-has (g .ready) refl (upTo w m) (λ v. rowFrom ws ms (i + 1)) left t) (upTo w m .allowed (a .value)) refl
 
       value-small : a .value < 2 ^ w
       value-small = has-small has fit

@@ -1,4 +1,4 @@
--- The numbers of an accepted sheet, at places. What the code below a promise is held to.
+-- The numbers of an accepted sheet, and the bytes where they stand. The contracts of the code cite it; no promise names it.
 use mathlib.Core.Path.{_≡_}
 use mathlib.Core.List.{List}
 use Prim.Native.Nat.{ℕ, zero, suc, _+_, _/_, _%_, _≤_, _<_}
@@ -16,15 +16,15 @@ use Rattle.grammar.specs.segment.Judgement.{fromSheet}
 use Rattle.speed.specs.Speed.{segmentLength, profileOf}
 use Rattle.speed_element.specs.internal.Reading.{Past}
 
--- the sheet is accepted
+-- the sheet s is accepted
 abbrev pub AcceptedSheet : List ℕ → Type 0
 AcceptedSheet s = fromSheet wireChanges s ≡ accepted (valuesOf (fromSheet wireChanges s))
 
--- its numbers
+-- the numbers of the sheet s
 abbrev pub numbersOfSheet : List ℕ → List ℕ
 numbersOfSheet s = sheetNumbers (valuesOf (fromSheet wireChanges s))
 
--- the number at the byte at, with its groups counted
+-- the number at the byte at and the count of its groups: value + 2^32 * count
 abbrev pub countedAt : List ℕ → ℕ → ℕ
 countedAt s at = counted (numberIn (drop at s))
 
@@ -32,7 +32,7 @@ countedAt s at = counted (numberIn (drop at s))
 abbrev pub numberEnd : List ℕ → ℕ → ℕ
 numberEnd s at = at + countedAt s at / 4294967296
 
--- a number at the byte at: the byte after it, and its value
+-- a is the value of the number at the byte at, and to the byte after that number
 pub record NumberAt (s : List ℕ) (at to a : ℕ) : Type 0 where
   pub next : to ≡ numberEnd s at
   pub value : a ≡ countedAt s at % 4294967296
@@ -51,20 +51,21 @@ pub record Numbers (s : List ℕ) (at n : ℕ) : Type 0 where
   pub ok : Bytes s
   pub here : (i : ℕ) → i < n → NumberHere s (numbersEnd s at i)
 
--- the byte after a number of at most two groups, and after an entry: its Q_DIFF has one group
+-- the byte after a number of one or two groups
 abbrev pub shortEnd : List ℕ → ℕ → ℕ
 shortEnd s at = at + 1 + getD s at 0 / 128
 
+-- the byte after an entry: Q_DIFF has one group, the class and the speed one or two
 abbrev pub entryEnd : List ℕ → ℕ → ℕ
 entryEnd s at = shortEnd s (shortEnd s (at + 1))
 
--- the tree f stands at the byte at, and is accepted with the values l
+-- the tree f is read at the byte at and accepted, with the values l
 pub record Reads (s : List ℕ) (f : Format) (at : ℕ) (l : List Item) : Type 0 where
   pub before : at ≤ length s
   pub ok : Bytes s
   pub reads : read sheet f at (drop at s) ≡ accepted l
 
--- the head of a sheet was read: its L_SP, and where the speed profile starts
+-- the head of the sheet s was read: lsp is its L_SP, and the speed profile starts at the byte at
 pub record HeadRead (s : List ℕ) (lsp at : ℕ) : Type 0 where
   pub length-is : lsp ≡ segmentLength (numbersOfSheet s)
   pub past : Past (Reads s) (threeLists lsp end) at (profileOf (numbersOfSheet s))

@@ -1,4 +1,4 @@
--- `fill_element::amperes` meets its contract.
+-- `packet_write_segment::elements::amperes` meets its contract.
 use Rattle.packet_write_segment.proofs.elements.Writing.{at-small}
 use Rattle.packet_write_segment.proofs.elements.Pieces.{current-there, current-small, current-wrote}
 use lib.Dec.{lit<, lit≤}

@@ -1,4 +1,4 @@
--- `fill_element::element` meets its contract.
+-- `packet_write_segment::elements::element` meets its contract.
 use borrow.Author.Needs.{needs}
 use Rattle.packet_write_segment.proofs.elements.element.Statement.{statement}
 use Rattle.packet_write_segment.proofs.elements.element.Tie as tie

@@ -1,4 +1,4 @@
--- `fill_element::entries` meets its contract. The loop's invariant: what is left of the entries, after those that are put.
+-- `packet_write_segment::elements::entries` meets its contract. The loop's invariant: what is left of the entries, after those that are put.
 use mathlib.Core.Path.{refl}
 use Prim.Native.Nat.{_-_}
 use Rattle.grammar.specs.segment.Segment.{entries}

@@ -1,4 +1,4 @@
--- `fill_element::entry` meets its contract.
+-- `packet_write_segment::elements::entry` meets its contract.
 use mathlib.Core.Path.{refl}
 use Rattle.packet_write_segment.proofs.elements.Writing.{at-small}
 use Rattle.packet_write_segment.proofs.elements.Pieces.{entry-first, entry-second, entry-third, entry-q, entry-class, entry-speed, entry-wrote}

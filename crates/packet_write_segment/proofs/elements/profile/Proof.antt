@@ -1,4 +1,4 @@
--- `fill_element::profile` meets its contract.
+-- `packet_write_segment::elements::profile` meets its contract.
 use mathlib.Core.Path.{refl}
 use Rattle.packet_write_segment.proofs.elements.Writing.{at-small, along-next, along-on, along-none}
 use Rattle.packet_write_segment.proofs.elements.Pieces.{profile-first, profile-second, profile-third, profile-speed, profile-front, profile-count, profile-along}

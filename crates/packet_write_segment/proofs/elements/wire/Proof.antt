@@ -1,4 +1,4 @@
--- `fill_element::wire` meets its contract.
+-- `packet_write_segment::elements::wire` meets its contract.
 use mathlib.Core.Path.{refl}
 use Rattle.packet_write_segment.proofs.elements.Writing.{at-small}
 use Rattle.packet_write_segment.proofs.elements.Pieces.{wire-first, wire-second, wire-volts, wire-traction, wire-wrote}

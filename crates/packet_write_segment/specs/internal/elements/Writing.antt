@@ -1,4 +1,4 @@
--- A part of an accepted sheet's packet written after the bits that stand before it. What the code below a promise is held to; no promise names it.
+-- A part of an accepted sheet's packet, written after the bits before it. The contracts of the code cite it; no promise names it.
 use mathlib.Core.Path.{_≡_}
 use mathlib.Core.Bool.{Bool}
 use mathlib.Core.List.{List, _++_}
@@ -12,16 +12,16 @@ use Rattle.format.specs.internal.Tasks.{Told, recording}
 use Rattle.format.specs.internal.Ways.{Way, passing, Went, Over, Ahead}
 use Rattle.packet_write_segment.specs.declared.elements.PacketSpot.{PacketSpot}
 
--- the bits so far are carried from number to number
+-- writing as a pass over the sheet s, which carries the packet bits so far
 abbrev pub writer : List ℕ → Way (List Bool) (Told (List Bool))
 writer s = passing sheet (recording packet) (λ at. drop at s) (λ at x. at ≤ length s)
 
--- all is written, and its bits can be counted
+-- all fields are written, in fewer than 2^32 bits
 abbrev pub Few : Told (List Bool) → Type 0
 Few (Told.told x) = length x < 2 ^ 32
 Few (Told.not r at) = ⊥
 
--- A part may be written from here: the sheet is accepted with what follows, after the bits that are put.
+-- A part can be written at p: the room holds the bits before the part, and the sheet from p .from on is accepted as the part and what follows it.
 pub record Ready (part : Format → Format) (s room : List ℕ) (p : PacketSpot) : Type 0 where
   pub bytes : Bytes s
   pub inside : p .from ≤ length s
@@ -29,12 +29,12 @@ pub record Ready (part : Format → Format) (s room : List ℕ) (p : PacketSpot)
   pub filled : Filled bits room (p .at) (p .wait)
   pub ahead : Ahead (writer s) Few part (p .from) bits
 
--- bits are put, whatever was put before them
+-- Bits are put after any bits before them: room becomes after, and the next bit is to.
 pub record Puts (room : List ℕ) (at wait : ℕ) (bits : List Bool) (after : List ℕ) (to left : ℕ) : Type 0 where
   pub long : length after ≡ length room
   pub fills : (x : List Bool) → Filled x room at wait → Filled (x ++ bits) after to left
 
--- A part is written: whatever follows it and whatever stands before it, writing from here is writing what follows from there.
+-- A part is written from p to q: with any bits before the part and any tree after it, the pass over the part leads from p to q and adds bits.
 pub record Wrote (part : Format → Format) (s room : List ℕ) (p : PacketSpot) (after : List ℕ) (q : PacketSpot) : Type 0 where
   pub bits : List Bool
   pub over : (x : List Bool) → Over (writer s) part (p .from) x (Went.on (q .from) (x ++ bits))
