@@ -65,13 +65,6 @@ module _ (Reads : Format → ℕ → List Item → Type 0) where
   pub past-here : {f : Format} {at : ℕ} (l : List Item) → Reads f at l → Past Reads f at (drop 0 (sheetNumbers l))
   past-here l h = record { values = l; reads = h; numbers = refl }
 
-  -- the next part, of m numbers
-  pub passes-past : {part : Format → Format} (m : ℕ) {at to : ℕ} → Passes Reads part (drop m) at to → {f : Format} (n : ℕ) (s : List ℕ) → Past Reads (part f) at (drop n s)
-      → Past Reads f to (drop (n + m) s)
-  passes-past m r {f} n s p =
-      let q = r .past f (p .values) (p .reads) in
-      record { values = q .values; reads = q .reads; numbers = q .numbers ∙ ap (drop m) (p .numbers) ∙ drop-drop m n s }
-
   -- ---- an entry
 
   module _ {at b c to q v g u w : ℕ} (first : FieldRead Reads qDiff at b q q) (second : FieldRead Reads (class q) b c v g)
