@@ -4,13 +4,17 @@ use mathlib.Core.List.{List}
 use Prim.Native.Nat.{ℕ, _+_, _≤_}
 use Rattle.kinds.specs.Kinds.{lSp}
 use Rattle.format.specs.Format.{Format, field}
-use Rattle.grammar.specs.internal.segment.Parts.{runs}
+use Rattle.grammar.specs.internal.segment.Parts.{runs, threeLists}
 use Rattle.packet_fields.specs.declared.PacketStep.the-variants.{On}
 use Rattle.packet_fields.specs.internal.Judging.{Standing, Over}
 
 -- NID_OPERATIONAL to M_SP_Altitude, and what depends on L_SP
 abbrev pub headPart : (ℕ → Format) → Format
 headPart next = runs 0 9 (field lSp λ lsp. runs 10 3 (next lsp))
+
+-- the head, and the three lists
+abbrev pub wholePart : Format → Format
+wholePart f = headPart λ lsp. threeLists lsp f
 
 -- a part from the bit at to the bit to is stepped over with r bytes, wherever the packet's fields end after it
 abbrev pub Passed : (Format → Format) → List ℕ → ℕ → ℕ → ℕ → Type 0

@@ -1,10 +1,10 @@
--- `judge_packet::list` meets its contract.
+-- `packet_segment::list` meets its contract.
 use Rattle.grammar.specs.segment.Segment.{changes}
 use Rattle.grammar.specs.internal.segment.Parts.{startOf}
 use Rattle.format.proofs.Ways.{over-on, over-off, value-on, value-off}
 use borrow.Author.Needs.{needs}
-use Rattle.packet_judge.proofs.list.Statement.{statement}
-use Rattle.packet_judge.proofs.list.Tie as tie
+use Rattle.packet_segment.proofs.list.Statement.{statement}
+use Rattle.packet_segment.proofs.list.Tie as tie
 
 element-requires : tie.Need-element-requires
 element-requires c κs = c .before .pre .0

@@ -1,9 +1,9 @@
--- `judge_packet::lists` meets its contract.
+-- `packet_segment::lists` meets its contract.
 use lib.Dec.{lit<}
 use Rattle.format.proofs.Ways.{over-on, over-off}
 use borrow.Author.Needs.{needs}
-use Rattle.packet_judge.proofs.lists.Statement.{statement}
-use Rattle.packet_judge.proofs.lists.Tie as tie
+use Rattle.packet_segment.proofs.lists.Statement.{statement}
+use Rattle.packet_segment.proofs.lists.Tie as tie
 
 list-requires : tie.Need-list-requires
 list-requires c κs = (c .before .pre, lit< tt)

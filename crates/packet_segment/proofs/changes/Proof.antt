@@ -1,4 +1,4 @@
--- `judge_packet::changes` meets its contract.
+-- `packet_segment::changes` meets its contract.
 use native.Mathlib.Omega.{arith}
 use Rattle.grammar.specs.segment.Segment.{changes}
 use Rattle.grammar.specs.internal.segment.Parts.{startOf}
@@ -8,8 +8,8 @@ use Rattle.format.proofs.Ways.{left-all, left-none, left-as}
 use Rattle.packet_fields.specs.internal.Judging.{judge}
 use Rattle.grammar.proofs.segment.Changes.{location-off, element-off, element-on}
 use borrow.Author.Needs.{needs}
-use Rattle.packet_judge.proofs.changes.Statement.{statement}
-use Rattle.packet_judge.proofs.changes.Tie as tie
+use Rattle.packet_segment.proofs.changes.Statement.{statement}
+use Rattle.packet_segment.proofs.changes.Tie as tie
 
 abbrev Inv-loop : tie.InvT-loop
 Inv-loop part s stop at n lsp count to₀ m₀ last₀ left₀ to m last left = Left (judge s stop) (changes (startOf part) lsp 0 count) (changes (startOf part) lsp last left) at n to m

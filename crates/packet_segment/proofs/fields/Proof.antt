@@ -1,9 +1,9 @@
--- `judge_packet::segment` meets its contract.
+-- `packet_segment::fields` meets its contract.
 use Rattle.grammar.specs.internal.segment.Parts.{threeLists}
 use Rattle.format.proofs.Ways.{part-on, part-off}
 use borrow.Author.Needs.{needs}
-use Rattle.packet_judge.proofs.segment.Statement.{statement}
-use Rattle.packet_judge.proofs.segment.Tie as tie
+use Rattle.packet_segment.proofs.fields.Statement.{statement}
+use Rattle.packet_segment.proofs.fields.Tie as tie
 
 lists-requires : tie.Need-lists-requires
 lists-requires c κs = (rw (c .before .lsp .given .1) at (c .before .before .before .head .ensures)) .stands
@@ -14,6 +14,6 @@ returns c = part-off threeLists (rw (c .before .r .given .1) at (c .before .befo
 returns-2 : tie.Need-returns-2
 returns-2 c = part-on threeLists (rw (c .before .before .lsp .given .1) at (c .before .before .before .before .head .ensures)) (c .lists .ensures)
 
-pub segment-spec : {M : Type 1} → statement M
-segment-spec =
+pub fields-spec : {M : Type 1} → statement M
+fields-spec =
     tie.close (tie.spec (λ c κs. search needs) (λ c. search needs) (λ c. search needs) lists-requires returns returns-2)
