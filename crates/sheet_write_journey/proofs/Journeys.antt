@@ -10,7 +10,10 @@ use Rattle.kinds.specs.Kinds.{nidOperational}
 use Rattle.format.specs.Format.{Format, end, field, then, times}
 use Rattle.grammar.specs.internal.rows.Rows.{row}
 use Rattle.kinds.specs.journey.Kinds.{qJpStatus, nIterSp}
-use Rattle.grammar.specs.journey.Journey.{journeyBody, journeyFields, journeySegment, constraints}
+use Rattle.grammar.specs.journey.Journey.{journeyBody, journeySegment, constraints}
+use Rattle.grammar.specs.declared.link.Tree.the-variants.{Journey}
+use Rattle.grammar.specs.link.Link.{treeFields}
+use Rattle.grammar.specs.internal.link.Trees.{fieldsOf, FieldsWritable}
 use Rattle.grammar.specs.internal.journey.Parts.{journeyBodyPart, journeyPart}
 use Rattle.grammar.specs.internal.segment.Parts.{headerWidths, headerMost}
 use Rattle.grammar.proofs.segment.Parts.{header-rows, header-fits}
@@ -20,10 +23,9 @@ use Rattle.sheet_write_journey.specs.internal.row.Row.{Row, copied}
 use Rattle.sheet_write_journey.proofs.row.Tree.{Rowing, rowing-none, rowing-as, rowing-row, rowing-field, rowing-here}
 use Rattle.sheet_write_segment.proofs.elements.Whole.{tree-writable, tree-held}
 use Rattle.sheet_write_journey.specs.internal.rows.Widths.{headWidths}
-use Rattle.sheet_write_journey.specs.internal.Sheet.{journeyOf, JourneyWritable}
 
-parts : journeyFields constraints ≡ journeyPart end
-unfolding journeyFields journeyBody
+parts : treeFields Journey ≡ journeyPart end
+unfolding journeyBody
 parts = refl
 
 module _ (s : List ℕ) (stop : ℕ) {p : Put} (h : PartWritable journeyPart s stop 24 p) where
@@ -51,9 +53,9 @@ module _ (s : List ℕ) (stop : ℕ) {p : Put} (h : PartWritable journeyPart s s
     pub journey-wrote : {to : ℕ} {r : Put} → Wrote (times (journeySegment constraints) n) s stop 131 q to r → Wrote journeyPart s stop 24 p to r
     journey-wrote o = along-none s stop (along-on s stop (times (journeySegment constraints) n) (λ f. f) at-segments o)
 
-module _ (s : List ℕ) (stop : ℕ) (room : List ℕ) (start : ℕ) (h : JourneyWritable s stop room start × (8 ≤ length s)) where
+module _ (s : List ℕ) (stop : ℕ) (room : List ℕ) (start : ℕ) (h : FieldsWritable Journey s stop room start × (8 ≤ length s)) where
   pub journey-writable : PartWritable journeyPart s stop 24 (filled room start)
-  journey-writable = tree-writable (journeyFields constraints) journeyPart parts s stop 24 room start (h .0 .accepts) (h .0 .place) (h .1) (h .0 .holds)
+  journey-writable = tree-writable (treeFields Journey) journeyPart parts s stop 24 room start (h .0 .accepts) (h .0 .place) (h .1) (h .0 .holds)
 
-  pub journey-held : {to : ℕ} {p : Put} → Wrote journeyPart s stop 24 (filled room start) to p → p .bytes ≡ sets room start (journeyOf s stop)
-  journey-held o = tree-held (journeyFields constraints) journeyPart parts s stop 24 room start (h .0 .accepts) o
+  pub journey-held : {to : ℕ} {p : Put} → Wrote journeyPart s stop 24 (filled room start) to p → p .bytes ≡ sets room start (fieldsOf Journey s stop)
+  journey-held o = tree-held (treeFields Journey) journeyPart parts s stop 24 room start (h .0 .accepts) o

@@ -9,8 +9,9 @@ ghost use lib.ListN.{length};
 ghost use lib.Seq.{sets};
 ghost use Rattle.format.specs.Format.{times};
 ghost use Rattle.grammar.specs.journey.Journey.{timingPoint, temporaryConstraint, journeySegment, constraints};
+ghost use Rattle.grammar.specs.declared.link.Tree.the-variants.{Journey};
+ghost use Rattle.grammar.specs.internal.link.Trees.{fieldsOf, FieldsWritable};
 ghost use Rattle.sheet_write_segment.specs.internal.elements.Writing.{filled, PartWritable, Wrote};
-ghost use Rattle.sheet_write_journey.specs.internal.Sheet.{journeyOf, JourneyWritable};
 use crate::constraint::constraint;
 use crate::row::one;
 use crate::rows::head;
@@ -105,8 +106,8 @@ fn segments(
 
 // Writes the numbers of a journey's fields, which end at the bit stop, from the byte start of the room on.
 pub fn write_journey(packet: &[u8], stop: usize, room: &mut [u8], start: usize)
-    requires { ⌜ JourneyWritable (now packet) stop (now room) start × (8 ≤ length (now packet)) ⌝ }
-    ensures { λ _. ⌜ now (room .exit) ≡ sets (now (room .entry)) start (journeyOf (now (packet .entry)) stop) ⌝ }
+    requires { ⌜ FieldsWritable Journey (now packet) stop (now room) start × (8 ≤ length (now packet)) ⌝ }
+    ensures { λ _. ⌜ now (room .exit) ≡ sets (now (room .entry)) start (fieldsOf Journey (now (packet .entry)) stop) ⌝ }
 {
     let first = head(packet, room, start);
     segments(packet, stop, 131, first.count, room, first.n);

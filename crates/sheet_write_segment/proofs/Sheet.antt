@@ -14,7 +14,7 @@ use Rattle.grammar.specs.segment.Segment.{fields, wireChanges}
 use Rattle.grammar.specs.internal.segment.Parts.{runs, headerPart, bodyPart, threeLists}
 use Rattle.grammar.proofs.segment.Parts.{header-part}
 use Rattle.grammar.specs.declared.link.Tree.the-variants.{Segment}
-use Rattle.convert.specs.internal.Writers.{fieldsOf, FieldsWritable}
+use Rattle.grammar.specs.internal.link.Trees.{fieldsOf, FieldsWritable}
 use Rattle.sheet_write_segment.specs.internal.elements.Writing.{putting, filled, PartWritable, Wrote}
 use Rattle.sheet_write_segment.proofs.elements.Whole.{tree-writable, tree-held}
 use Rattle.sheet_write_segment.proofs.elements.Writing.{Along, along-all, along-here, along-next, along-on, along-none, along-put, field-here, field-read}

@@ -8,7 +8,7 @@ ghost use lib.Seq.{sets};
 ghost use Rattle.grammar.specs.segment.Segment as segment;
 ghost use Rattle.grammar.specs.internal.segment.Parts.{startOf, threeLists};
 ghost use Rattle.grammar.specs.declared.link.Tree.the-variants.{Segment};
-ghost use Rattle.convert.specs.internal.Writers.{fieldsOf, FieldsWritable};
+ghost use Rattle.grammar.specs.internal.link.Trees.{fieldsOf, FieldsWritable};
 ghost use Rattle.sheet_write_segment.specs.internal.elements.Writing.{filled, PartWritable, Wrote};
 
 mod head;

@@ -58,3 +58,6 @@ pub const WIRE: usize = WIRE_WIDTH as usize;
 
 // The bits of a change's location.
 pub const LOCATION: usize = body::DLocation::WIDTH as usize;
+
+// The first bit of a packet's body.
+pub const BODY: usize = COUNTRY;
