@@ -1,4 +1,5 @@
 // A field of a packet judged at its place, with the bytes of its sheet counted. Nothing is written.
+pub mod header;
 pub mod row;
 
 ghost use Prim.Native.Nat.{_<_};

@@ -1,3 +1,2 @@
 -- The laws of the module point_bytes.
-pub mod Held
 pub mod Values

@@ -125,7 +125,7 @@ pub fn fields(s: &[u8], stop: usize) -> PacketStep
     requires { ⌜ Standing (now s) stop 24 1 ⌝ }
     ensures { λ r. ⌜ Over journeyPart (now (s .entry)) stop 24 1 r ⌝ }
 {
-    match packet_segment::head::header_fields(s, stop) {
+    match packet_fields::header::header(s, stop) {
         PacketStep::Refused(r, place) => PacketStep::Refused(r, place),
         PacketStep::On(at, n) => body(s, stop, at, n),
     }

@@ -4,9 +4,8 @@ pub mod head;
 
 ghost use Prim.Native.Nat.{_<_};
 ghost use Rattle.grammar.specs.segment.Segment as segment;
-ghost use Rattle.grammar.specs.internal.segment.Parts.{startOf, threeLists};
+ghost use Rattle.grammar.specs.internal.segment.Parts.{startOf, threeLists, headerRows, bodyRows};
 ghost use Rattle.packet_fields.specs.internal.Judging.{Standing, Over};
-ghost use Rattle.packet_segment.specs.internal.head.Head.{wholePart};
 use grammar::segment::Part;
 use grammar::segment::WIRE_CHANGES;
 use kinds::body;
@@ -82,7 +81,7 @@ fn lists(s: &[u8], stop: usize, at: usize, n: usize, lsp: u32) -> PacketStep
 // Judges every field of a segment after L_PACKET_ATO.
 pub fn fields(s: &[u8], stop: usize) -> PacketStep
     requires { ⌜ Standing (now s) stop 24 1 ⌝ }
-    ensures { λ r. ⌜ Over wholePart (now (s .entry)) stop 24 1 r ⌝ }
+    ensures { λ r. ⌜ Over (λ f. headerRows (bodyRows f)) (now (s .entry)) stop 24 1 r ⌝ }
 {
     match crate::head::head(s, stop) {
         PacketValue::Refused(r, place) => PacketStep::Refused(r, place),
