@@ -8,6 +8,8 @@ ghost use Rattle.kinds.specs.internal.Rules.{meaning};
 ghost use Rattle.format.specs.Format.{then};
 ghost use Rattle.grammar.specs.segment.Segment as segment;
 ghost use Rattle.packet_fields.specs.internal.Judging.{Standing, Wide, Took, Over};
+use grammar::segment::layout::COUNT;
+use grammar::segment::layout::LOCATION;
 use kinds::Rule;
 use kinds::body;
 use kinds::refusals::BODY_BITS;
@@ -56,8 +58,6 @@ pub fn plain(s: &[u8], stop: usize, at: usize, n: usize, rule: Rule) -> PacketSt
 
 // ---- the fields between the elements of a list, and M_CURRENT, with no rule to look up
 
-const COUNT: usize = body::NIter::WIDTH as usize;
-
 // N_ITER up to a limit.
 pub fn count(s: &[u8], stop: usize, at: usize, n: usize, limit: u32) -> PacketValue
     requires { ⌜ Standing (now s) stop at n × (limit < 128) ⌝ }
@@ -74,14 +74,12 @@ pub fn count(s: &[u8], stop: usize, at: usize, n: usize, limit: u32) -> PacketVa
     PacketValue::Is(v, at + COUNT, n + bytes as usize)
 }
 
-const PLACE: usize = body::DLocation::WIDTH as usize;
-
 // D_LOCATION after the last one and before L_SP.
 pub fn location(s: &[u8], stop: usize, at: usize, n: usize, last: u32, lsp: u32) -> PacketValue
     requires { ⌜ Standing (now s) stop at n ⌝ }
     ensures { λ r. ⌜ Took (dLocation last lsp) (now (s .entry)) stop at n r ⌝ }
 {
-    if stop - at < PLACE {
+    if stop - at < LOCATION {
         return PacketValue::Refused(BODY_BITS, at as u32);
     }
     let v = bits::read_window(s, at, body::DLocation::WIDTH);
@@ -89,7 +87,7 @@ pub fn location(s: &[u8], stop: usize, at: usize, n: usize, last: u32, lsp: u32)
     if bytes == 0 {
         return PacketValue::Refused(CHANGE_LOCATION, at as u32);
     }
-    PacketValue::Is(v, at + PLACE, n + bytes as usize)
+    PacketValue::Is(v, at + LOCATION, n + bytes as usize)
 }
 
 const CURRENT: usize = body::MCurrent::WIDTH as usize;

@@ -14,6 +14,7 @@ use grammar::journey::CONSTRAINTS;
 use grammar::journey::layout::IDENTITY;
 use grammar::journey::layout::SEGMENT_HEAD;
 use grammar::journey::layout::VERSIONS;
+use grammar::journey::layout::VERSIONS_WIDTH;
 use kinds::body;
 use kinds::journey::NIterSp;
 use kinds::journey::QJpStatus;
@@ -40,7 +41,7 @@ fn whole_head(s: &[u8], stop: usize, at: usize, n: usize) -> PacketValue
 {
     let country = fields::size::short(bits::read_window(s, at, body::NidC::WIDTH));
     let identity = numbers::write::groups(bits::read_window(s, at + IDENTITY, body::NidSp::WIDTH));
-    let t = bits::read_window(s, at + VERSIONS, 22);
+    let t = bits::read_window(s, at + VERSIONS, VERSIONS_WIDTH);
     let major = fields::size::short(t / 16384);
     let minor = fields::size::short(t / 64 % 256);
     let bytes = country + identity + major + minor + 2;

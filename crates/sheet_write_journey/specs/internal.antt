@@ -1,4 +1,3 @@
 -- What the code needs and no promise names.
 pub mod constraint
-pub mod row
 pub mod rows

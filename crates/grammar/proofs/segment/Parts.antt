@@ -9,7 +9,7 @@ use Rattle.bits.proofs.Tests.{and-left, and-right, each-at}
 use Rattle.kinds.specs.Kinds.{class, dLocation}
 use Rattle.format.specs.Format.{Format, end, field, then}
 use Rattle.grammar.specs.segment.Segment.{entries, changes, lists, body, header, fields, sheetFields, wireChanges}
-use Rattle.grammar.specs.internal.segment.Parts.{entry, kindAt, runs, headerPart, bodyPart, sheetPart, headerWidths, headerMost, identityWidths, identityMost, offsetWidths, offsetMost, headerRows, bodyRows}
+use Rattle.grammar.specs.internal.segment.Parts.{entry, kindAt, runs, headerPart, bodyPart, sheetPart, headerWidths, headerMost, identityWidths, identityMost, offsetWidths, offsetMost, headerRows, bodyRows, segmentRows}
 use Rattle.grammar.specs.internal.rows.Rows.{row, fits}
 
 -- ---- one more
@@ -101,3 +101,9 @@ kind-wide i h = record { some = leb-true 1 (kindAt i .width) (and-left (low i) (
 
     t : (low i && high i) ≡ true
     t = each-at 13 (λ j. low j && high j) refl i h
+
+-- ---- the whole, in rows
+
+pub fields-rows : fields wireChanges ≡ segmentRows end
+unfolding fields body lists row
+fields-rows = refl

@@ -61,3 +61,6 @@ pub const LOCATION: usize = body::DLocation::WIDTH as usize;
 
 // The first bit of a packet's body.
 pub const BODY: usize = COUNTRY;
+
+// The bits of a count, N_ITER.
+pub const COUNT: usize = body::NIter::WIDTH as usize;

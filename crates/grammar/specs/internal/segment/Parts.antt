@@ -96,3 +96,7 @@ segmentPart f = then nidOperational (runs 1 8 (field lSp λ lsp. runs 10 3 (thre
 -- a sheet's fields: the packet number first
 abbrev pub sheetPart : Format → Format
 sheetPart f = then nidPacketAto (segmentPart f)
+
+-- the fields after L_PACKET_ATO, in rows, with whatever follows
+abbrev pub segmentRows : Format → Format
+segmentRows f = headerRows (bodyRows f)

@@ -11,10 +11,10 @@ use Rattle.numbers.specs.internal.Groups.{Put}
 use Rattle.kinds.specs.Kind.{Kind, upTo}
 use Rattle.format.specs.Format.{Format, field}
 use Rattle.grammar.specs.internal.rows.Rows.{row, fits}
 use Rattle.sheet_write_segment.specs.internal.elements.Writing.{putting, PartWritable, Wrote}
 use Rattle.sheet_write_segment.proofs.elements.Writing.{Along, along-all, along-as, along-here, along-next, along-on, along-none, along-put, field-here}
-use Rattle.sheet_write_journey.specs.internal.row.Row.{bitsIn, putAll, FitAll, none, more, valuesAt, Row, copied}
-use Rattle.sheet_write_journey.proofs.row.Rows.{bits-join, values-join, put-join, fit-join}
+use Rattle.sheet_write_segment.specs.internal.row.Row.{bitsIn, putAll, FitAll, none, more, valuesAt, Row, copied}
+use Rattle.sheet_write_segment.proofs.row.Rows.{bits-join, values-join, put-join, fit-join}
 
 record Rowed (ws ms s : List ℕ) (stop at : ℕ) (p : Put) : Type 0 where
   holds : FitAll p (valuesAt s at ws)

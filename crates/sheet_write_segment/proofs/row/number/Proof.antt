@@ -1,8 +1,8 @@
--- `write_row::number` meets its contract.
+-- `sheet_write_segment::row::number` meets its contract.
 use borrow.Author.Needs.{needs}
-use Rattle.sheet_write_journey.proofs.row.Rows.{alone-fits, alone-copied}
-use Rattle.sheet_write_journey.proofs.row.number.Statement.{statement}
-use Rattle.sheet_write_journey.proofs.row.number.Tie as tie
+use Rattle.sheet_write_segment.proofs.row.Rows.{alone-fits, alone-copied}
+use Rattle.sheet_write_segment.proofs.row.number.Statement.{statement}
+use Rattle.sheet_write_segment.proofs.row.number.Tie as tie
 
 put-number-requires : tie.Need-put-number-requires
 put-number-requires c κs = alone-fits _ _ _ _ (c .before .before .before .before .pre .0) (c .before .read-window .ensures)

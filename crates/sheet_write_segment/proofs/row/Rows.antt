@@ -9,8 +9,8 @@ use Rattle.bits.proofs.Windows.{cut-high, cut-field, cut-low}
 use Rattle.numbers.specs.Numbers.{groupsIn}
 use Rattle.numbers.specs.internal.Groups.{Put}
 use Rattle.numbers.proofs.Counting.{last-group}
 use Rattle.sheet_write_segment.specs.internal.elements.Writing.{putting}
-use Rattle.sheet_write_journey.specs.internal.row.Row.{bitsIn, putAll, FitAll, none, more, valuesAt, Row, copied}
+use Rattle.sheet_write_segment.specs.internal.row.Row.{bitsIn, putAll, FitAll, none, more, valuesAt, Row, copied}
 
 -- ---- one more number
 

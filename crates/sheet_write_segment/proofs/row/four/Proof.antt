@@ -1,8 +1,8 @@
--- `write_row::four` meets its contract.
-use Rattle.sheet_write_journey.proofs.row.Rows.{all-one, one-fits, more-fit, all-more}
+-- `sheet_write_segment::row::four` meets its contract.
+use Rattle.sheet_write_segment.proofs.row.Rows.{all-one, one-fits, more-fit, all-more}
 use borrow.Author.Needs.{needs}
-use Rattle.sheet_write_journey.proofs.row.four.Statement.{statement}
-use Rattle.sheet_write_journey.proofs.row.four.Tie as tie
+use Rattle.sheet_write_segment.proofs.row.four.Statement.{statement}
+use Rattle.sheet_write_segment.proofs.row.four.Tie as tie
 
 one-requires : tie.Need-one-requires
 one-requires c κs = (c .before .before .pre .0, one-fits (c .before .before .pre .4))

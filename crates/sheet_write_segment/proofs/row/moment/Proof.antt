@@ -1,9 +1,9 @@
--- `write_row::moment` meets its contract.
+-- `sheet_write_segment::row::moment` meets its contract.
 use mathlib.Core.List.{[], _∷_}
-use Rattle.sheet_write_journey.proofs.row.Rows.{all-one, one-fits, more-fit, all-more, window-fits, window-copied}
+use Rattle.sheet_write_segment.proofs.row.Rows.{all-one, one-fits, more-fit, all-more, window-fits, window-copied}
 use borrow.Author.Needs.{needs}
-use Rattle.sheet_write_journey.proofs.row.moment.Statement.{statement}
-use Rattle.sheet_write_journey.proofs.row.moment.Tie as tie
+use Rattle.sheet_write_segment.proofs.row.moment.Statement.{statement}
+use Rattle.sheet_write_segment.proofs.row.moment.Tie as tie
 
 put-number-requires : tie.Need-put-number-requires
 put-number-requires c κs = one-fits (window-fits _ _ (15 ∷ 17 ∷ []) _ (c .before .before .before .before .pre) (c .before .read-window .ensures))

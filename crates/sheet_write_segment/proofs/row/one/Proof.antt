@@ -1,11 +1,11 @@
--- `write_row::one` meets its contract.
+-- `sheet_write_segment::row::one` meets its contract.
 use mathlib.Core.Path.{ap}
 use lib.ListN.{length}
-use Rattle.sheet_write_journey.proofs.row.Rows.{single}
+use Rattle.sheet_write_segment.proofs.row.Rows.{single}
 use native.Mathlib.Omega.{arith}
 use borrow.Author.Needs.{needs}
-use Rattle.sheet_write_journey.proofs.row.one.Statement.{statement}
-use Rattle.sheet_write_journey.proofs.row.one.Tie as tie
+use Rattle.sheet_write_segment.proofs.row.one.Statement.{statement}
+use Rattle.sheet_write_segment.proofs.row.one.Tie as tie
 
 slice-write-room : tie.Need-slice-write-room
 slice-write-room c = omega (arith, ap length (single (c .args .v) (c .pre .0)), c .pre .1)

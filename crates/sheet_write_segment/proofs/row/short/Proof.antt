@@ -1,11 +1,11 @@
--- `write_row::short` meets its contract.
+-- `sheet_write_segment::row::short` meets its contract.
 use denote.Ref.{now}
 use native.Mathlib.Omega.{arith}
 use borrow.Author.Needs.{needs}
 use Rattle.bits.proofs.Fields.{field-small}
-use Rattle.sheet_write_journey.proofs.row.Rows.{alone-fits, alone-copied}
-use Rattle.sheet_write_journey.proofs.row.short.Statement.{statement}
-use Rattle.sheet_write_journey.proofs.row.short.Tie as tie
+use Rattle.sheet_write_segment.proofs.row.Rows.{alone-fits, alone-copied}
+use Rattle.sheet_write_segment.proofs.row.short.Statement.{statement}
+use Rattle.sheet_write_segment.proofs.row.short.Tie as tie
 
 put-short-requires : tie.Need-put-short-requires
 put-short-requires c κs =

@@ -1,36 +1,37 @@
--- Fields in a row, copied from a packet's bits to a room. What the code below a promise is held to; no promise names it.
+-- Fields in a row, copied from a packet's bits to a room. The contracts of the code cite it; no promise names it.
 use mathlib.Core.List.{List, [], _∷_}
 use Prim.Native.Nat.{ℕ, _+_, _*_, _^_, _≤_, _<_}
 use lib.ListN.{length}
 use Rattle.bits.specs.Bits.{fieldAt}
 use Rattle.numbers.specs.Numbers.{groupsIn}
 use Rattle.numbers.specs.internal.Groups.{Put}
 use Rattle.sheet_write_segment.specs.internal.elements.Writing.{putting}
 
 -- ---- numbers put one after another
 
+-- the room p with the numbers put from the byte up to which p is written on
 unfoldable pub putAll : Put → List ℕ → Put
 putAll p [] = p
 putAll p (v ∷ vs) = putAll (putting p v) vs
 
--- each fits the room, once those before it are put
+-- each number fits the room p, once the numbers before it are put
 pub data FitAll : Put → List ℕ → Type 0 where
   none : {p : Put} → FitAll p []
   more : {p : Put} {v : ℕ} {vs : List ℕ} → p .next + length (groupsIn v) ≤ length (p .bytes) → FitAll (putting p v) vs → FitAll p (v ∷ vs)
 
 -- ---- fields in a row
 
--- the bits of all of them
+-- how many bits fields of these widths have
 abbrev pub bitsIn : List ℕ → ℕ
 bitsIn [] = 0
 bitsIn (w ∷ ws) = w + bitsIn ws
 
--- their values, from the bit at on
+-- the values of fields of these widths, from the bit at of s on
 unfoldable pub valuesAt : List ℕ → ℕ → List ℕ → List ℕ
 valuesAt s at [] = []
 valuesAt s at (w ∷ ws) = fieldAt s at w ∷ valuesAt s (at + w) ws
 
--- all the fields are there, in a packet of at least eight bytes, and the room holds their numbers
+-- fields of the widths ws are present from the bit at on, in a packet s of at least eight bytes, and the room p holds their numbers
 pub record Row (s : List ℕ) (at : ℕ) (ws : List ℕ) (p : Put) : Type 0 where
   pub inside : at + bitsIn ws ≤ 8 * length s
   pub few : at + bitsIn ws < 2 ^ 32

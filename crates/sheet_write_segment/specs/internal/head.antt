@@ -1,0 +1,2 @@
+-- What the code of head needs and no promise names.
+pub mod Widths
