@@ -1,4 +1,4 @@
-// A packet judged part by part, with the bytes of its sheet counted. Nothing is written.
+// A packet judged whole: its frame, its fields by its tree, and its padding; the bytes of its sheet are counted. Nothing is written.
 
 ghost use mathlib.Core.Path.{_≡_};
 ghost use Prim.Native.Nat.{_≤_};
@@ -16,7 +16,7 @@ use packet_fields::PacketStep;
 use verdict::PacketVerdict;
 use verdict::frame::Frame;
 
-// Every field of a packet, by its tree.
+// Judges every field after L_PACKET_ATO of a packet of `tree`, whose fields end at the bit `stop`.
 fn fields(tree: Tree, s: &[u8], stop: usize) -> PacketStep
     requires { ⌜ Standing (now s) stop 24 1 ⌝ }
     ensures { λ r. ⌜ Over (treePart tree) (now (s .entry)) stop 24 1 r ⌝ }
@@ -27,7 +27,7 @@ fn fields(tree: Tree, s: &[u8], stop: usize) -> PacketStep
     }
 }
 
-// The verdict on the fields of a packet, which end at the bit stop, with the bytes of its sheet.
+// Returns the verdict on the fields of a packet, which are to end at the bit `stop`, with the bytes of its sheet.
 fn packet_fields(tree: Tree, s: &[u8], stop: usize) -> PacketVerdict
     requires { ⌜ Placed (now s) 24 stop × (8 ≤ length (now s)) ⌝ }
     ensures { λ r. ⌜ r ≡ fieldsVerdict tree (now (s .entry)) stop ⌝ }
@@ -43,14 +43,14 @@ fn packet_fields(tree: Tree, s: &[u8], stop: usize) -> PacketVerdict
     }
 }
 
-// The frame of a packet of a tree.
+// Judges the frame of a packet of `tree`: its length and its packet number.
 pub fn tree_frame(tree: Tree, s: &[u8]) -> Frame
     ensures { λ r. ⌜ r ≡ frameOf (treeNumber tree) (now (s .entry)) ⌝ }
 {
     verdict::frame::judge_frame(s, grammar::link::number(tree))
 }
 
-// The verdict on a packet of a tree, with the bytes of its sheet.
+// Returns the verdict on a packet of `tree`: the bytes of its sheet, or the first refusal and its place.
 pub fn judge_packet(tree: Tree, s: &[u8]) -> PacketVerdict
     ensures { λ r. ⌜ r ≡ packetVerdict tree (now (s .entry)) ⌝ }
 {

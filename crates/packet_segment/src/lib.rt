@@ -4,7 +4,7 @@ pub mod head;
 
 ghost use Prim.Native.Nat.{_<_};
 ghost use Rattle.grammar.specs.segment.Segment as segment;
-ghost use Rattle.grammar.specs.internal.segment.Parts.{startOf, threeLists, headerRows, bodyRows};
+ghost use Rattle.grammar.specs.internal.segment.Parts.{startOf, threeLists, segmentRows};
 ghost use Rattle.packet_fields.specs.internal.Judging.{Standing, Over};
 use grammar::segment::Part;
 use grammar::segment::WIRE_CHANGES;
@@ -12,7 +12,7 @@ use kinds::body;
 use packet_fields::PacketStep;
 use packet_fields::PacketValue;
 
-// The changes of a part: each a location that rises, and an element.
+// Judges the `count` changes of a part: each a location, above the location before it and below `lsp`, and an element.
 fn changes(
     part: Part,
     s: &[u8],
@@ -50,7 +50,7 @@ fn changes(
     PacketStep::On(to, m)
 }
 
-// A part: its first element, the count of its changes, and the changes.
+// Judges a part: its first element, the count of its changes, at most `limit`, and the changes.
 fn list(part: Part, s: &[u8], stop: usize, at: usize, n: usize, lsp: u32, limit: u32) -> PacketStep
     requires { ⌜ Standing (now s) stop at n × (limit < 128) ⌝ }
     ensures { λ r. ⌜ Over (segment.part (startOf part) limit lsp) (now (s .entry)) stop at n r ⌝ }
@@ -64,7 +64,7 @@ fn list(part: Part, s: &[u8], stop: usize, at: usize, n: usize, lsp: u32, limit:
     }
 }
 
-// The three parts that have changes.
+// Judges the speed profile, the rated voltage and the current limitation. `lsp` is the length of the segment.
 fn lists(s: &[u8], stop: usize, at: usize, n: usize, lsp: u32) -> PacketStep
     requires { ⌜ Standing (now s) stop at n ⌝ }
     ensures { λ r. ⌜ Over (threeLists lsp) (now (s .entry)) stop at n r ⌝ }
@@ -81,7 +81,7 @@ fn lists(s: &[u8], stop: usize, at: usize, n: usize, lsp: u32) -> PacketStep
 // Judges every field of a segment after L_PACKET_ATO.
 pub fn fields(s: &[u8], stop: usize) -> PacketStep
     requires { ⌜ Standing (now s) stop 24 1 ⌝ }
-    ensures { λ r. ⌜ Over (λ f. headerRows (bodyRows f)) (now (s .entry)) stop 24 1 r ⌝ }
+    ensures { λ r. ⌜ Over segmentRows (now (s .entry)) stop 24 1 r ⌝ }
 {
     match crate::head::head(s, stop) {
         PacketValue::Refused(r, place) => PacketStep::Refused(r, place),
