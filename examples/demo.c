@@ -16,6 +16,7 @@ static const struct {
 static const uint32_t PLACES[] = {6000, 11800};
 enum { JOURNEY = 4 };
 
+// Prints the count of the bytes, and the bytes in hexadecimal, 24 on a line.
 static void print_bytes(const char *what, const uint8_t *bytes, size_t count)
 {
     printf("%s, %zu bytes:", what, count);
@@ -24,6 +25,7 @@ static void print_bytes(const char *what, const uint8_t *bytes, size_t count)
     printf("\n");
 }
 
+// Prints a speed in km/h, or a refusal with its place.
 static void print_speed(seglink_speed answer)
 {
     if (answer.refusal == SEGLINK_SUCCESS)
@@ -32,7 +34,7 @@ static void print_speed(seglink_speed answer)
         printf(" REFUSED %u AT %u", (unsigned)answer.refusal, (unsigned)answer.place);
 }
 
-// Back from the sheet: whether it is the packet again.
+// Converts the sheet back and prints whether the result is the packet again.
 static void print_back(const uint8_t *packet, size_t packet_len, const uint8_t *sheet, size_t sheet_len)
 {
     uint8_t again[SEGLINK_LARGEST_JOURNEY_PACKET];
@@ -41,6 +43,7 @@ static void print_back(const uint8_t *packet, size_t packet_len, const uint8_t *
     printf("Back from the sheet, %u bytes: %s.\n", (unsigned)back.length, same ? "the same packet" : "ANOTHER PACKET");
 }
 
+// Prints the permitted speed of each train at each place of a segment's packet.
 static void print_speeds(const uint8_t *packet, size_t packet_len)
 {
     for (size_t i = 0; i < sizeof PLACES / sizeof *PLACES; ++i) {

@@ -1,5 +1,5 @@
-// Reads a sheet as text, a number at the start of each line, and writes its packet: examples/sample.numbers makes examples/sample.packet,
-// a segment's, and examples/journey.numbers examples/journey.packet, a journey's with a speed restriction.
+// Reads a sheet as text, a number at the start of each line, and writes its packet: examples/sample.numbers makes the segment
+// examples/sample.packet, and examples/journey.numbers the journey examples/journey.packet, which has a speed restriction.
 #include <stdio.h>
 #include <stdlib.h>
 
@@ -7,7 +7,7 @@
 
 enum { LINE = 256, LONGEST_NUMBER = 5 };
 
-// Groups of seven bits, lowest group first; the top bit is 1 when another group follows.
+// Writes a number at the byte `at` in groups of seven bits, lowest group first; the top bit of a group is 1 if another follows. Returns the next byte.
 static size_t put_number(uint8_t *sheet, size_t at, uint32_t number)
 {
     for (; number > 127; number /= 128)
@@ -16,7 +16,7 @@ static size_t put_number(uint8_t *sheet, size_t at, uint32_t number)
     return at;
 }
 
-// The number at the start of a line, if there is one; a number that no sheet can hold ends the program.
+// Reads the number at the start of a line and returns whether there is one; a number that no sheet can hold ends the program.
 static bool number_of(const char *line, uint32_t *number)
 {
     char *end;
@@ -29,7 +29,7 @@ static bool number_of(const char *line, uint32_t *number)
     return end != line;
 }
 
-// The sheet of the numbers on standard input, and its length; a line that starts with no number is passed over.
+// Writes the sheet of the numbers on standard input and returns its length; passes over a line that starts with no number.
 static size_t read_sheet(uint8_t sheet[SEGLINK_LARGEST_JOURNEY_SHEET + LONGEST_NUMBER])
 {
     char line[LINE];

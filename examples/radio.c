@@ -1,4 +1,4 @@
-// A worked example in C of a radio loop: packets arrive in bits of traffic, are judged when they are complete, and are asked for their sheets.
+// A worked example in C of a radio loop: packets arrive in several deliveries, are judged when they are complete, and are asked for their sheets.
 #include <stdio.h>
 
 #include "seglink.h"
@@ -11,7 +11,7 @@ static const uint8_t SEGMENT[] = {
 static const uint8_t WRONG_END[] = {0x3F, 0xF0, 0x24}; // two padding bits are 1
 static const uint8_t JOURNEY[] = {0x04, 0x00, 0x0B, 0x00, 0x01, 0x23, 0x45, 0x00, 0x00, 0x01, 0x00, 0x00, 0x00, 0x00, 0x07, 0x20, 0x00};
 
-// What the radio hands over: bytes, at times none, and whether the packet is complete with them.
+// Deliveries of the radio: bytes, at times none, and whether the packet is complete with them.
 static const struct { const uint8_t *bytes; size_t count; bool complete; } TRAFFIC[] = {
     {SEGMENT, 10, false},
     {SEGMENT, 0, false},
@@ -28,6 +28,7 @@ static const struct { const uint8_t *bytes; size_t count; bool complete; } TRAFF
 
 enum { GATHERS, PAST_END, JUDGED };
 
+// Prints the state of an intake in words.
 static void print_state(seglink_intake intake)
 {
     if (intake.phase == GATHERS)
@@ -40,6 +41,7 @@ static void print_state(seglink_intake intake)
         printf("refused with %u at bit %u", (unsigned)intake.refusal, (unsigned)intake.place);
 }
 
+// Asks an intake for its sheet and prints the bytes, or why there is none.
 static void print_sheet(seglink_intake intake, const uint8_t *taken, size_t taken_len)
 {
     uint8_t sheet[SEGLINK_LARGEST_JOURNEY_SHEET];

@@ -10,6 +10,7 @@ static const uint8_t PACKET[SEGLINK_SMALLEST_PACKET] = {
     0x01, 0x00, 0x00, 0x00, 0x00, 0x3F, 0xF0, 0x00, // speed, voltage, current
 };
 
+// Prints the count of the bytes, and the bytes in hexadecimal, 16 on a line.
 static void print_bytes(const char *what, const uint8_t *bytes, size_t count)
 {
     printf("%s, %zu bytes:", what, count);
@@ -18,7 +19,7 @@ static void print_bytes(const char *what, const uint8_t *bytes, size_t count)
     printf("\n");
 }
 
-// To the sheet and back; the count of the sheet's bytes, or 0 after a refusal.
+// Converts the packet to its sheet and back. Returns the count of the sheet's bytes, or 0 after a refusal.
 static size_t convert(uint8_t sheet[SEGLINK_LARGEST_SHEET])
 {
     seglink_converted there = seglink_packet_to_sheet(PACKET, sizeof PACKET, sheet, SEGLINK_LARGEST_SHEET);
@@ -34,6 +35,7 @@ static size_t convert(uint8_t sheet[SEGLINK_LARGEST_SHEET])
     return there.length;
 }
 
+// Asks for the altitude, and for a speed from the packet and from the sheet.
 static void ask(const uint8_t *sheet, size_t sheet_len)
 {
     seglink_altitude altitude = seglink_altitude_of_packet(PACKET, sizeof PACKET);
@@ -45,7 +47,7 @@ static void ask(const uint8_t *sheet, size_t sheet_len)
     printf("From the sheet the answer is %u km/h (refusal %u).\n", (unsigned)same.speed, (unsigned)same.refusal);
 }
 
-// The packet without its last byte, and with a bit more than its fields have: the room keeps what it had.
+// Converts the packet without its last byte, and with one bit more than its fields have: both are refused, and the room keeps its bytes.
 static void refuse(void)
 {
     uint8_t room[4] = {0xA5, 0xA5, 0xA5, 0xA5}, longer[sizeof PACKET];

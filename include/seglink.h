@@ -1,14 +1,14 @@
 // The eight operations of the segment link, for C11 and C++: link with libseglink.a, which `rt staticlib seglink` writes for x86-64.
-// Packets and sheets are a segment's (packet number 6) or a journey's (4): the conversions and the intake take both, the questions a segment's alone.
-// A segment has up to 31 changes of speed, 31 of voltage and 31 of current.
+// A packet or a sheet is of a segment (packet number 6) or of a journey (packet number 4). The conversions and the intake take both; the questions
+// on speed and altitude take a segment alone. A segment has up to 31 changes of speed, 31 of voltage and 31 of current.
 //
-// Of a journey's temporary constraint, up to 31 a segment, Q_TC_Type 0 uses Q_FRONT and V_Speed_Level, 1 the adhesion, 2 and 3 neither;
-// Q_TC_Range 0 uses the start, 1 the end, 2 both, 3 neither. What is not used is 0; no type uses the current, 1,023 in the packet and 0 in
-// the sheet. A speed is lowered to a multiple of 5 km/h on its way to the packet, as a segment's speeds are.
+// Each segment of a journey has up to 31 temporary constraints. Q_TC_Type 0 uses Q_FRONT and V_Speed_Level, 1 uses the adhesion, 2 and 3 use neither.
+// Q_TC_Range 0 uses the start, 1 the end, 2 both, 3 neither. A field that is not used is 0. No type uses the current: it is 1,023 in the packet
+// and 0 in the sheet. A constraint's speed, like a segment's, is lowered to a multiple of 5 km/h on its way to the packet.
 //
-// Any bytes may be handed over, in any number. The caller keeps to three things: no pointer is null, also where the count is 0; the room shares
-// no byte with what is read; each bool is 0 or 1.
-// No operation keeps a pointer, has a state of its own or stops the program, so any number of threads may call them.
+// Any bytes may be handed over, in any number. The caller keeps three rules: no pointer is null, even if its length is 0; the room shares no byte
+// with the input; each bool is 0 or 1.
+// No operation keeps a pointer, has a state of its own or stops the program, so any number of threads may call the operations.
 #ifndef SEGLINK_H
 #define SEGLINK_H
 
@@ -22,7 +22,7 @@ extern "C" {
 
 // Why an operation refused: the numbers of the build definition, each with its ground.
 //
-// Where several grounds hold, the one that is judged first is given:
+// If several grounds are met, the refusal that is judged first is given:
 //     a packet              1, 2, 3, then its fields in order (6 before 4 or 5), then 13, then 7
 //     a sheet               its numbers in order (9 before 2, 4 or 5), then 9 for bytes that are left
 //     a conversion          the refusals of its packet or sheet, then 12 (of a sheet alone), then 8
@@ -32,7 +32,7 @@ extern "C" {
 //     an intake's sheet     14 where there is no verdict, then the verdict's refusal, then 14 where the packet's room is cut short, then
 //                           the refusals of a conversion
 //
-// The place says where it broke, as a bit of the packet or a byte of the sheet. Both are counted from 0 at the start, the top bit of a byte first.
+// The place says where the fault is: a bit of the packet or a byte of the sheet. Both are counted from 0 at the start, the top bit of a byte first.
 //     4, 5                  the first bit of the field at fault, or the first byte of its number; of a constraint whose start is not below
 //                           its end, the end is at fault
 //     6                     the first bit of the field that does not fit
@@ -60,14 +60,14 @@ enum {
     SEGLINK_UNKNOWN_KIND = 15    // the kind is neither 0 nor 1
 };
 
-// What a speed question brings, as its kind: a segment's packet, or a segment's sheet.
+// Kinds of a speed question: it brings a segment's packet, or a segment's sheet.
 enum {
     SEGLINK_KIND_PACKET = 0,
     SEGLINK_KIND_SHEET = 1
 };
 
-// Counts of bytes: a segment's, then a journey's, whose sheet is never longer than the last. A room of a journey's largest is never refused
-// as too short, nor is one of a segment's largest for a segment.
+// Sizes in bytes: of a segment's packets and sheet, then of a journey's, whose sheet is never longer than the last size. A room of a journey's
+// largest is never refused as too short, nor is a room of a segment's largest for a segment.
 enum {
     SEGLINK_SMALLEST_PACKET = 39,
     SEGLINK_LARGEST_PACKET = 2073,
@@ -76,50 +76,50 @@ enum {
     SEGLINK_LARGEST_JOURNEY_SHEET = 15226
 };
 
-// What a conversion answers: 0, 0 and the count of bytes that it wrote; or a refusal, its place and 0.
+// Answer of a conversion: 0, 0 and the count of bytes that it wrote; or a refusal, its place and 0.
 typedef struct {
     uint32_t refusal, place, length;
 } seglink_converted;
 
-// What the speed question answers: 0, 0 and the speed in km/h; or a refusal, its place and 0.
+// Answer to a speed question: 0, 0 and the speed in km/h; or a refusal, its place and 0.
 typedef struct {
     uint32_t refusal, place, speed;
 } seglink_speed;
 
-// What the altitude question answers: 0, 0 and the altitude in cm, from -100,000 to 948,575; or a refusal, its place and 0.
+// Answer to an altitude question: 0, 0 and the altitude in cm, from -100,000 to 948,575; or a refusal, its place and 0.
 typedef struct {
     uint32_t refusal, place;
     int32_t altitude;
 } seglink_altitude;
 
 // A train: its length in cm, 1 to 150,000; its cant deficiency in mm, 80, 100, 130, 150, 165, 180, 210, 225, 245, 275 or 300 (any other length
-// or cant deficiency is refused with 10); whether it is freight in P position, freight in G position, passenger.
-// Where no entry of an element (Q_DIFF 0) names its cant deficiency, those of the greatest figure below it count, the lowest speed of them;
-// V_STATIC where there are none: with entries for 100 and 165, a train of 150 mm has the speed of the entry for 100.
+// or cant deficiency is refused with 10); whether it is freight in P position, freight in G position, a passenger train.
+// An element's entries with Q_DIFF 0 count if they name the train's cant deficiency or, if no entry does, the greatest figure below it. The lowest
+// speed of the entries that count is taken; V_STATIC if none counts. With entries for 100 and 165, a train of 150 mm has the speed of the entry for 100.
 typedef struct {
     uint32_t length, cant;
     bool freight_p, freight_g, passenger;
 } seglink_train;
 
-// The state of an intake, which takes packets that arrive in several deliveries, one packet after the other, into one room. The caller keeps the
+// State of an intake, which takes packets that arrive in several deliveries, one packet after the other, into one room. The caller keeps the
 // state and the room, lends both at each call and takes the state back. All 0 is fresh; any four numbers may be handed over.
-// Phase 0, and each above 2, gathers: length bytes of a packet are in the room. Phase 1: the deliveries passed the room's end. Phase 2 is judged:
-// refusal and place are the verdict, 0 and 0 for an accepted packet, and length is the packet's bytes, 0 where it was refused with 8.
+// Phase 0, and each above 2, gathers: `length` bytes of a packet are in the room. Phase 1: the deliveries passed the room's end. Phase 2 is judged:
+// `refusal` and `place` are the verdict, 0 and 0 for an accepted packet, and `length` is the count of the packet's bytes, 0 if the refusal is 8.
 typedef struct {
     uint32_t phase, length, refusal, place;
 } seglink_intake;
 
-// Writes the sheet of a packet, of a segment or a journey, to the start of the room and returns its length; the room's bytes past it stay.
-// Any bytes may be handed over; a refusal (1 to 8 or 13) leaves the room as it was.
+// Writes the sheet of a packet, of a segment or a journey, to the start of the room and returns the sheet's length; the bytes of the room past it
+// stay. Any bytes may be handed over; a refusal (1 to 8 or 13) leaves the room as it was.
 seglink_converted seglink_packet_to_sheet(const uint8_t *packet, size_t packet_len, uint8_t *room, size_t room_len);
 
-// Writes the packet of a sheet, of a segment or a journey, to the start of the room and returns its length; the room's bytes past it stay.
-// Any bytes may be handed over; a refusal (2, 4, 5, 8, 9 or 12) leaves the room as it was.
+// Writes the packet of a sheet, of a segment or a journey, to the start of the room and returns the packet's length; the bytes of the room past it
+// stay. Any bytes may be handed over; a refusal (2, 4, 5, 8, 9 or 12) leaves the room as it was.
 seglink_converted seglink_sheet_to_packet(const uint8_t *sheet, size_t sheet_len, uint8_t *room, size_t room_len);
 
-// Returns the permitted speed of a train at x cm from the segment's start: of kind 0 by a packet's speeds, multiples of 5 km/h, of kind 1 by a
-// sheet's own. Any kind, bytes, train and x may be handed over. A kind that is neither is refused with 15, first of all, whatever the others are; of
-// kind 0 a refusal is 1 to 7, 10, 11 or 13, of kind 1 it is 2, 4, 5, 9, 10 or 11.
+// Returns the permitted speed of `train` at `x` cm from the segment's start. `kind` says what `segment` is: 0 a packet, whose speeds are multiples
+// of 5 km/h, 1 a sheet, whose speeds are in km/h. Any kind, bytes, train and x may be handed over. A kind that is neither is refused with 15, first
+// of all, whatever the other values are; a refusal of kind 0 is 1 to 7, 10, 11 or 13, a refusal of kind 1 is 2, 4, 5, 9, 10 or 11.
 seglink_speed seglink_permitted_speed(uint32_t kind, const uint8_t *segment, size_t segment_len, seglink_train train, uint32_t x);
 
 // Returns the altitude of a packet's segment in signed centimetres.
@@ -129,18 +129,19 @@ seglink_altitude seglink_altitude_of_packet(const uint8_t *packet, size_t packet
 // Returns the state of an intake that has taken nothing: all 0.
 seglink_intake seglink_intake_fresh(void);
 
-// Takes a delivery: writes it behind the packet's bytes so far, after a verdict at the room's start; the room's other bytes stay. One of no bytes
-// changes nothing, the state neither. One that would pass the room's end, or 4,294,967,295 bytes, and each after it until completion, writes nothing.
-// Nothing is judged: a delivery costs a call and a copy.
+// Takes a delivery and returns the state after it. Writes the delivery after the packet's bytes in the room, or to the room's start after a verdict;
+// the other bytes of the room stay. A delivery of no bytes changes neither the room nor the state. A delivery that would pass the room's end, or
+// 4,294,967,295 bytes, and each delivery after it until completion, writes nothing. For speed, no delivery is judged: it costs a call and a copy.
 seglink_intake seglink_intake_deliver(seglink_intake intake, const uint8_t *delivery, size_t delivery_len, uint8_t *room, size_t room_len);
 
-// Judges the bytes delivered since the last verdict as a packet, of a segment or a journey: 8, before all others, where they exceeded the room (or
-// length is more than it has), else 0 or the packet's own refusal (1 to 7 or 13) with its place; 1 where there are none. The next packet starts afresh.
+// Judges the bytes delivered since the last verdict as a packet, of a segment or a journey, and returns the state with the verdict: 8, before all
+// others, if the bytes exceeded the room (or `length` is more than the room has); else 0, or the packet's own refusal (1 to 7 or 13) with its place.
+// No bytes are refused with 1. The next packet starts afresh.
 seglink_intake seglink_intake_complete(seglink_intake intake, const uint8_t *room, size_t room_len);
 
-// Answers as seglink_packet_to_sheet for the packet that was judged; taken is the room that took it. It may be asked, any number of times, until the
-// next delivery that has bytes or the next completion: at any other time, and where taken has fewer bytes than an accepted packet, the refusal is 14.
-// Where the verdict was a refusal, it is that number and place again. A refusal leaves the room as it was.
+// Answers as seglink_packet_to_sheet for the packet that was judged; `taken` is the room that took the packet. The sheet may be asked for, any number
+// of times, until the next delivery that has bytes or the next completion. At any other time, and if `taken` has fewer bytes than an accepted
+// packet, the refusal is 14. If the verdict was a refusal, the answer is its number and place again. A refusal leaves the room as it was.
 seglink_converted seglink_intake_sheet(seglink_intake intake, const uint8_t *taken, size_t taken_len, uint8_t *room, size_t room_len);
 
 #ifdef __cplusplus

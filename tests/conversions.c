@@ -1,4 +1,5 @@
-// Both conversions of the static library, of segments and journeys, the intake, the questions' refusals, speeds by kind and by cant deficiency, called from C and held to packets, sheets, states, places and speeds that are written here from the build definition; timed with 'time'.
+// Calls the static library from C: both conversions of segments and journeys, the intake, the questions' refusals, speeds by kind and by cant deficiency.
+// Checks the answers against packets, sheets, states, places and speeds that are written here from the build definition. 'time' measures times instead.
 #define _POSIX_C_SOURCE 200809L
 #include <stdio.h>
 #include <stdlib.h>
@@ -9,19 +10,19 @@
 
 // ---- A segment or a journey: its fields in packet order, without L_PACKET_ATO
 
-// A field's width and value in the packet, its number in the sheet, and the number that comes back from the packet.
+// A field: its width in bits and its value in the packet, its number in the sheet, and the number that comes back from the packet.
 struct field { uint32_t width, value, number, raised; };
 struct fields { size_t count; struct field field[8192]; };
 struct bytes { size_t length; uint8_t byte[16384]; };
 
-// Where the fields of a segment without entries and changes stand.
+// Places of the fields of a segment without entries and changes.
 enum {
     NUMBER, OPERATIONAL, ENGINE, DATE, SECONDS, COUNTER,
     NID_C, NID_SP, VERSION_X, VERSION_Y, L_SP, EOA_OFFSET, UTC_OFFSET, ALTITUDE,
     SPEED, FRONT, ENTRIES, SPEEDS, VOLTAGE, TRACTION, VOLTAGES, CURRENT, CURRENTS
 };
 
-// Where those of a journey's body stand, of its first segment, its first timing point and, after that one, its first constraint.
+// Places of the fields of a journey's body, its first segment, its first timing point and, after one timing point, its first constraint.
 enum {
     JP_STATUS = NID_C, SEGMENTS, FIRST_NID_C, FIRST_NID_SP, FIRST_VERSION_X, FIRST_VERSION_Y, SP_DIR, POINTS,
     NID_TP, ARRIVAL_DATE, ARRIVAL_SECONDS, ARRIVAL_WINDOW, TP_ALIGNMENT, STOP_SKIP_PASSES, TP_INFORMATION, DAY_LIGHT_SAVING,
@@ -58,7 +59,7 @@ static void voltage(struct fields *s, uint32_t place, uint32_t traction)
     same(s, 10, traction);
 }
 
-// Amperes + 1, or 0 for no limit.
+// Adds a current by its number in the sheet: amperes + 1, or 0 for no limit.
 static void current(struct fields *s, uint32_t number)
 {
     uint32_t tens = number == 0 ? 1023 : (number - 1) / 10;
@@ -94,7 +95,7 @@ static void measures(struct fields *s, uint32_t l_sp, uint32_t eoa, uint32_t utc
 
 // ---- The two media
 
-// Bits are filled from the top bit of each byte, each field most significant bit first.
+// Writes a field at the bit `at`, most significant bit first, the top bit of each byte first.
 static void put_bits(struct bytes *b, size_t *at, uint32_t width, uint32_t value)
 {
     for (uint32_t i = width; i-- > 0; ++*at)
@@ -102,7 +103,7 @@ static void put_bits(struct bytes *b, size_t *at, uint32_t width, uint32_t value
             b->byte[*at / 8] |= (uint8_t)(0x80 >> *at % 8);
 }
 
-// Groups of seven bits, lowest group first; the top bit is 1 when another group follows.
+// Adds a number in groups of seven bits, lowest group first; the top bit of a group is 1 if another follows.
 static void put_groups(struct bytes *b, uint32_t number)
 {
     for (; number > 127; number /= 128)
@@ -130,7 +131,7 @@ static struct bytes packet_of(const struct fields *s)
     return b;
 }
 
-// The sheet as the office gives it, or as it comes back from the packet.
+// Returns the sheet as the office gives it, or, with `back`, as it comes back from the packet.
 static struct bytes sheet_of(const struct fields *s, bool back)
 {
     struct bytes b = {0};
@@ -139,7 +140,7 @@ static struct bytes sheet_of(const struct fields *s, bool back)
     return b;
 }
 
-// Where a field begins: its first bit in the packet, where L_PACKET_ATO follows the first, and its number's first byte in the sheet.
+// Returns the first bit of a field in the packet, where L_PACKET_ATO follows the first field.
 static uint32_t bit_of(const struct fields *s, size_t field)
 {
     uint32_t bits = field > NUMBER ? 16 : 0;
@@ -148,6 +149,7 @@ static uint32_t bit_of(const struct fields *s, size_t field)
     return bits;
 }
 
+// Returns the first byte of a field's number in the sheet.
 static uint32_t byte_of(const struct fields *s, size_t field)
 {
     struct bytes b = {0};
@@ -190,7 +192,7 @@ static size_t touched(size_t from, size_t to, uint8_t fill)
     return found;
 }
 
-// What was answered in a room filled with one byte: the answer, each byte of the result, and that no other byte has changed.
+// Checks an answer in a room that was filled with `fill`: its numbers, each byte of the result, and that no other byte has changed.
 static void answered(const char *name, const char *way, size_t room, uint8_t fill, seglink_converted c, uint32_t refusal, uint32_t place, const struct bytes *out)
 {
     char what[96];
@@ -208,7 +210,7 @@ static void answered(const char *name, const char *way, size_t room, uint8_t fil
     check(name, what, touched(0, GUARD, fill) + touched(GUARD + out->length, sizeof store, fill), 0);
 }
 
-// The sheet of a packet that an intake takes in deliveries of 1, 2, 3 bytes and so on, in a room of the packet's size.
+// Converts a packet that an intake takes in deliveries of 1, 2, 3 bytes and so on, in a room of the packet's size.
 static seglink_converted deliveries_to_sheet(const uint8_t *packet, size_t packet_len, uint8_t *room, size_t room_len)
 {
     static uint8_t gathered[ROOM];
@@ -236,7 +238,7 @@ static void run(const char *name, conversion *convert, const struct bytes *in, s
     answered(name, way_of(convert), room, fill, c, refusal, place, out);
 }
 
-// A packet's sheet is asked of an intake too.
+// Checks a conversion in rooms that hold the result and in rooms that do not. A packet's sheet is also asked of an intake.
 static void converts(const char *name, conversion *convert, const struct bytes *in, const struct bytes *out)
 {
     static const struct bytes nothing;
@@ -249,7 +251,7 @@ static void converts(const char *name, conversion *convert, const struct bytes *
         converts(name, deliveries_to_sheet, in, out);
 }
 
-// A refusal of its own comes before 8, so it is the same in no room at all.
+// Checks that the input is refused. A refusal of the input comes before 8, so a room of no bytes gives it too.
 static void refuses(const char *name, conversion *convert, const struct bytes *in, uint32_t refusal, uint32_t place)
 {
     static const struct bytes nothing;
@@ -260,10 +262,10 @@ static void refuses(const char *name, conversion *convert, const struct bytes *i
         refuses(name, deliveries_to_sheet, in, refusal, place);
 }
 
-// Kinds that are neither 0 nor 1; the low bits of some are.
+// Kinds that are neither 0 nor 1; the low bits of some are 0 or 1.
 static const uint32_t UNKNOWN_KINDS[] = {2, 3, 255, 256, 257, 65536, 65537, 0x80000000, 0x80000001, 0xFFFFFFFF};
 
-// The answer to the speed question about bytes of a kind.
+// Checks the answer to a speed question about bytes of a kind.
 static void speed_asked(const char *name, uint32_t kind, const struct bytes *segment, seglink_train train, uint32_t x, seglink_speed wanted)
 {
     char what[64];
@@ -276,7 +278,7 @@ static void speed_asked(const char *name, uint32_t kind, const struct bytes *seg
     check(name, what, got.speed, wanted.speed);
 }
 
-// The same of its own kind; and an unknown kind is refused first of all, whatever that answer is.
+// Checks the answer to a speed question, and that each unknown kind is refused first of all, whatever that answer is.
 static void kinds_asked(const char *name, uint32_t kind, const struct bytes *segment, seglink_train train, uint32_t x, seglink_speed wanted)
 {
     speed_asked(name, kind, segment, train, x, wanted);
@@ -284,9 +286,10 @@ static void kinds_asked(const char *name, uint32_t kind, const struct bytes *seg
         speed_asked(name, UNKNOWN_KINDS[i], segment, train, x, (seglink_speed){15, 0, 0});
 }
 
-// The questions refuse before they look at the train, which is not allowed here.
+// A train that is not allowed: the questions refuse the segment before they judge the train.
 static const seglink_train NO_TRAIN = {.length = 0, .cant = 0};
 
+// Checks that the questions about a packet refuse it at a bit.
 static void packet_asked(const char *name, const struct bytes *packet, uint32_t refusal, uint32_t place)
 {
     seglink_altitude altitude = seglink_altitude_of_packet(packet->byte, packet->length);
@@ -301,7 +304,7 @@ static void sheet_asked(const char *name, const struct bytes *sheet, uint32_t re
     kinds_asked(name, SEGLINK_KIND_SHEET, sheet, NO_TRAIN, 0, (seglink_speed){refusal, place, 0});
 }
 
-// A segment or a journey both ways: converted where the refusal is 0, else refused with it at a field.
+// Checks both conversions of a segment or a journey: they succeed if `refusal` is 0, else they refuse at `field`.
 static void both(const char *name, const struct fields *s, uint32_t refusal, size_t field)
 {
     struct bytes packet = packet_of(s), given = sheet_of(s, false), back = sheet_of(s, true);
@@ -314,14 +317,14 @@ static void both(const char *name, const struct fields *s, uint32_t refusal, siz
     }
 }
 
-// The same with one field changed, and refused at that field.
+// Changes one field, and checks both conversions: they refuse at that field, or succeed if `refusal` is 0.
 static void both_with(const char *name, struct fields *s, size_t field, uint32_t value, uint32_t number, uint32_t raised, uint32_t refusal)
 {
     s->field[field] = (struct field){s->field[field].width, value, number, raised};
     both(name, s, refusal, field);
 }
 
-// The sheet alone with one number changed, and refused at that number.
+// Changes one number, and checks that the sheet is refused at that number.
 static void sheet_with(const char *name, struct fields *s, size_t field, uint32_t number, uint32_t refusal)
 {
     s->field[field].number = number;
@@ -329,6 +332,7 @@ static void sheet_with(const char *name, struct fields *s, size_t field, uint32_
     refuses(name, seglink_sheet_to_packet, &sheet, refusal, byte_of(s, field));
 }
 
+// Checks the bits of the body and the bytes of packet and sheet.
 static void sizes(const char *name, const struct fields *s, size_t bits, size_t packet, size_t sheet)
 {
     check(name, "the body's count of bits", body_bits(s), bits);
@@ -351,7 +355,7 @@ static void no_changes(struct fields *s, uint32_t kmh)
     same(s, 5, 0);
 }
 
-// Every number in one group: no smaller sheet.
+// Makes the smallest segment: every number has one group.
 static void smallest(struct fields *s)
 {
     header(s, 6, 0, 0, 0, 0, 0);
@@ -380,7 +384,7 @@ static void largest_element(struct fields *s)
     }
 }
 
-// Every list full, and every number in as many groups as its field allows.
+// Makes the largest segment: every list is full, and every number has as many groups as its field allows.
 static void largest(struct fields *s)
 {
     header(s, 6, 0xFFFFFFFF, 16777215, 32767, 86399, 255);
@@ -406,7 +410,7 @@ static void largest(struct fields *s)
     }
 }
 
-// An element whose entries go through every class of every Q_DIFF, with speeds of their own.
+// Adds an element whose entries go through every class of every Q_DIFF, each with another speed.
 static void mixed_element(struct fields *s, uint32_t entries, uint32_t seed)
 {
     speed(s, (seed * 83 + 84) % 605);
@@ -422,7 +426,7 @@ static void mixed_element(struct fields *s, uint32_t entries, uint32_t seed)
     }
 }
 
-// Neighbouring fields differ, so that one written in another's place is seen; so many changes of voltage and of current.
+// Makes a segment with `voltages` changes of voltage and `currents` of current. Neighbouring fields differ, so that a field in a wrong place is seen.
 static void mixed(struct fields *s, uint32_t voltages, uint32_t currents)
 {
     header(s, 6, 0x12F45678, 0xABCDEF, 12345, 54321, 200);
@@ -448,7 +452,7 @@ static void mixed(struct fields *s, uint32_t voltages, uint32_t currents)
     }
 }
 
-// One list (SPEEDS, VOLTAGES or CURRENTS) with this many changes from a location on, a step apart; the others have none.
+// Makes the desk segment with `count` changes in the list `which` (SPEEDS, VOLTAGES or CURRENTS), from `first` on, `step` apart (in cm).
 static void list(struct fields *s, int which, uint32_t l_sp, uint32_t count, uint32_t first, uint32_t step)
 {
     struct fields plain;
@@ -471,10 +475,10 @@ static void list(struct fields *s, int which, uint32_t l_sp, uint32_t count, uin
 
 // ---- Journeys
 
-// Puts the i-th segment, timing point or constraint.
+// Adds the i-th segment, timing point or constraint.
 typedef void part(struct fields *, uint32_t);
 
-// A count and as many items from the i-th on, 31 or those that are left.
+// Adds a count and as many items from the i-th on: 31, or all that are left.
 static uint32_t items(struct fields *s, uint32_t i, uint32_t count, part *item)
 {
     uint32_t here = count - i < 31 ? count - i : 31;
@@ -486,7 +490,7 @@ static uint32_t items(struct fields *s, uint32_t i, uint32_t count, part *item)
 
 struct size { uint32_t segments, points, constraints; };
 
-// So many segments, timing points and constraints, 31 a segment as long as there are any.
+// Adds segments with their timing points and constraints, in numbers that `size` gives: 31 for each segment as long as any are left.
 static void journey(struct fields *s, struct size size, part *segment, part *point, part *constraint)
 {
     uint32_t points = 0, constraints = 0;
@@ -498,7 +502,7 @@ static void journey(struct fields *s, struct size size, part *segment, part *poi
     }
 }
 
-// From NID_TP to Q_TP_Alignment.
+// Adds the fields of a timing point from NID_TP to Q_TP_Alignment.
 static void arrival(struct fields *s, uint32_t nid_tp, uint32_t date, uint32_t seconds, uint32_t window, uint32_t alignment)
 {
     same(s, 32, nid_tp);
@@ -508,7 +512,7 @@ static void arrival(struct fields *s, uint32_t nid_tp, uint32_t date, uint32_t s
     same(s, 2, alignment);
 }
 
-// From Q_Stop_Skip_Passes to Q_Train_Hold.
+// Adds the fields of a timing point from Q_Stop_Skip_Passes to Q_Train_Hold.
 static void stop(struct fields *s, uint32_t kind, uint32_t information, uint32_t saving, uint32_t side, uint32_t opening, uint32_t coupler, uint32_t hold)
 {
     same(s, 2, kind);
@@ -520,7 +524,7 @@ static void stop(struct fields *s, uint32_t kind, uint32_t information, uint32_t
     same(s, 1, hold);
 }
 
-// From T_Departure_Date to Q_Automatic_Closing.
+// Adds the fields of a timing point from T_Departure_Date to Q_Automatic_Closing.
 static void departure(struct fields *s, uint32_t date, uint32_t seconds, uint32_t dwell, uint32_t closing)
 {
     same(s, 15, date);
@@ -529,7 +533,7 @@ static void departure(struct fields *s, uint32_t date, uint32_t seconds, uint32_
     same(s, 1, closing);
 }
 
-// A temporary constraint by its numbers from Q_TC_Type to Q_Low_Adhesion_Rate; no type uses the current.
+// Adds a temporary constraint by its numbers from Q_TC_Type to Q_Low_Adhesion_Rate; no type uses the current.
 static void constraint(struct fields *s, const uint32_t number[7])
 {
     same(s, 2, number[0]);
@@ -542,7 +546,7 @@ static void constraint(struct fields *s, const uint32_t number[7])
     current(s, 0);
 }
 
-// Every number in as many groups as its field allows.
+// Adds a segment whose numbers all have as many groups as their fields allow.
 static void full_segment(struct fields *s, uint32_t i)
 {
     (void)i;
@@ -569,13 +573,14 @@ static void full_journey(struct fields *s, uint32_t segments, uint32_t points, u
     journey(s, (struct size){segments, points, constraints}, full_segment, full_point, full_constraint);
 }
 
-// Neighbouring fields differ, and every kind of stop and of constraint comes, so that a field written in another's place is seen.
+// Adds a segment whose neighbouring fields differ, so that a field in a wrong place is seen.
 static void mixed_segment(struct fields *s, uint32_t i)
 {
     identity(s, i * 97 % 1024, 0x89ABCDEF + i * 12345, i * 17 % 256, 255 - i * 13 % 256);
     same(s, 1, i % 2);
 }
 
+// Adds a timing point whose neighbouring fields differ; one after the other they have every kind of stop.
 static void mixed_point(struct fields *s, uint32_t i)
 {
     arrival(s, i * 87654321, i * 1234 % 32768, i * 5432 % 86401, i * 37 % 1024, i % 3);
@@ -588,7 +593,7 @@ static void mixed_point(struct fields *s, uint32_t i)
     }
 }
 
-// Every type with every range, one after the other.
+// Adds a constraint; one after the other they have every type with every range.
 static void mixed_constraint(struct fields *s, uint32_t i)
 {
     uint32_t type = i % 4, range = i / 4 % 4, start = i * 54321 % 8388608, end = 8388608 + i * 12345 % 8388608;
@@ -603,7 +608,7 @@ static void mixed_journey(struct fields *s)
     journey(s, (struct size){9, 200, 100}, mixed_segment, mixed_point, mixed_constraint);
 }
 
-// One segment and one timing point, as journey_packet below; or the same point passed.
+// Adds the segment of journey_packet.
 static void one_segment(struct fields *s, uint32_t i)
 {
     (void)i;
@@ -611,6 +616,7 @@ static void one_segment(struct fields *s, uint32_t i)
     same(s, 1, 1);
 }
 
+// Adds the timing point of journey_packet.
 static void one_point(struct fields *s, uint32_t i)
 {
     (void)i;
@@ -619,6 +625,7 @@ static void one_point(struct fields *s, uint32_t i)
     departure(s, 23456, 86399, 777, 1);
 }
 
+// Adds the timing point of journey_packet as a passing point.
 static void passed_point(struct fields *s, uint32_t i)
 {
     (void)i;
@@ -634,7 +641,7 @@ static void one_journey(struct fields *s, bool passed)
     journey(s, (struct size){1, 1, 0}, one_segment, passed ? passed_point : one_point, full_constraint);
 }
 
-// The journey of one timing point with one constraint.
+// Makes the journey of one timing point with one constraint.
 static void constrained_journey(struct fields *s, const uint32_t number[7])
 {
     one_journey(s, false);
@@ -668,7 +675,7 @@ static const struct bytes journey_sheet = {
          0x90, 0xE4, 0xD0, 0xB2, 0x07, 0xB9, 0x60, 0x80, 0xA3, 0x05, 0xD9, 0x04, 0x01, 0x00, 0x01, 0x01,
          0x02, 0x01, 0x00, 0x01, 0xA0, 0xB7, 0x01, 0xFF, 0xA2, 0x05, 0x89, 0x06, 0x01, 0x00}};
 
-// The same journey with a restriction to 43 km/h from 1,000 to 2,500 cm, Q_FRONT 1; its speed is the byte 59.
+// The journey of journey_packet with a restriction to 43 km/h from 1,000 to 2,500 cm, Q_FRONT 1; in the sheet its speed is the byte 59.
 static const struct bytes restricted_packet = {
     51, {0x04, 0x01, 0x1A, 0x00, 0x01, 0x23, 0x45, 0x00, 0x00, 0x01, 0x00, 0x00, 0x00, 0x00, 0x07,
          0x20, 0x2A, 0xCC, 0x4D, 0x5E, 0x6F, 0x78, 0x8C, 0x14, 0x2E, 0xCA, 0x86, 0x42, 0x0C, 0x0E, 0x6A, 0x30, 0x12, 0xCA, 0x3A, 0xDB,
@@ -693,7 +700,7 @@ static void desk_cases(struct fields *s)
     converts("85 km/h", seglink_sheet_to_packet, &with85, &another);
 }
 
-// The altitude of the desk segment with this field for it, and of a packet that is refused.
+// Checks the altitude of the desk segment with M_SP_Altitude `sent`, and that the packet without its last byte is refused.
 static void altitude(struct fields *s, const char *name, uint32_t sent, int32_t centimetres)
 {
     desk(s, 80);
@@ -717,7 +724,7 @@ static void altitudes(struct fields *s)
     altitude(s, "altitude sent as 1,048,575", 1048575, 948575);
 }
 
-// One field of the desk segment changed: its value and number, the number that comes back, and the refusal.
+// Changes of one field of the desk segment: its value and number, the number that comes back, and the refusal.
 static const struct { const char *name; size_t field; uint32_t value, number, raised, refusal; } ONE[] = {
     {"packet number 7", NUMBER, 7, 7, 7, 2},
     {"NID_OPERATIONAL with a digit F", OPERATIONAL, 0xF0012349, 0xF0012349, 0xF0012349, 0},
@@ -746,7 +753,7 @@ static void single_fields(struct fields *s)
     }
 }
 
-// The field at fault is the first location, the second, which stands after what the change repeats, or the last.
+// Lists of changes with their refusal and the field at fault: the first location, the second, which stands after the first change's fields, or the last.
 static const struct { const char *name; int which; uint32_t l_sp, count, first, step, refusal; size_t field; } LISTS[] = {
     {"a speed change at L_SP - 1", SPEEDS, 1000, 1, 999, 1, 0, 0},
     {"a speed change at L_SP", SPEEDS, 1000, 1, 1000, 1, 5, SPEEDS + 1},
@@ -774,7 +781,7 @@ static const struct { const char *name; int which; uint32_t l_sp, count, first, 
     {"31 current changes, the last at L_SP", CURRENTS, 31, 31, 1, 1, 5, CURRENTS + 61},
 };
 
-// Counts that five bits do not hold, so that a sheet alone has them: all the changes are there.
+// Counts that five bits do not hold, so that only a sheet can have them: all the changes are there.
 static const struct { const char *name; int which; uint32_t count; } PAST[] = {
     {"32 speed changes", SPEEDS, 32},
     {"32 voltage changes", VOLTAGES, 32},
@@ -797,7 +804,7 @@ static void lists(struct fields *s)
 
 // ---- Damage, with the places counted by hand
 
-// A packet is refused; where it is a segment's, by the questions too.
+// Checks that a packet is refused; a segment's packet is refused by the questions too.
 static void packet_refused(const char *name, const struct bytes *packet, uint32_t refusal, uint32_t place)
 {
     refuses(name, seglink_packet_to_sheet, packet, refusal, place);
@@ -805,9 +812,9 @@ static void packet_refused(const char *name, const struct bytes *packet, uint32_
         packet_asked(name, packet, refusal, place);
 }
 
-// A packet of this many bytes and bits of its body, and with these bits changed, from one of them on: the place is the first bit of the
-// field at fault. The desk packet has 185 bits after the bit 120, the journey's 209: the last count of five bits begins at 300 and 324.
-// The restriction has 73 more, its fields begin at 329, 331, 333, 357, 381, 382, 389 and 392.
+// Damaged packets: `length` bytes, a body of `bits` bits, and `width` bits from the bit `at` on changed to `value`; the place is the first bit of
+// the field at fault. The desk packet has 185 bits after the bit 120, the journey's 209: the last count of five bits begins at 300 and 324.
+// The restriction has 73 bits more, its fields begin at 329, 331, 333, 357, 381, 382, 389 and 392.
 #define DESK &desk_packet, 39, 185
 #define JOURNEY &journey_packet, 42, 209
 #define RESTRICTED &restricted_packet, 51, 282
@@ -917,8 +924,8 @@ static void damaged_packets(void)
     }
 }
 
-// A sheet that begins as another, and ends with these bytes after its first ones. The numbers of the desk sheet have a byte each, but for
-// NID_OPERATIONAL, which has the bytes 1 to 3; those of the journey's have one to five. A restriction's begin at 52, 53, 54, 56 and 58 to 61.
+// Damaged sheets: the first `kept` bytes of `whole`, then the bytes `after`. The numbers of the desk sheet have a byte each, but for
+// NID_OPERATIONAL, which has the bytes 1 to 3; the journey's numbers have one to five. A restriction's numbers begin at 52, 53, 54, 56 and 58 to 61.
 #define BYTES(text) text, sizeof text - 1
 static const struct { const char *name; const struct bytes *whole; size_t kept; const char *after; size_t count; uint32_t refusal, place; } SHEETS[] = {
     {"an empty sheet", &desk_sheet, 0, BYTES(""), 9, 0},
@@ -994,7 +1001,7 @@ static void damaged_sheets(void)
 
 // ---- Speeds by cant deficiency, worked out by hand
 
-// The desk sheet, 80 km/h, with entries from the byte 19 on; its last six numbers are 0. The speed at 0 from the sheet, and from its packet.
+// Speeds at 0 cm of the desk sheet, 80 km/h, with entries from the byte 19 on: from the sheet, and from its packet. The sheet's last six numbers are 0.
 #define MM(figure) {.length = 200, .cant = figure}
 #define FOR_100_AND_165 2, BYTES("\x00\x64\x6E\x00\xA5\x01\x82\x01")
 #define BESIDE_CATEGORIES 3, BYTES("\x00\x64\x70\x01\x01\x8C\x01\x02\x02\x68")
@@ -1034,12 +1041,12 @@ static void speeds_by_cant(void)
 
 // ---- Speeds by kind
 
-// A packet of 81,924 cm and 105 km/h, and a sheet of 100 cm and 84 km/h with five entries for freight P.
+// Bytes that are a packet of 81,924 cm and 105 km/h, and also a sheet of 100 cm and 84 km/h with five entries for freight P.
 static const struct bytes packet_and_sheet = {
     39, {0x06, 0x00, 0xB9, 0x01, 0x00, 0x00, 0x07, 0x00, 0x00, 0x00, 0x00, 0x64, 0x00, 0x00, 0x00, 0x54, 0x00, 0x05,
          0x01, 0x00, 0x50, 0x01, 0x00, 0x50, 0x01, 0x00, 0x50, 0x01, 0x00, 0x50, 0x01, 0x01, 0x50, 0, 0, 0, 0, 0, 0}};
 
-// What is asked as a packet and as a sheet; a train that is not allowed comes before x.
+// Questions about bytes as a packet and as a sheet; a train that is not allowed is refused before x.
 static const struct { const char *name; const struct bytes *asked; seglink_train train; uint32_t x; seglink_speed packet, sheet; } BY_KIND[] = {
     {"a packet that is a sheet too, at 0", &packet_and_sheet, MM(150), 0, {0, 0, 105}, {0, 0, 84}},
     {"a packet that is a sheet too, freight P", &packet_and_sheet, {.length = 200, .cant = 150, .freight_p = true}, 0, {0, 0, 105}, {0, 0, 80}},
@@ -1061,7 +1068,7 @@ static void speeds_by_kind(void)
 
 // ---- The cases of journeys
 
-// One field of the journey of one timing point changed.
+// Changes of one field of the journey of one timing point.
 static const struct { const char *name; size_t field; uint32_t value, refusal; } STOPPED[] = {
     {"a journey with packet number 5", NUMBER, 5, 2},
     {"a journey with packet number 7", NUMBER, 7, 2},
@@ -1089,7 +1096,7 @@ static const struct { const char *name; size_t field; uint32_t value, refusal; }
     {"minimum dwell time 1,023", DWELL_TIME, 1023, 0},
 };
 
-// The same, of the journey whose point is passed: each of the last eight fields.
+// Changes of one field of the journey whose timing point is passed: each of the last eight fields.
 static const struct { const char *name; size_t field; uint32_t value, refusal; } PASSED[] = {
     {"a passing point", STOP_SKIP_PASSES, 2, 0},
     {"a door side at a passing point", DOOR_SIDE, 1, 4},
@@ -1108,7 +1115,7 @@ static void one_changed(struct fields *s, bool passed, const char *name, size_t 
     both_with(name, s, field, value, value, value, refusal);
 }
 
-// Numbers that a sheet can have and the packet's field cannot hold.
+// Numbers of a journey that a sheet can have and the packet's field cannot hold.
 static const struct { const char *name; size_t field; uint32_t number; } WIDE[] = {
     {"packet number 260", NUMBER, 260},
     {"256 segments", SEGMENTS, 256},
@@ -1138,13 +1145,13 @@ static void journey_fields(struct fields *s)
     }
 }
 
-// Constraints from Q_TC_Type to Q_Low_Adhesion_Rate, of which one field is changed.
+// Constraints by their numbers from Q_TC_Type to Q_Low_Adhesion_Rate; a case changes one field of them.
 enum { STARTS, RESTRICTS, SLIPPERY, MODES, GOA1 };
 static const uint32_t GIVEN[][7] = {
     [STARTS] = {0, 0, 1000, 0, 0, 43, 0}, [RESTRICTS] = {0, 2, 1000, 2500, 1, 43, 0}, [SLIPPERY] = {1, 1, 0, 2500, 0, 0, 5},
     [MODES] = {2, 3, 0, 0, 0, 0, 0}, [GOA1] = {3, 3, 0, 0, 0, 0, 0}};
 
-// The value and the number, the number that comes back, and the refusal: 5 where the start is not below the end.
+// Changes of one field of a constraint: its value and number, the number that comes back, and the refusal, 5 if the start is not below the end.
 static const struct { const char *name; int given; size_t field; uint32_t value, number, raised, refusal; } CONSTRAINED[] = {
     {"a start at 0", STARTS, TC_START, 0, 0, 0, 0},
     {"a start at the last location", STARTS, TC_START, 16777215, 16777215, 16777215, 0},
@@ -1188,7 +1195,7 @@ static const struct { const char *name; int given; size_t field; uint32_t value,
     {"the driving mode GoA1's current 512, and 4,294,967,295", GOA1, TC_CURRENT, 512, 0xFFFFFFFF, 0xFFFFFFFF, 4},
 };
 
-// Numbers that a sheet can have and the packet's field cannot hold, or that a speed loses: 4.
+// Numbers of a constraint that only a sheet can have, as the packet's field does not hold them or lowering loses them: 4.
 static const struct { const char *name; int given; size_t field; uint32_t number; } LOST[] = {
     {"type 4", STARTS, TC_TYPE, 4},
     {"type 4,294,967,295", MODES, TC_TYPE, 0xFFFFFFFF},
@@ -1219,7 +1226,7 @@ static void constraints(struct fields *s)
     }
 }
 
-// The restriction's packet is that of the sheet that comes back, too.
+// Checks the restriction: the sheet and the lowered sheet that comes back make one packet.
 static void restricted(void)
 {
     struct bytes lowered = restricted_sheet;
@@ -1233,7 +1240,7 @@ static void restricted(void)
     converts("a journey with a restriction to 45 km/h", seglink_sheet_to_packet, &lowered, &faster);
 }
 
-// A segment that calls itself a journey has no segments and then bits or bytes left; a journey that calls itself a segment ends too soon.
+// Checks crossed packet numbers: a segment with 4 has no segments and then bits or bytes left; a journey with 6 ends too soon.
 static void crossed(void)
 {
     struct bytes b = desk_packet;
@@ -1250,7 +1257,7 @@ static void crossed(void)
     refuses("a journey's sheet with packet number 6", seglink_sheet_to_packet, &b, 9, 8);
 }
 
-// A sheet cut anywhere is refused at the number that is not there whole.
+// Cuts a sheet at every byte, and checks that it is refused at the first number that is not complete.
 static void cut_sheets(const char *name, const struct bytes *whole)
 {
     for (size_t length = 0; length < whole->length; ++length) {
@@ -1263,7 +1270,7 @@ static void cut_sheets(const char *name, const struct bytes *whole)
     }
 }
 
-// A sheet whose body would be too long: 12 in every room; 9 and 4 come before it.
+// Checks a sheet whose body would be too long: it is refused with 12 in every room; 9 and 4 come before 12.
 static void too_long(const char *name, struct fields *s, uint32_t segments, uint32_t points, uint32_t constraints, size_t bits)
 {
     full_journey(s, segments, points, constraints);
@@ -1276,18 +1283,18 @@ static void too_long(const char *name, struct fields *s, uint32_t segments, uint
     b.length = length - 1;
     refuses(name, seglink_sheet_to_packet, &b, 9, length - 1);
     b.length = length;
-    b.byte[length - 1] = 32; // no count, and no current of a constraint
+    b.byte[length - 1] = 32; // neither a count nor a constraint's current can be 32
     refuses(name, seglink_sheet_to_packet, &b, 4, length - 1);
 }
 
-// The questions take a segment: 2, whatever the train and x.
+// Checks that the questions refuse a journey with 2, whatever the train and x.
 static void asks(const char *name, const struct bytes *packet, const struct bytes *sheet)
 {
     packet_asked(name, packet, 2, 0);
     sheet_asked(name, sheet, 2, 0);
 }
 
-// The largest journeys: their segments, timing points and constraints; the bits of the body, and the bytes of packet and sheet.
+// The largest journeys: their segments, timing points and constraints, the bits of the body, and the bytes of packet and sheet.
 static const struct { const char *name; uint32_t segments, points, constraints; size_t bits, packet, sheet; } LONGEST[] = {
     {"the largest packet of a journey without constraints", 41, 486, 0, 65534, SEGLINK_LARGEST_JOURNEY_PACKET, 15174},
     {"the largest packet of a journey", 20, 186, 550, 65535, SEGLINK_LARGEST_JOURNEY_PACKET, 14130},
@@ -1344,12 +1351,12 @@ static void journeys(struct fields *s)
 
 // ---- The intake, call by call
 
-// The room that takes packets, of up to 64 bytes, and what it must hold: with the bytes about it.
+// The room that takes packets, of up to 64 bytes, and the bytes that it must hold, both with guard bytes before and after them.
 enum { TAKEN = 64, NOWHERE = TAKEN + 1 };
 static uint8_t taken[GUARD + TAKEN + GUARD], held[GUARD + TAKEN + GUARD];
 
-// A call, and the state after it. A delivery is bytes from one on up to another, which go to a place of the room or nowhere. A question has
-// so many bytes of the room that took the packet and so many for the sheet; after it stand its answer's numbers, and from is the sheet.
+// A call, and the state after it. A delivery has the bytes of `from` from `begin` up to `end`, which go to the byte `at` of the room or nowhere.
+// A question hands over `begin` bytes of the room that took the packet and `end` bytes for the sheet; `from` is the sheet, `after` the answer's numbers.
 struct step { const char *name; enum { DELIVER, COMPLETE, ASK } call; const struct bytes *from; size_t begin, end, at; seglink_intake after; };
 
 #define DELIVERS(from, begin, end, at) DELIVER, &from, begin, end, at
@@ -1368,7 +1375,7 @@ static const struct bytes padded_packet = {
          0, 0, 0, 0, 0, 0, 0, 0, 0, 0, 0x40, 0, 0, 0, 0, 0, 0x01, 0, 0, 0, 0, 0x3F, 0xF0, 0x24}};
 static const struct bytes noise = {43, {5, 9, 9, 9, 9, 9, 9, 9, 9, 9, 9, 9, 9, 9, 9, 9}};
 
-// One after the other, in a room of 42 bytes.
+// Calls that follow one another, in a room of 42 bytes.
 static const struct step STEPS[] = {
     {"a fresh intake asked", ASKS(desk_sheet, 42, 30), EARLY},
     {"no bytes to a fresh intake", DELIVERS(desk_packet, 0, 0, NOWHERE), GATHERING(0)},
@@ -1419,7 +1426,7 @@ static const struct step STEPS[] = {
     {"the sheet of a packet after a refusal", ASKS(desk_sheet, 42, 25), GIVEN(25)},
 };
 
-// States that no call returned, in a room of 45 bytes that begins with the desk packet.
+// Calls in states that no call returned, in a room of 45 bytes that begins with the desk packet.
 static const struct { seglink_intake before; struct step step; } WILD_STATES[] = {
     {{3, 39, 9, 9}, {"phase 3 completed", COMPLETES, JUDGED(39, 0, 0)}},
     {{0xFFFFFFFF, 38, 0, 0}, {"phase 4,294,967,295 completed, a byte short", COMPLETES, JUDGED(38, 3, 0)}},
@@ -1475,7 +1482,7 @@ static void asked(const struct step *step, seglink_intake intake)
     answered(step->name, "a question", step->end, 0xA5, c, step->after.refusal, step->after.place, &sheet);
 }
 
-// The state after a call, in a room of so many bytes: every byte of the room is looked at, and those about it.
+// Makes a call with a room of `room` bytes, checks the answer and every byte in and about the room, and returns the state after the call.
 static seglink_intake stepped(const struct step *step, seglink_intake intake, size_t room)
 {
     size_t length = step->end - step->begin;
@@ -1494,7 +1501,7 @@ static seglink_intake stepped(const struct step *step, seglink_intake intake, si
     return intake;
 }
 
-// A state counts 4,294,967,295 bytes and no more. Of a room of one more the system gives the pages that are written.
+// Checks that a state counts 4,294,967,295 bytes and no more, in a room of one byte more. The system gives memory only for pages that are written.
 static void counted(void)
 {
     const char *name = "a room of 4,294,967,296 bytes";
@@ -1529,7 +1536,7 @@ static void intakes(void)
     counted();
 }
 
-// The questions about the largest segment, whose lists are all full.
+// Checks the answers about the largest segment, whose lists are all full.
 static void largest_asked(const struct fields *s)
 {
     static const char name[] = "the largest segment";
@@ -1589,7 +1596,7 @@ static double now(void)
     return (double)t.tv_sec * 1e9 + (double)t.tv_nsec;
 }
 
-// The median over the rounds of the nanoseconds that one field takes.
+// Prints the median over the rounds of the nanoseconds that one field takes.
 static void timed(const char *name, conversion *convert, const struct bytes *in, size_t fields)
 {
     size_t repeats = FIELDS_A_ROUND / fields;

@@ -13,12 +13,12 @@ def field(width, value):
 
 
 def element(speed, front, entries=()):
-    """V_STATIC, Q_FRONT, and the specific entries."""
+    """Returns the bits of an element: V_STATIC (`speed`, in steps of 5 km/h), Q_FRONT and the specific entries."""
     return field(7, speed) + field(1, front) + field(5, len(entries)) + "".join(field(2, q) + field(4, c) + field(7, v) for q, c, v in entries)
 
 
 def body(names=(0, 0), length=1, altitude=0, first=(16, 0), changes=(), volts=(), amperes=()):
-    """The bits of a body: names are NID_C and NID_SP; a change is a location and an element's values."""
+    """Returns the bits of a body: `names` are NID_C and NID_SP; a change is a location and an element's values."""
     bits = field(10, names[0]) + field(32, names[1]) + field(8, 0) * 2 + field(24, length) + field(24, 0) + field(7, 0) + field(20, altitude)
     bits += element(*first) + field(5, len(changes)) + "".join(field(24, at) + element(*values) for at, *values in changes)
     bits += field(4, 0) + field(10, 0) + field(5, len(volts)) + "".join(field(24, at) + field(4, v) + field(10, c) for at, v, c in volts)
@@ -50,7 +50,7 @@ LAST = 16777215
 
 
 def accepted():
-    """Packets with every number of the listing apart from the others, at both ends, and with entries and wire changes to be passed over."""
+    """Yields accepted packets with their listings: all numbers different, all at both ends, and with entries and wire changes to pass over."""
     yield "the document's packet", SAMPLE, TWO_LINES
     yield "the same, written here", packet(body()), TWO_LINES
     yield "all numbers apart", packet(body((1, 23), 1000, 100456, (20, 1, ENTRIES), CHANGES, [(3, 1, 5)], [(4, 1000)])), (
@@ -64,7 +64,7 @@ def accepted():
 
 
 def refused():
-    """Packets with their refusal and its place: the first bit of the field at fault, the first that is left, the first padding bit that is 1."""
+    """Yields packets with their refusal and its place: the first bit of the field at fault, the first bit left, the first padding bit that is 1."""
     yield "empty input", b"", 1, 0
     yield "fourteen bytes", SAMPLE[:14], 1, 0
     yield "packet number 7", packet(body(), number=7), 2, 0
@@ -96,13 +96,13 @@ def refused():
 
 
 def said(data):
-    """What the program prints of the data on a pipe."""
+    """Runs the program with the data on a pipe, and returns its status and what it prints."""
     done = subprocess.run(RUN, input=data, capture_output=True, check=False)
     return done.returncode, done.stdout.decode("ascii", "replace"), done.stderr.decode("ascii", "replace")
 
 
 def piece_by_piece(data):
-    """The same, where the data comes in three pieces."""
+    """Runs the program with the data in three pieces, and returns its status and what it prints."""
     child = subprocess.Popen(RUN, stdin=subprocess.PIPE, stdout=subprocess.PIPE, stderr=subprocess.PIPE)
     for piece in (data[:1], data[1:20], data[20:]):
         child.stdin.write(piece)

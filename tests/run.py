@@ -1,43 +1,27 @@
 #!/usr/bin/env python3
 """The tests beside the proofs: what rt does not look at. 'sources' runs those that read the sources alone, 'logs' those that read what rt ci
 left in target/ too, no word all of them."""
-import pathlib
 import re
 import sys
 
-ROOT = pathlib.Path(__file__).resolve().parent.parent
-CRATES = [line.split(":")[0].strip() for line in (ROOT / "crates.txt").read_text().splitlines() if ":" in line.split("#")[0]]
+import pages
+from sources import CRATES, ROOT, declares, edits, functions, modules, public_functions, replacements, sources
+
 SECONDS = 120
+SENTENCE = 300
 # what an error says that is of the edit's shape, or of another declaration, and not of a fact
 SHAPES = ("can be named from here", "has no field", "was not admitted")
 
 
-def functions(path):
-    """Each function of a source file: its first line's number, whether it is public, its name, its head up to the body."""
-    lines = path.read_text().splitlines()
-    for i, line in enumerate(lines):
-        m = re.match(r'^(\s*)(pub )?(extern "C" )?fn (\w+)', line)
-        if not m:
-            continue
-        head = []
-        for j in range(i, len(lines)):
-            head.append(lines[j])
-            if lines[j] == m.group(1) + "{" or lines[j].endswith(") {"):
-                break
-        yield i + 1, bool(m.group(2)), m.group(4), "\n".join(head)
-
-
-def sources(crate, folder, suffix):
-    return sorted((ROOT / "crates" / crate / folder).glob("**/*" + suffix))
-
-
 def contracts():
-    """Every public function says what it returns."""
+    """Every public function says what it returns, and no public operation asks for anything beforehand."""
     for crate in CRATES:
         for path in sources(crate, "src", ".rt"):
             for line, public, name, head in functions(path):
                 if public and "ensures" not in head:
                     yield f"{path.relative_to(ROOT)}:{line}: {name} has no ensures"
+                if public and crate == "seglink" and "requires" in head:
+                    yield f"{path.relative_to(ROOT)}:{line}: {name} has a requires"
 
 
 def headed():
@@ -47,6 +31,26 @@ def headed():
             for path in sources(crate, folder, suffix):
                 if path.name != "Lib.antt" and not path.read_text().startswith(mark):
                     yield f"{path.relative_to(ROOT)} does not start with a sentence"
+
+
+def commented():
+    """Every function whose body has more than one line has a comment above it."""
+    for crate in CRATES:
+        for path in sources(crate, "src", ".rt"):
+            lines = path.read_text().splitlines()
+            for line, _, name, head in functions(path):
+                first, indent = line + head.count("\n"), re.match(" *", lines[line - 1]).group()
+                if lines.index(indent + "}", first) - first > 1 and not lines[line - 2].strip().startswith("//"):
+                    yield f"{path.relative_to(ROOT)}:{line}: {name} has no comment"
+
+
+def plain():
+    """No comment begins with "The same" or contains "Assumes nothing"."""
+    for crate in CRATES:
+        for path in sources(crate, "src", ".rt") + sources(crate, "specs", ".antt") + sources(crate, "proofs", ".antt"):
+            for number, line in enumerate(path.read_text().splitlines(), 1):
+                if re.match(r"\s*(//|--)[ -]*(the same\b|.*assumes nothing)", line, re.I):
+                    yield f"{path.relative_to(ROOT)}:{number}: {line.strip()}"
 
 
 def no_axioms():
@@ -73,31 +77,17 @@ def quick():
             yield f"{crate}: {took.group(0) if took else 'not proved'}"
 
 
-def edits():
+def refused():
     """A crate with public functions has must-fail edits, and each is refused because a fact fails, and not for its shape."""
     for crate in CRATES:
-        public = [name for path in sources(crate, "src", ".rt") for _, p, name, _ in functions(path) if p]
-        labels = sorted((ROOT / "crates" / crate / "must-fail").glob("*.edit"))
-        if public and len(labels) < 2:
+        labels = edits(crate)
+        if list(public_functions(crate)) and len(labels) < 2:
             yield f"{crate} has public functions and {len(labels)} must-fail edits"
         for label in labels:
             log = (ROOT / "target" / "must-fail" / crate / label.stem / ".log").read_text()
             errors = [line for line in log.splitlines() if ": error: " in line or "it is not proved that" in line]
             if not errors or any(shape in errors[0] for shape in SHAPES):
                 yield f"{crate}/{label.stem}: {errors[0][:200] if errors else 'no error'}"
-
-
-def replacements(label):
-    """Each replacement of a must-fail edit as rt reads it: the file, the old text, the new one."""
-    file = old = ""
-    for line in label.read_text().split("\n"):
-        if line.startswith("file: "):
-            file = line.removeprefix("file: ")
-        elif line.startswith("old: "):
-            old = line.removeprefix("old: ")
-        elif line.startswith("new:"):
-            yield file, old, line.removeprefix("new:").removeprefix(" ")
-            old = ""
 
 
 def appliable():
@@ -118,35 +108,96 @@ def appliable():
             texts[file] = text.replace(old, new)
 
 
-def promises():
+def cited():
     """Every theorem that the documents cite as `name` in a file of theirs stands there."""
     for page in sorted((ROOT / "docs").glob("**/*.md")):
         for name, file in re.findall(r"`([^`\s]+)` \(`(crates/[^`]+\.antt)`\)", page.read_text()):
-            path = ROOT / file
-            if not path.exists() or not re.search(r"^\s*((abbrev|unfoldable) )?(pub )?(record |data )?%s( |$)" % re.escape(name), path.read_text(), re.M):
+            if not (ROOT / file).exists() or not declares(ROOT / file, name):
                 yield f"{page.relative_to(ROOT)}: {name} is not in {file}"
 
 
-def listed():
-    """Every must-fail edit is listed on the contracts' page, and every edit listed there stands in a crate."""
-    page = (ROOT / "docs" / "CONTRACTS.md").read_text()
-    labels = {path.stem for path in (ROOT / "crates").glob("*/must-fail/*.edit")}
-    for label in sorted(labels):
-        if f"`{label}`" not in page:
-            yield f"docs/CONTRACTS.md does not list {label}"
-    for row in re.findall(r"^\|.*\|.*\|(.*)\|$", page, re.M):
+def up_to_date():
+    """The laws' page and the lists of edits on the contracts' page are what tests/pages.py writes."""
+    for path, text in pages.pages():
+        if not path.exists() or path.read_text() != text:
+            yield f"{path.relative_to(ROOT)} is not up to date: run python3 tests/pages.py"
+    for crate in pages.unmarked(pages.CONTRACTS.read_text()):
+        yield f"docs/CONTRACTS.md has not one list of the edits of {crate}"
+
+
+def stands_for(name, function):
+    """Whether a name in the contracts' tables is a function's, or has T for the function's type."""
+    return re.fullmatch(re.sub(r"\bT::", r"\\w+::", name), function) is not None
+
+
+def contracted():
+    """The tables of the contracts' page have every public function under its crate, and no other; an edit that its text names is one of a crate's."""
+    page = pages.MARKED.sub("", pages.CONTRACTS.read_text())
+    tables = {heading: re.findall(r"^\| (`.*?) \|", body, re.M) for heading, body in pages.sections(page)}
+    for crate in CRATES:
+        names = re.findall(r"`([^`]+)`", " ".join(tables.get(crate, ())))
+        public = list(public_functions(crate))
+        for function in public:
+            if not any(stands_for(name, function) for name in names):
+                yield f"docs/CONTRACTS.md does not have {crate}::{function}"
+        for name in names:
+            if not any(stands_for(name, function) for function in public):
+                yield f"docs/CONTRACTS.md has {name} under {crate}, which is no public function of it"
+    labels = {path.stem for crate in CRATES for path in edits(crate)}
+    for row in re.findall(r"^\|.*\|(.*)\|$", dict(pages.sections(page))["Crossed wires and false converters"], re.M):
         for label in re.findall(r"`(\w+)`", row):
-            if label not in labels and label not in CRATES:
-                yield f"docs/CONTRACTS.md lists {label}, which no crate tries"
+            if label not in labels:
+                yield f"docs/CONTRACTS.md names the edit {label}, which no crate tries"
+
+
+def short_sentences():
+    """Every sentence of the promises' page is under 300 characters."""
+    text = re.sub(r"^(#+|>|-|\d+\.) |\|", "\n\n", pages.PROMISES.read_text(), flags=re.M)
+    for paragraph in re.split(r"\n\s*\n", text):
+        for sentence in re.split(r"(?<=[.!?])[\"*)]*\s+", " ".join(paragraph.split())):
+            if len(sentence) >= SENTENCE:
+                yield f"docs/PROMISES.md: {len(sentence)} characters: {sentence[:80]} .."
+
+
+def promised_files():
+    """Each file is named once on the promises' page and exists, a file of proofs or of code in a heading."""
+    page = pages.PROMISES.read_text()
+    files = re.findall(r"`(\w[\w.-]*/[^`\s]*)`", page)
+    headings = " ".join(heading for heading, _ in pages.sections(page))
+    for file in dict.fromkeys(files):
+        if not (ROOT / file).is_file():
+            yield f"docs/PROMISES.md names {file}, which is not there"
+        if files.count(file) != 1:
+            yield f"docs/PROMISES.md names {file} {files.count(file)} times"
+        if re.search("/(proofs|src)/", file) and f"`{file}`" not in headings:
+            yield f"docs/PROMISES.md names {file}, and not in a heading"
+
+
+def promised_names():
+    """Every name on the promises' page is declared in the file of its heading, or is a word of the page that is declared in the file of its row."""
+    page, words, said = pages.PROMISES.read_text(), set(), []
+    for heading, body in pages.sections(page):
+        for file, row in re.findall(r"^\| `(crates/[^`]+)` \|(.*)\|$", body, re.M):
+            for name in re.findall(r"`([^`]+)`", row):
+                words.add(name)
+                if not (ROOT / file).is_file() or not declares(ROOT / file, name):
+                    yield f"docs/PROMISES.md: {name} is not in {file}"
+        said.append((re.findall(r"`(crates/[^`]+)`", heading), [name for name in re.findall(r"`([^`]+)`", re.sub(r"^\| `crates/.*$", "", body, flags=re.M)) if "/" not in name]))
+    proved = {name for files, names in said if files for name in names}
+    for files, names in said:
+        for name in dict.fromkeys(names):
+            if name not in words and not any((ROOT / file).is_file() and declares(ROOT / file, name) for file in files) and (files or name not in proved):
+                yield f"docs/PROMISES.md: {name} is not in {files[0] if files else 'a file that a heading names'}"
 
 
 def placed():
-    """Every file of definitions stands on the promises' page, in a row with its crate."""
-    rows = re.findall(r"^\|(.*)\|(.*)\|$", (ROOT / "docs" / "PROMISES.md").read_text(), re.M)
+    """Every file of definitions that a promise can name has its row on the laws' page."""
+    page = pages.LAWS.read_text()
     for crate in CRATES:
-        for path in sources(crate, "specs", ".antt"):
-            if path.stem[0].isupper() and path.name != "Lib.antt" and not any(f"`{crate}`" in names and f"`{path.stem}`" in files for names, files in rows):
-                yield f"docs/PROMISES.md does not place {path.relative_to(ROOT)}"
+        for path in modules(crate, "specs"):
+            file = path.relative_to(ROOT / "crates" / crate)
+            if "internal" not in file.parts and f"| `{crate}` | `{file}` |" not in page:
+                yield f"docs/LAWS.md does not place {path.relative_to(ROOT)}"
 
 
 def used(name, text):
@@ -169,7 +220,10 @@ def imports():
                         yield f"{path.relative_to(ROOT)} imports {name.strip()} and does not use it"
 
 
-TESTS = {"sources": (contracts, headed, imports, appliable, listed, promises, placed), "logs": (no_axioms, quick, edits)}
+TESTS = {
+    "sources": (contracts, headed, commented, plain, imports, appliable, up_to_date, contracted, cited, promised_files, promised_names, short_sentences, placed),
+    "logs": (no_axioms, quick, refused),
+}
 
 
 def main(words):

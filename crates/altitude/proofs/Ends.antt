@@ -1,4 +1,4 @@
--- The altitudes at both ends and at zero, and the document's sample packet.
+-- The lowest and the highest altitude, altitude 0, and the altitude of the document's sample packet.
 use mathlib.Core.Path.{_≡_, refl}
 use lib.IntN.{pos, negsuc}
 use Rattle.bits.specs.Bits.{fieldAt}

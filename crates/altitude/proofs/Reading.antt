@@ -1,4 +1,4 @@
--- The altitude's field in an accepted packet: the twenty bits from the bit 233 on.
+-- M_SP_Altitude in an accepted packet is the twenty bits from the bit 233 on.
 use mathlib.Core.Path.{_≡_, refl, sym, ap, _∙_}
 use mathlib.Core.Bool.{Bool}
 use mathlib.Core.List.{List}
@@ -36,7 +36,7 @@ use Rattle.altitude.specs.Altitude.{centimetres, altitudeField, altitude
 use Rattle.altitude.proofs.Signs.{centimetres-fit}
 use Rattle.altitude.proofs.Standing.{Written, Stands, here, past}
 
--- twelve fields after L_PACKET_ATO stand before it
+-- twelve fields stand between L_PACKET_ATO and M_SP_Altitude
 twelfth : (b : List Bool) (l : List Item) → Written b (fields wireChanges) 0 l → Stands b 12 209 20 l
 unfolding fields body
 twelfth b l h =
@@ -44,7 +44,7 @@ twelfth b l h =
     past b λ v7 l7. past b λ v8 l8. past b λ v9 l9. past b λ v10 l10. past b λ v11 l11. past b λ v12 l12. here b (lit< tt)) h
 
 module _ (s : List ℕ) where
-  -- what is known of the altitude's field in an accepted packet
+  -- M_SP_Altitude of an accepted packet is inside the packet and gives the altitude
   pub record Field : Type 0 where
     pub value : altitudeOf s ≡ record { refusal = 0; place = 0; altitude = centimetres (fieldAt s 233 20) }
     pub inside : 253 ≤ 8 * length s
@@ -81,7 +81,7 @@ module _ (s : List ℕ) where
         go (Frame.Refused r) d = accepted-frame Segment s r a d
         go (Frame.End stop) d = in-frame stop d
 
-  -- ---- by the verdict
+  -- ---- the altitude from the verdict
 
   pub altitude-accepted : (n : ℕ) → SheetBytes n ≡ packetVerdict Segment s → Field
   unfolding packetVerdict fromPacket fields sheetFields
@@ -91,7 +91,7 @@ module _ (s : List ℕ) where
   unfolding packetVerdict altitudeOf fromPacket fields sheetFields
   altitude-refused r place e = rw (verdict-refused packet-sorts (sizeFrom sheet (treeSheetFields Segment) 0) (fromPacket wireChanges s) r place e)
 
-  -- the signed number made of the field, as it is returned
+  -- the signed number of 32 bits that is made of the field is the altitude
   pub altitude-done : (n : ℕ) → SheetBytes n ≡ packetVerdict Segment s → (v : ℕ) (z : ℤ) → v ≡ fieldAt s 233 20 → z ≡ centimetres v
       → _≡_ {A = Altitude} (record { refusal = 0; place = 0; altitude = toZ w32 (ofZ w32 z) }) (altitudeOf s)
   altitude-done n e v z p q =

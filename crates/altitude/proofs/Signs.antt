@@ -1,4 +1,4 @@
--- A value of twenty bits as a signed number of 32 bits, before and after 100,000 is taken from it.
+-- A value of twenty bits fits a signed number of 32 bits, before and after 100,000 is subtracted from it.
 use mathlib.Core.Path.{_≡_}
 use Prim.Native.Nat.{ℕ, _<_, _^_}
 use native.Mathlib.Decide.{decLt}
@@ -14,7 +14,7 @@ module _ (v : ℕ) (h : v < 2 ^ 20) where
   pub same-signed : toZ w32 v ≡ pos v
   same-signed = rw (lt-ltb v (2 ^ 31) (omega arith))
 
-  -- within 100,000 of 0, or below 2 ^ 20
+  -- an altitude is negative and at least -100,000, or below 2 ^ 20
   pub centimetres-fit : SFits w32 (centimetres v)
   centimetres-fit = record { sfits = go (decLt v 100000) }
     where

@@ -1,4 +1,4 @@
--- Where a value stands in bits that were written of values: past each field in front, and at its own.
+-- Where a value stands among the bits that conforming values are written as: after the widths of the fields before it.
 use mathlib.Core.Path.{_≡_, sym, ap, _∙_}
 use mathlib.Core.Bool.{Bool}
 use mathlib.Core.List.{List}
@@ -16,12 +16,12 @@ use Rattle.format.specs.Media.{packet}
 use Rattle.format.specs.Conforming.{Conforming, also, InPacket}
 
 module _ (b : List Bool) where
-  -- from the bit at on, the bits are those of conforming values
+  -- the bits from the bit `at` on are the bits of values that conform to f
   pub record Written (f : Format) (at : ℕ) (l : List Item) : Type 0 where
     pub good : Conforming InPacket f l
     pub bits : drop at b ≡ write packet f l
 
-  -- there is a value number n, and it is the number of the w bits from the bit at on
+  -- the value n of l, counted from 0, is the number of the w bits from the bit `at` on
   pub record Stands (n at w : ℕ) (l : List Item) : Type 0 where
     pub value : getD (packetValues l) n 0 ≡ number (take w (drop at b))
     pub inside : at + w ≤ length b

@@ -1,4 +1,4 @@
-// The altitude of a packet in signed centimetres.
+// The altitude of a segment in signed centimetres, from its packet.
 ghost use mathlib.Core.Path.{_≡_};
 ghost use Prim.Native.Nat.{_<_, _^_};
 ghost use Rattle.altitude.specs.Altitude.{centimetres, altitudeOf};
@@ -7,7 +7,7 @@ use grammar::segment::layout::ALTITUDE;
 use kinds::body;
 use verdict::PacketVerdict;
 
-// A refusal's number and its place, or 0 and the altitude.
+// Answer to an altitude question: 0, 0 and the altitude in cm; or a refusal's number, its place (a bit of the packet) and 0.
 #[repr(C)]
 pub struct Altitude {
     pub refusal: u32,
@@ -15,10 +15,10 @@ pub struct Altitude {
     pub altitude: i32,
 }
 
-// What is added to an altitude that is sent.
+// Centimetres that are added to an altitude when it is sent.
 const ADDED: i32 = 100000;
 
-// The altitude that is sent as v.
+// Returns the altitude in cm that is sent as `v`.
 fn signed(v: u32) -> i32
     requires { ⌜ v < 2 ^ 20 ⌝ }
     ensures { λ r. ⌜ r ≡ centimetres v ⌝ }
@@ -26,7 +26,7 @@ fn signed(v: u32) -> i32
     v as i32 - ADDED
 }
 
-// The altitude of a packet, or its refusal.
+// Judges a segment's packet and answers its altitude in cm, or its refusal.
 pub fn altitude_of_packet(packet: &[u8]) -> Altitude
     ensures { λ r. ⌜ r ≡ altitudeOf (now (packet .entry)) ⌝ }
 {

@@ -1,4 +1,4 @@
--- The two conversions: an answer and the whole room, for any bytes and any room.
+-- The two conversions, each a total function from bytes and a room to an answer and every byte of the room.
 use mathlib.Core.Bool.{cond}
 use mathlib.Core.List.{List, _++_}
 use Prim.Native.Nat.{ℕ}
@@ -31,10 +31,10 @@ abbrev pub converted : (List Item → List ℕ) → Read → List ℕ → Outcom
 converted write (refused r place) room = refusedWith r place room
 converted write (accepted l) room = fitted (write l) room
 
--- "packet to sheet", a segment's or a journey's
+-- "packet to sheet", of a segment or a journey
 unfoldable pub packetToSheet : List ℕ → List ℕ → Outcome
 packetToSheet s room = converted toEitherSheet (fromEitherPacket s) room
 
--- "sheet to packet", a segment's or a journey's
+-- "sheet to packet", of a segment or a journey
 unfoldable pub sheetToPacket : List ℕ → List ℕ → Outcome
 sheetToPacket s room = converted toEitherPacket (fromEitherSheet s) room

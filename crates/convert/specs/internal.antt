@@ -1,2 +1,2 @@
--- What the code needs and no promise names.
+-- Used by contracts of the code; no promise names these.
 pub mod Writers

@@ -1,4 +1,4 @@
--- From an accepted packet to its sheet: what the writers are handed, and what they leave.
+-- From an accepted packet to its sheet: what the writers require, and what they leave in the room.
 use mathlib.Core.Path.{_≡_, refl, sym, ap, _∙_}
 use mathlib.Core.List.{List, [], _∷_, _++_}
 use Prim.Native.Nat.{ℕ, _+_, _<_, _≤_}
@@ -32,7 +32,7 @@ use Rattle.verdict.proofs.Accepted.{verdict-accepted, verdict-refused, accepted
 use Rattle.convert.specs.Convert.{Outcome, refusedWith, successWith, fitted, converted, packetToSheet}
 use Rattle.convert.specs.internal.Writers.{sheetOf, SheetWritable, treeToSheet}
 
--- bytes written at the front of a room that holds them
+-- bytes written at the start of a room that holds them make the outcome of a success
 pub done-placed : (bytes room : List ℕ) (n : ℕ) (cells : List ℕ) → n ≡ length bytes → length bytes ≤ length room → cells ≡ sets room 0 bytes
     → _≡_ {A = Outcome} (record { answer = record { refusal = 0; place = 0; length = n }; room = cells }) (successWith bytes room)
 done-placed bytes room n cells l f q =
@@ -40,7 +40,7 @@ done-placed bytes room n cells l f q =
     let b : cells ≡ bytes ++ drop (length bytes) room = q ∙ sets-eq bytes room 0 (omega arith) ∙ rw z in
     λ j. record { answer = record { refusal = 0; place = 0; length = l j }; room = b j }
 
--- the packet number has one byte
+-- the packet number has one byte in the sheet
 number-bytes : (t : Tree) → length (groupsIn (treeNumber t)) ≡ 1
 unfolding groupsIn
 number-bytes Segment = refl
@@ -94,7 +94,7 @@ module _ (t : Tree) (s : List ℕ) where
     unfolding packetVerdict
     counted = verdict-accepted packet-sorts (sizeFrom sheet (treeSheetFields t) 0) (treePacket t s) n e λ p q. q
 
-    -- the frame of the packet, and its parts
+    -- an accepted packet has a frame, and the values of its fields
     framed : {C : Type 0} → ((stop : ℕ) → Parts t s stop (valuesOf (treePacket t s)) → C) → C
     framed {C} f = go (frameOf (treeNumber t) s) refl
       where
@@ -132,12 +132,12 @@ module _ (t : Tree) (s : List ℕ) where
         let f : length (sheetOf t s) ≤ length room = omega arith in
         done-placed (sheetOf t s) room n cells l f q ∙ sym (by-values ∙ rw (le-ltb (length room) (length (sheetOf t s)) f))
 
--- the tree is the packet number's
+-- the conversion by the tree that the packet number names is the conversion
 pub sheet-by-tree : (s room : List ℕ) → treeToSheet (treeOf (packetNumber s)) s room ≡ packetToSheet s room
 unfolding treeToSheet packetToSheet fromEitherPacket
 sheet-by-tree s room = refl
 
--- no byte has no packet number
+-- a packet of no byte counts as a segment
 pub no-number : (s : List ℕ) → length s ≡ 0 → Segment ≡ treeOf (packetNumber s)
 unfolding fieldAt
 no-number [] e = refl

@@ -1,4 +1,4 @@
-// From a packet to its sheet.
+// The conversion of a packet, of a segment or a journey, to its sheet: the packet is judged whole, then its sheet is written.
 
 ghost use mathlib.Core.Path.{_≡_};
 ghost use Prim.Native.Nat.{_≤_};
@@ -18,7 +18,7 @@ use kinds::refusals::SHORT_ROOM;
 use verdict::PacketVerdict;
 use verdict::frame::Frame;
 
-// Writes the numbers of a packet's fields, by its tree.
+// Writes the numbers of the fields of an accepted packet, from the bit 24 up to the bit `stop`, into `room` from the byte `start` on.
 fn write_fields(tree: Tree, packet: &[u8], stop: usize, room: &mut [u8], start: usize)
     requires { ⌜ FieldsWritable tree (now packet) stop (now room) start × (8 ≤ length (now packet)) ⌝ }
     ensures { λ _. ⌜ now (room .exit) ≡ sets (now (room .entry)) start (fieldsOf tree (now (packet .entry)) stop) ⌝ }
@@ -29,7 +29,7 @@ fn write_fields(tree: Tree, packet: &[u8], stop: usize, room: &mut [u8], start: 
     }
 }
 
-// Writes the sheet of an accepted packet, whose packet number is this one.
+// Writes the sheet of an accepted packet at the start of `room`. `number` is the packet number of `tree`.
 fn write_sheet(tree: Tree, number: u32, packet: &[u8], room: &mut [u8])
     requires { ⌜ SheetWritable tree (now packet) (now room) × (number ≡ treeNumber tree) ⌝ }
     ensures { λ _. ⌜ now (room .exit) ≡ sets (now (room .entry)) 0 (sheetOf tree (now (packet .entry))) ⌝ }
@@ -43,7 +43,7 @@ fn write_sheet(tree: Tree, number: u32, packet: &[u8], room: &mut [u8])
     }
 }
 
-// The same with the tree's own packet number.
+// Writes the sheet of an accepted packet at the start of `room`, with the packet number that `tree` has.
 fn write_tree(tree: Tree, packet: &[u8], room: &mut [u8])
     requires { ⌜ SheetWritable tree (now packet) (now room) ⌝ }
     ensures { λ _. ⌜ now (room .exit) ≡ sets (now (room .entry)) 0 (sheetOf tree (now (packet .entry))) ⌝ }
@@ -51,7 +51,7 @@ fn write_tree(tree: Tree, packet: &[u8], room: &mut [u8])
     write_sheet(tree, grammar::link::number(tree), packet, room);
 }
 
-// The sheet of a packet of a tree, in a lent room.
+// Judges a packet of `tree` and writes its sheet at the start of `room`. A refusal, 8 for a short room among them, writes nothing.
 fn tree_to_sheet(tree: Tree, packet: &[u8], room: &mut [u8]) -> Converted
     ensures { λ r. ⌜ record { answer = r; room = now (room .exit) } ≡ treeToSheet tree (now (packet .entry)) (now (room .entry)) ⌝ }
 {
@@ -67,7 +67,7 @@ fn tree_to_sheet(tree: Tree, packet: &[u8], room: &mut [u8]) -> Converted
     }
 }
 
-// The tree of a packet, by its packet number.
+// Returns the tree that the packet number, the first byte, names: a journey for 4, a segment for any other number or for no byte.
 pub fn tree_of(packet: &[u8]) -> Tree
     ensures { λ r. ⌜ r ≡ treeOf (packetNumber (now (packet .entry))) ⌝ }
 {
@@ -77,7 +77,7 @@ pub fn tree_of(packet: &[u8]) -> Tree
     grammar::link::tree_of(bits::read_field(packet, 0, header::NidPacketAto::WIDTH))
 }
 
-// The sheet of a packet, in a lent room.
+// Converts a packet of a segment or a journey: writes its sheet at the start of `room` and answers the sheet's length, or refuses and writes nothing.
 pub fn packet_to_sheet(packet: &[u8], room: &mut [u8]) -> Converted
     ensures { λ r. ⌜ record { answer = r; room = now (room .exit) } ≡ packetToSheet (now (packet .entry)) (now (room .entry)) ⌝ }
 {

@@ -1,4 +1,4 @@
--- From an accepted sheet to its packet: the header's fields, the body's, and the room that they make.
+-- From an accepted sheet to its packet: the fields of the header, the fields of the body, and the room that they make.
 use mathlib.Core.Path.{_≡_, refl, sym, ap, _∙_}
 use mathlib.Core.Bool.{Bool, _&&_}
 use mathlib.Core.List.{List, [], _∷_, _++_, append-assoc}
@@ -72,7 +72,7 @@ first-number n a v e =
     (omega arith, omega arith))
     (λ d. let f : none ≡ some v = rw d at e in absurd (let z : _≡_ {A = ℕ} 0 1 = cc in omega arith))
 
--- the values of an accepted sheet, after its packet number
+-- the values l of an accepted sheet are its packet number and the values after it
 pub record Numbered (t : Tree) (s : List ℕ) (l : List Item) : Type 0 where
   pub values : List Item
   pub all : l ≡ numberItem (treeNumber t) ∷ values
@@ -136,7 +136,7 @@ module _ (t : Tree) (s : List ℕ) (ok : Bytes s) (a : SheetAccepted t s) where
     ahead = record { follows = treeBodyPart t end; good = rw (all-told x) (omega (arith, f .count, length-append x (bitsOfSheet t s), bits-high t s ok a)) };
   }
 
-  -- the header's bits, and the body's place and bits
+  -- the bits of a sheet's fields are the header's bits and the body's bits, and the body's numbers begin at the byte `at`
   record Apart (bits : List Bool) (at : ℕ) : Type 0 where
     pub place : BodyAt t s at
     pub all : bitsOfSheet t s ≡ bits ++ bodyBitsOf t s at
@@ -193,7 +193,7 @@ module _ (t : Tree) (s : List ℕ) (ok : Bytes s) (at : ℕ) (h : BodyAt t s at)
     ahead = record { follows = end; good = rw (body-told []) (omega (arith, few)) };
   }
 
-  -- all that is put
+  -- the bits that the body's writer puts are the bits of the body
   body-bits : (bits : List Bool) (to : ℕ) (u : List ℕ) → Told.told (bodyBitsOf t s at) ≡ pass sheet (recording packet) end bits to u → bits ≡ bodyBitsOf t s at
   body-bits bits to [] e = cc
   body-bits bits to (b ∷ u) e = absurd (let z : _≡_ {A = ℕ} 0 1 = cc in omega arith)
@@ -219,7 +219,7 @@ module _ (t : Tree) (s room : List ℕ) where
     unfolding countedVerdict
     packet-accepts = verdict-accepted sheet-sorts (sizeFrom packet (treeSheetFields t) 0) (sheetJudged t s) n e λ p q. p
 
-    -- the packet number's 8 bits, and the fields'
+    -- the verdict counts the 8 bits of the packet number and the bits of the fields
     pub packet-bits : n ≡ 8 + length (bitsOfSheet t s)
     unfolding countedVerdict
     packet-bits =
@@ -269,7 +269,7 @@ module _ (t : Tree) (s room : List ℕ) where
       front : length (take 120 (frame (treeNumber t) (bitsOfSheet t s))) ≡ 8 * 15
       front = length-take-le 120 (frame (treeNumber t) (bitsOfSheet t s)) (omega (arith, frame-length (treeNumber t) (bitsOfSheet t s), bits-low t s ok packet-accepts))
 
-      -- the header's bytes, and the body's
+      -- the packet is the bytes of the header and the bytes of the body
       packet-parts : packetOfBits (treeNumber t) (bitsOfSheet t s) ≡ header ++ bytesOfBits (bodyBitsOf t s at)
       packet-parts =
           ap bytesOfBits bits-apart ∙ bytes-append (take 120 (frame (treeNumber t) (bitsOfSheet t s))) (bodyBitsOf t s at) 15 front
@@ -286,10 +286,10 @@ module _ (t : Tree) (s room : List ℕ) where
           let f : length all ≤ length room = omega (arith, packet-long) in
           sym (by-bits ∙ rw (le-ltb (length room) (length all) f) (λ j. record { answer = record { refusal = 0; place = 0; length = packet-long j }; room = sym c j }))
 
--- ---- 12
+-- ---- refusal 12
 
 module _ (t : Tree) (s : List ℕ) (ok : Bytes s) where
-  -- the bits of a tree's sheet, as the count of 12 has them
+  -- the bits in a sheet's verdict are the bits that 12 counts
   judged-bits : (n : ℕ) → PacketBits n ≡ sheetVerdict t s → {C : Type 0}
       → (treeSheet t s ≡ accepted (valuesOf (treeSheet t s)) → n ≡ 8 + length (linkBits (valuesOf (treeSheet t s))) → n ≡ 0 + length (write packet (treeSheetFields t) (valuesOf (treeSheet t s))) → C) → C
   unfolding sheetVerdict
@@ -322,7 +322,7 @@ module _ (t : Tree) (s : List ℕ) (ok : Bytes s) where
       judged-bits n e λ a b z.
       rw (a, le-ltb 65535 (length (linkBits (valuesOf (treeSheet t s))) - 96) (omega (arith, b))) (ap PacketBits z)
 
--- the tree is the first number's
+-- the conversion by the tree that the first number names is the conversion
 pub packet-by-tree : (s room : List ℕ) → treeToPacket (treeOfSheet s) s room ≡ sheetToPacket s room
 unfolding treeToPacket sheetToPacket fromEitherSheet
 packet-by-tree s room = ap (λ (r : Read). converted toEitherPacket (withinCount r) room) (sym (link.sheet-by-tree s))

@@ -1,4 +1,5 @@
-// From a sheet to its packet: the header writer owns the first fifteen bytes of the room, the body writer is lent the rest.
+// The conversion of a sheet, of a segment or a journey, to its packet: the sheet is judged whole, then its packet is written.
+// The header's writer is lent the first fifteen bytes of the room, the body's writer the rest.
 
 ghost use mathlib.Core.Path.{_≡_};
 ghost use mathlib.Core.List.{_++_};
@@ -23,10 +24,11 @@ use numbers::Number;
 use packet_write_segment::elements::PacketSpot;
 use verdict::SheetVerdict;
 
-// The bits of a packet before its body, without L_PACKET_ATO.
+// Bits of a packet before its body, without the 16 of L_PACKET_ATO.
 const BEFORE_BODY: usize = 104;
 
-// Writes the header of an accepted sheet's packet, whose packet number is this one, and returns the place of the body's first number.
+// Writes the header of an accepted sheet's packet and returns the byte of the sheet where the body's first number begins.
+// `nid` is the packet number of `tree`, `bits` the count of bits of the body.
 fn write_header(tree: Tree, nid: u32, sheet: &[u8], header: &mut [u8], bits: u32) -> usize
     requires { ⌜ (length (now header) ≡ 15) × (bits ≡ length (bitsOfSheet tree (now sheet)) - 96) × SheetAccepted tree (now sheet) × (nid ≡ treeNumber tree) ⌝ }
     ensures { λ r. ⌜ Headed tree (now (sheet .entry)) (now (header .exit)) r ⌝ }
@@ -42,7 +44,8 @@ fn write_header(tree: Tree, nid: u32, sheet: &[u8], header: &mut [u8], bits: u32
     last.from
 }
 
-// The same with the tree's own packet number.
+// Writes the header of an accepted sheet's packet, with the packet number that `tree` has and a body of `bits` bits.
+// Returns the byte of the sheet where the body's first number begins.
 fn tree_header(tree: Tree, sheet: &[u8], header: &mut [u8], bits: u32) -> usize
     requires { ⌜ (length (now header) ≡ 15) × (bits ≡ length (bitsOfSheet tree (now sheet)) - 96) × SheetAccepted tree (now sheet) ⌝ }
     ensures { λ r. ⌜ Headed tree (now (sheet .entry)) (now (header .exit)) r ⌝ }
@@ -50,7 +53,7 @@ fn tree_header(tree: Tree, sheet: &[u8], header: &mut [u8], bits: u32) -> usize
     write_header(tree, grammar::link::number(tree), sheet, header, bits)
 }
 
-// The fields of the body, by its tree.
+// Writes the fields of a body of `tree` from the spot `p` on and returns the spot after them.
 fn tree_body(tree: Tree, sheet: &[u8], room: &mut [u8], p: PacketSpot) -> PacketSpot
     requires { ⌜ Ready (treeBodyPart tree) (now sheet) (now room) p ⌝ }
     ensures { λ r. ⌜ Wrote (treeBodyPart tree) (now (sheet .entry)) (now (room .entry)) p (now (room .exit)) r ⌝ }
@@ -61,7 +64,8 @@ fn tree_body(tree: Tree, sheet: &[u8], room: &mut [u8], p: PacketSpot) -> Packet
     }
 }
 
-// Writes the body of an accepted sheet's packet, from its first number at start: so many bytes, with the padding, and none past them.
+// Writes the body of an accepted sheet's packet, with its padding, into the first `bytes` bytes of `body`.
+// The body's first number begins at the byte `start` of the sheet.
 fn write_body(tree: Tree, sheet: &[u8], start: usize, body: &mut [u8], bytes: usize)
     requires { ⌜ BodyAt tree (now sheet) start × (bytes ≡ (length (bodyBitsOf tree (now sheet) start) + 7) / 8) × (bytes ≤ length (now body)) × (length (bodyBitsOf tree (now sheet) start) < 2 ^ 31) ⌝ }
     ensures { λ _. ⌜ now (body .exit) ≡ bytesOfBits (bodyBitsOf tree (now (sheet .entry)) start) ++ drop ((length (bodyBitsOf tree (now (sheet .entry)) start) + 7) / 8) (now (body .entry)) ⌝ }
@@ -74,7 +78,7 @@ fn write_body(tree: Tree, sheet: &[u8], start: usize, body: &mut [u8], bytes: us
     tree_body(tree, sheet, &mut body[..bytes], first);
 }
 
-// The verdict on a sheet, with 12: a body of more than 65,535 bits.
+// Judges a sheet of `tree`; then refuses a body of more than 65,535 bits with 12.
 fn counted(tree: Tree, sheet: &[u8]) -> SheetVerdict
     ensures { λ r. ⌜ r ≡ countedVerdict tree (now (sheet .entry)) ⌝ }
 {
@@ -89,7 +93,7 @@ fn counted(tree: Tree, sheet: &[u8]) -> SheetVerdict
     }
 }
 
-// The packet of a sheet of a tree, in a lent room.
+// Judges a sheet of `tree` and writes its packet at the start of `room`. A refusal, 8 for a short room among them, writes nothing.
 fn tree_to_packet(tree: Tree, sheet: &[u8], room: &mut [u8]) -> Converted
     ensures { λ r. ⌜ record { answer = r; room = now (room .exit) } ≡ treeToPacket tree (now (sheet .entry)) (now (room .entry)) ⌝ }
 {
@@ -109,7 +113,7 @@ fn tree_to_packet(tree: Tree, sheet: &[u8], room: &mut [u8]) -> Converted
     }
 }
 
-// The tree of a sheet, by its first number.
+// Returns the tree that the sheet's first number names: a journey for 4, a segment for any other number or for none.
 fn tree_of(sheet: &[u8]) -> Tree
     ensures { λ r. ⌜ r ≡ treeOfSheet (now (sheet .entry)) ⌝ }
 {
@@ -119,7 +123,7 @@ fn tree_of(sheet: &[u8]) -> Tree
     }
 }
 
-// The packet of a sheet, in a lent room.
+// Converts a sheet of a segment or a journey: writes its packet at the start of `room` and answers the packet's length, or refuses and writes nothing.
 pub fn sheet_to_packet(sheet: &[u8], room: &mut [u8]) -> Converted
     ensures { λ r. ⌜ record { answer = r; room = now (room .exit) } ≡ sheetToPacket (now (sheet .entry)) (now (room .entry)) ⌝ }
 {

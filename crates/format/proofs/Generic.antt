@@ -27,7 +27,7 @@ follow-accepted n (stop r) next l e = absurd (never e)
 follow-accepted n (step i s) next l e = let p = with-accepted i (next i s) l e in (i, s, p .0, refl, p .1, p .2)
 
 module _ {A : Type 0} (m : Medium A) (Good : Kind → Item → Type 0) (Ok : List A → Type 0) (law : LawfulMedium m Good Ok) where
-  -- what was written of conforming values is read as those values
+  -- what was written of conforming values is read as the values
   pub read-write : {f : Format} {l : List Item} → Conforming Good f l → (at : ℕ) → read m f at (write m f l) ≡ accepted l
   read-write done at = refl
   read-write (also {k = k} {next = next} {i = i} {l = l} g c) at =

@@ -1,4 +1,4 @@
--- Refused exactly on a ground, for any tree and any medium that takes what it puts and stops exactly at its faults; and so in both media.
+-- An input is refused exactly on a ground: for any tree and any medium that takes what it puts and refuses exactly at its faults, and for both media.
 use mathlib.Core.Path.{_≡_, refl, sym, ap, _∙_}
 use mathlib.Core.Bool.{Bool}
 use mathlib.Core.List.{List, [], _∷_, _++_, append-assoc}
@@ -30,7 +30,7 @@ use Rattle.format.specs.Grounds.{Front, here, past, Every, atEnd, each, 
 use Rattle.format.proofs.Generic.{LawfulMedium, never, read-write, write-read}
 use Rattle.format.proofs.Media.{packet-lawful, sheet-lawful}
 
--- a medium that stops exactly at its faults
+-- a medium that refuses exactly at its faults
 pub record Faulting {A : Type 0} (m : Medium A) (Fault : Kind → List A → ℕ → Type 0) (Ok : List A → Type 0) : Type 0 where
   pub stops : (k : Kind) (s : List A) (r : ℕ) → Ok s → m .take k s ≡ stop r → Fault k s r
   pub faults : (k : Kind) (s : List A) (r : ℕ) → Ok s → Fault k s r → m .take k s ≡ stop r
@@ -50,7 +50,7 @@ pub every-map : {Holds Also : Kind → Type 0} {f : Format} → ((k : Kind) → 
 every-map h atEnd = atEnd
 every-map h (each {k = k} p e) = each (h k p) (λ v. every-map h (e v))
 
--- whatever judges so: an answer, or one ground
+-- an answer or one ground, for any judgement that refuses exactly on its grounds
 pub judged : {Values : List Item → Type 0} {On : ℕ → ℕ → Type 0} (j : Read) → ((l : List Item) → (j ≡ accepted l) ↔ Values l)
     → ((r place : ℕ) → (j ≡ refused r place) ↔ On r place) → OneJudgement Values On
 judged {Values} {On} j values on = record {
@@ -171,7 +171,7 @@ module _ {A : Type 0} {m : Medium A} {Good : Kind → Item → Type 0} {Fault : 
 
 -- ---- the two media
 
--- a field judged that stopped
+-- a field that was judged and refused
 stepped-stop : {A C : Type 0} (f : Field) (s : List A) (r : ℕ) → stepped f s ≡ stop r → (f ≡ Refused r → C) → C
 stepped-stop (Is i) s r e k = absurd (let z : _≡_ {A = ℕ} 0 1 = cc in omega arith)
 stepped-stop (Refused q) s r e k = let p : q ≡ r = cc in k (rw p)

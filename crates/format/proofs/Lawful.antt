@@ -1,4 +1,4 @@
--- Formats of lawful kinds: from a packet to its sheet and back, from a sheet to its packet, and the same packet exactly for the same packet values.
+-- Formats of lawful kinds: from a packet to its sheet and back, from a sheet to its packet, and equal packets exactly for equal packet values.
 use mathlib.Core.Path.{_≡_, refl, sym, ap, _∙_}
 use mathlib.Core.Bool.{Bool, true}
 use mathlib.Core.List.{List, [], _∷_, _++_}
@@ -56,7 +56,7 @@ same-bits (field k next) (i ∷ l) (j ∷ m) e =
     let q : packetValues l ≡ packetValues m = cc in
     rw p (ap (λ (s : List Bool). bitsOf (k .width) (j .packet) ++ s) (same-bits (next (j .packet)) l m q))
 
--- and so does lowering
+-- lowering depends on the packet's values alone
 pub same-lowered : (f : Format) (l m : List Item) → packetValues l ≡ packetValues m → givenBack f l ≡ givenBack f m
 same-lowered end l m e = refl
 same-lowered (field k next) [] [] e = refl
@@ -68,7 +68,7 @@ same-lowered (field k next) (i ∷ l) (j ∷ m) e =
     rw p (ap (λ (s : List Item). record { sheet = k .raise (j .packet); packet = j .packet } ∷ s) (same-lowered (next (j .packet)) l m q))
 
 module _ (f : Format) (w : Lawful f) where
-  -- from a packet to its sheet and back: the same bits
+  -- from a packet to its sheet and back: the packet's bits
   pub packet-sheet-packet : (at to : ℕ) (s : List Bool) (l : List Item) → read packet f at s ≡ accepted l
       → (read sheet f to (write sheet f l) ≡ accepted l) × (write packet f l ≡ s)
   packet-sheet-packet at to s l e = let p = packet-only f at s l e in (sheet-again (to-sheet w (p .0)) to, sym (p .1))
@@ -77,7 +77,7 @@ module _ (f : Format) (w : Lawful f) where
   pub sheet-packet : (l : List Item) → Conforming InSheet f l → (at : ℕ) → read packet f at (write packet f l) ≡ accepted (givenBack f l)
   sheet-packet l c at = rw (← lowered-bits f l) (packet-again (to-packet w c) at)
 
-  -- the same packet exactly for the same packet values
+  -- equal packets exactly for equal packet values
   pub same-packet : (l m : List Item) → Conforming InSheet f l → Conforming InSheet f m
       → (write packet f l ≡ write packet f m) ↔ (packetValues l ≡ packetValues m)
   same-packet l m cl cm = (only, same-bits f l m)
@@ -88,7 +88,7 @@ module _ (f : Format) (w : Lawful f) where
           let q : givenBack f l ≡ givenBack f m = cc in
           sym (lowered-values cl) ∙ ap packetValues q ∙ lowered-values cm
 
-  -- which is where they agree in every field after lowering
+  -- packet values are equal exactly where the values agree in every field after lowering
   pub same-fields : (l m : List Item) → Conforming InSheet f l → Conforming InSheet f m
       → (packetValues l ≡ packetValues m) ↔ (givenBack f l ≡ givenBack f m)
   same-fields l m cl cm = (same-lowered f l m, λ q. sym (lowered-values cl) ∙ ap packetValues q ∙ lowered-values cm)

@@ -1,4 +1,4 @@
--- How long what is written of a format is, at least and at most: counted once for any costs of its fields, and so for any medium.
+-- How long what is written of a format is, at least and at most: counted once for any costs of its fields, and applied to each medium.
 use mathlib.Core.Path.{_≡_}
 use mathlib.Core.Bool.{true}
 use mathlib.Core.List.{List}
@@ -46,7 +46,7 @@ module _ {A : Type 0} {m : Medium A} {Good : Kind → Item → Type 0} {lo hi : 
       rw length-append (omega (arith, price .least k i w g, size-least (rest (i .packet) (price .allows k i w g)) c))
   size-least (wider s p q) c = omega (arith, size-least s c)
 
-  -- of values that conform to the front of it
+  -- the most that is written of values that conform to the front of a format
   pub front-most : {f g : Format} {low high : ℕ} → Measured lo hi f low high → {l : List Item} → Front Good f l g → length (write m f l) ≤ high
   front-most over here = omega arith
   front-most (plus w rest) here = omega arith
@@ -57,7 +57,7 @@ module _ {A : Type 0} {m : Medium A} {Good : Kind → Item → Type 0} {lo hi : 
   pub size-most : {f : Format} {low high : ℕ} → Measured lo hi f low high → {l : List Item} → Conforming Good f l → length (write m f l) ≤ high
   size-most s c = front-most s (all-front c)
 
-  -- so far a refusal's place can be from where it began
+  -- how far a refusal's place can be from the start
   pub ground-most : {Fault : Kind → List A → ℕ → Type 0} {f : Format} {low high : ℕ} → Measured lo hi f low high → {at : ℕ} {s : List A} {r place : ℕ}
       → Ground m Good Fault f at s r place → place ≤ at + high
   ground-most s (atField a) = omega (arith, a .stands, front-most s (a .front))
@@ -71,7 +71,7 @@ packet-priced = record {
   most = λ k i w g. omega (arith, length-bits (k .width) (i .packet));
 }
 
--- and so of a value as a sheet gives it
+-- a packet's field costs its width, for a value as a sheet gives it
 pub lowered-priced : Priced packet InSheet (λ k. k .width) (λ k. k .width)
 lowered-priced = record {
   allows = λ k i w g. w .into (i .sheet) (i .packet) (g .lowered);

@@ -1,4 +1,4 @@
--- Steps over the parts of a tree, whatever is carried: one after another, a field and what depends on its value, a loop.
+-- Steps over the parts of a tree, whatever the pass carries: one after another, a field and what depends on its value, a loop.
 use mathlib.Core.Path.{_≡_, refl, ap, _∙_}
 use mathlib.Core.List.{List}
 use Prim.Native.Nat.{ℕ, zero, suc, _-_, _≤_, _<_}
@@ -33,7 +33,7 @@ module _ {X B : Type 0} {w : Way X B} where
     pub over-off : {r place : ℕ} → Over w p at x (Went.off r place) → Over w (λ f. p (q f)) at x (Went.off r place)
     over-off a = record { goes = λ f. a .goes (q f); stands = tt }
 
-  -- nothing, at the same place
+  -- an empty part, which stays at its place
   pub over-none : {at : ℕ} {x : X} → w .Here at x → Over w (λ f. f) at x (Went.on at x)
   over-none h = record { goes = λ f. refl; stands = h }
 
@@ -98,11 +98,11 @@ module _ {X B : Type 0} {w : Way X B} where
     pub left-refused : {e place : ℕ} → Took w k to y (Got.off e place) → Over w p at x (Went.off e place)
     left-refused o = record { goes = λ f. l .same f ∙ o .goes (λ u. part u f); stands = tt }
 
-  -- the same part in other words
+  -- a part replaced by an equal part
   pub left-as : {p q : Format → Format} (r : Format → Format) {at to : ℕ} {x y : X} → ((f : Format) → q f ≡ r f) → Left w p q at x to y → Left w p r at x to y
   left-as r {to = to} {y = y} e l = record { stands = l .stands; same = λ f. l .same f ∙ ap (λ (g : Format). w .run g to y) (e f) }
 
-  -- ---- a part so many times: one more, and none left
+  -- ---- a part n times: one more, and none left
 
   module _ {p : Format → Format} (part : Format → Format) {n at to : ℕ} {x y : X} (l : Left w p (times part n) at x to y) where
     module _ (some : 0 < n) where

@@ -1,4 +1,4 @@
--- A tree of kinds that allow more: what the narrower one accepts, the wider one accepts with the same values, and both write the same of any values.
+-- A tree of kinds that allow more: what the narrower tree accepts, the wider tree accepts with equal values, and both trees write any values equally.
 use mathlib.Core.Path.{_≡_, refl, ap, ap₂, _∙_}
 use mathlib.Core.Bool.{true}
 use mathlib.Core.List.{List, [], _∷_, _++_}
@@ -12,7 +12,7 @@ use Rattle.format.specs.Media.{packet, sheet}
 use Rattle.format.specs.Conforming.{Conforming, done, also, InPacket, InSheet}
 use Rattle.format.proofs.Generic.{LawfulMedium, read-write, write-read}
 
--- a kind that takes whatever k takes, as the same value and in as many bits
+-- a kind that takes whatever k takes, as an equal value and in as many bits
 pub record WiderKind (k wide : Kind) : Type 0 where
   pub width : k .width ≡ wide .width
   pub allowed : (v : ℕ) → k .allowed v ≡ true → wide .allowed v ≡ true
@@ -33,7 +33,7 @@ same-field {k} w = goes (same-kind k) w
 pub same-then : {k : Kind} {f g : Format} → Wider f g → Wider (then k f) (then k g)
 same-then w = same-field λ v. w
 
--- what a medium has to meet: a wider kind puts the same, and has every good value
+-- what a medium has to meet: a wider kind puts what the narrower kind puts, and has every good value
 pub record WidensIn {A : Type 0} (m : Medium A) (Good : Kind → Item → Type 0) : Type 0 where
   pub puts : {k wide : Kind} → WiderKind k wide → (i : Item) → m .put k i ≡ m .put wide i
   pub good : {k wide : Kind} → WiderKind k wide → (i : Item) → Good k i → Good wide i

@@ -35,7 +35,7 @@ pub record Medium (A : Type 0) : Type 0 where
   pub put : Kind → Item → List A
   pub left : ℕ
 
--- "field by field in order": a value in front of those read after it
+-- "field by field in order": a value in front of the values read after it
 abbrev pub with : Item → Read → Read
 with i (accepted l) = accepted (i ∷ l)
 with i (refused r place) = refused r place

@@ -91,6 +91,6 @@ pub record OneEnding (Answered : Type 0) {I : Type 0} (Ground : I → Type 0) : 
   pub apart : (i : I) → Answered → Ground i → ⊥
   pub one : (i j : I) → Ground i → Ground j → i ≡ j
 
--- "Each refusal is given then and not otherwise", with its place, for whoever judges: a ground for its number and its place
+-- "Each refusal is given then and not otherwise", with its place: good values, or one ground, for one number and one place
 abbrev pub OneJudgement : (List Item → Type 0) → (ℕ → ℕ → Type 0) → Type 0
 OneJudgement Values Ground = OneEnding ((l : List Item) × Values l) {I = ℕ × ℕ} (λ p. Ground (p .0) (p .1))

@@ -1,1 +1,1 @@
-// Formats: trees of fields, and the two media in which a tree is written. Definitions and their laws; it has no code of its own.
+// Formats: trees of fields, and the two media that a tree is written in. Definitions and laws only, no code.

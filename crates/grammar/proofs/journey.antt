@@ -1,4 +1,4 @@
--- The laws of the module journey.
+-- Laws of the module `journey`.
 pub mod Parts
 pub mod Tree
 pub mod Weighed

@@ -1,4 +1,4 @@
--- The laws of the module link.
+-- Laws of the module `link`.
 pub mod Trees
 pub mod Values
 pub mod Grounds

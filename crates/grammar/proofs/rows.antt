@@ -1,2 +1,2 @@
--- The laws of the module rows.
+-- Laws of the module `rows`.
 pub mod Measured

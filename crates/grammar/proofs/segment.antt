@@ -1,4 +1,4 @@
--- The laws of the module segment.
+-- Laws of the module `segment`.
 pub mod Tree
 pub mod Framing
 pub mod Ends

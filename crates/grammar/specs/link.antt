@@ -1,3 +1,3 @@
--- The definitions of the module link.
+-- Definitions of the module `link`.
 pub mod Link
 pub mod Grounds

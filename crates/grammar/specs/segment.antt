@@ -1,4 +1,4 @@
--- The definitions of the module segment.
+-- Definitions of the module `segment`.
 pub mod Segment
 pub mod Frame
 pub mod Judgement

@@ -1,4 +1,4 @@
-// The tree of a journey is definitions; the code has the tables of its rows of fields, and the most temporary constraints.
+// Tables of a journey's rows of fields, and the most temporary constraints. The tree itself is definitions.
 pub mod layout;
 
 ghost use mathlib.Core.Path.{_≡_};
@@ -24,10 +24,10 @@ use kinds::journey::TLatestArrivalDate;
 use kinds::journey::TLatestArrivalSeconds;
 use kinds::journey::TMinimumDwellTime;
 
-// "up to 31 constraints per segment".
+// Most temporary constraints: "up to 31 constraints per segment".
 pub const CONSTRAINTS: u32 = 31;
 
-// NID_C to Q_SP_DIR.
+// Returns the widths in bits of NID_C to Q_SP_DIR of a segment.
 pub fn segment_widths() -> [u32; 5]
     ensures { λ r. ⌜ r ≡ segmentWidths ⌝ }
 {
@@ -40,6 +40,7 @@ pub fn segment_widths() -> [u32; 5]
     ]
 }
 
+// Returns the largest values of NID_C to Q_SP_DIR of a segment.
 pub fn segment_most() -> [u32; 5]
     ensures { λ r. ⌜ r ≡ segmentMost ⌝ }
 {
@@ -52,7 +53,7 @@ pub fn segment_most() -> [u32; 5]
     ]
 }
 
-// NID_TP to Q_TP_Alignment.
+// Returns the widths in bits of NID_TP to Q_TP_Alignment of a timing point.
 pub fn arrival_widths() -> [u32; 5]
     ensures { λ r. ⌜ r ≡ arrivalWidths ⌝ }
 {
@@ -65,6 +66,7 @@ pub fn arrival_widths() -> [u32; 5]
     ]
 }
 
+// Returns the largest values of NID_TP to Q_TP_Alignment of a timing point.
 pub fn arrival_most() -> [u32; 5]
     ensures { λ r. ⌜ r ≡ arrivalMost ⌝ }
 {
@@ -77,7 +79,7 @@ pub fn arrival_most() -> [u32; 5]
     ]
 }
 
-// Q_TP_Information to Q_Automatic_Closing.
+// Returns the widths in bits of Q_TP_Information to Q_Automatic_Closing of a timing point.
 pub fn stopping_widths() -> [u32; 10]
     ensures { λ r. ⌜ r ≡ stoppingWidths ⌝ }
 {
@@ -95,11 +97,11 @@ pub fn stopping_widths() -> [u32; 10]
     ]
 }
 
-// At a passing point the last eight are 0.
-pub fn stopping_most(stop: u32) -> [u32; 10]
-    ensures { λ r. ⌜ r ≡ stoppingMost stop ⌝ }
+// Returns the largest values of Q_TP_Information to Q_Automatic_Closing, by Q_Stop_Skip_Passes: 0 for the last eight at a passing point.
+pub fn stopping_most(stop_skip_passes: u32) -> [u32; 10]
+    ensures { λ r. ⌜ r ≡ stoppingMost «stop_skip_passes» ⌝ }
 {
-    if stop == QStopSkipPasses::PASSING {
+    if stop_skip_passes == QStopSkipPasses::PASSING {
         return [
             QTpInformation::LARGEST,
             QDayLightSaving::LARGEST,

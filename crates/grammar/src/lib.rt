@@ -1,4 +1,4 @@
-// The two trees of fields, a segment and a journey, with their parts and layout numbers; fields in a row; and the link, which takes either tree by its packet number.
+// The two trees of fields, a segment's and a journey's: their layout, their rows of fields, and the choice of a tree by the packet number.
 pub mod journey;
 pub mod link;
 pub mod rows;

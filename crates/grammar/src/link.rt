@@ -1,18 +1,18 @@
-// Both packets of the link, segments and journeys, are one tree from the packet number on; the code has their names, and the most bits of a body.
+// The choice of a tree, a segment's or a journey's, by the packet number, and the most bits of a body.
 ghost use mathlib.Core.Path.{_≡_};
 ghost use Rattle.grammar.specs.link.Link.{treeNumber, treeOf};
 use kinds::header;
 
-// Which of the two stands after the packet number.
+// The tree of a packet or sheet, which the packet number chooses.
 pub enum Tree {
     Segment,
     Journey,
 }
 
-// The most bits of a body: L_PACKET_ATO has 16.
+// Most bits of a body: L_PACKET_ATO, which counts them, has 16 bits.
 pub const MOST_BITS: usize = 65535;
 
-// The packet number of a tree.
+// Returns the packet number of `tree`.
 pub fn number(tree: Tree) -> u32
     ensures { λ r. ⌜ r ≡ treeNumber tree ⌝ }
 {
@@ -22,7 +22,7 @@ pub fn number(tree: Tree) -> u32
     }
 }
 
-// The tree of a packet number: a journey's, or else a segment's.
+// Returns the tree of packet number `number`: a journey for 4, else a segment.
 pub fn tree_of(number: u32) -> Tree
     ensures { λ r. ⌜ r ≡ treeOf number ⌝ }
 {

@@ -1,1 +1,1 @@
-// Fields in a row, on whose values nothing depends. Definitions and their laws; it has no code of its own.
+// Rows of fields, where no field depends on another's value. Definitions and laws only, no code.

@@ -1,4 +1,4 @@
-// The tree of a segment and the frame of a packet are definitions; the code has the names of the parts that repeat.
+// Parts of a segment that have changes, and tables of its rows of fields. The tree itself is definitions.
 pub mod layout;
 
 ghost use mathlib.Core.Path.{_≡_};
@@ -14,17 +14,17 @@ use kinds::header::NidEngine;
 use kinds::header::TTimestampDate;
 use kinds::header::TTimestampSeconds;
 
-// The three parts that have changes: the speed profile, the rated voltage, the current limitation.
+// A part with a list of changes: the speed profile, the rated voltage, or the current limitation.
 pub enum Part {
     Speeds,
     Volts,
     Amperes,
 }
 
-// The most voltage changes, and the most current changes.
+// Most changes of the rated voltage, and most changes of the current limitation.
 pub const WIRE_CHANGES: u32 = 31;
 
-// NID_ENGINE to N_PACKET_COUNTER: their widths, and their largest values.
+// Returns the widths in bits of NID_ENGINE to N_PACKET_COUNTER.
 pub fn header_widths() -> [u32; 4]
     ensures { λ r. ⌜ r ≡ headerWidths ⌝ }
 {
@@ -36,6 +36,7 @@ pub fn header_widths() -> [u32; 4]
     ]
 }
 
+// Returns the largest values of NID_ENGINE to N_PACKET_COUNTER.
 pub fn header_most() -> [u32; 4]
     ensures { λ r. ⌜ r ≡ headerMost ⌝ }
 {
@@ -47,7 +48,7 @@ pub fn header_most() -> [u32; 4]
     ]
 }
 
-// NID_C, NID_SP and the two versions: their widths, and their largest values.
+// Returns the widths in bits of NID_C, NID_SP and the two versions.
 pub fn identity_widths() -> [u32; 4]
     ensures { λ r. ⌜ r ≡ identityWidths ⌝ }
 {
@@ -59,6 +60,7 @@ pub fn identity_widths() -> [u32; 4]
     ]
 }
 
+// Returns the largest values of NID_C, NID_SP and the two versions.
 pub fn identity_most() -> [u32; 4]
     ensures { λ r. ⌜ r ≡ identityMost ⌝ }
 {
@@ -70,13 +72,14 @@ pub fn identity_most() -> [u32; 4]
     ]
 }
 
-// D_EoA_Offset, Q_UTC_Offset and M_SP_Altitude: their widths, and their largest values.
+// Returns the widths in bits of D_EoA_Offset, Q_UTC_Offset and M_SP_Altitude.
 pub fn offset_widths() -> [u32; 3]
     ensures { λ r. ⌜ r ≡ offsetWidths ⌝ }
 {
     [DEoAOffset::WIDTH, QUtcOffset::WIDTH, MSpAltitude::WIDTH]
 }
 
+// Returns the largest values of D_EoA_Offset, Q_UTC_Offset and M_SP_Altitude.
 pub fn offset_most() -> [u32; 3]
     ensures { λ r. ⌜ r ≡ offsetMost ⌝ }
 {

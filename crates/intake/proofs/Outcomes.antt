@@ -1,4 +1,4 @@
--- What the steps of the intake come to, over plain values.
+-- The steps of the intake over plain values: a delivery, the completion, and the question for the sheet.
 use mathlib.Core.Path.{_≡_, refl}
 use mathlib.Core.Bool.{and-false}
 use mathlib.Core.List.{List, [], _++_, append-nil}
@@ -23,7 +23,7 @@ use Rattle.convert.specs.Convert.{Outcome, packetToSheet}
 use Rattle.intake.specs.declared.Intake.{Intake}
 use Rattle.intake.specs.Intake.{gathering, passed, judgedAs, gathered, Delivered, gathersAt, delivered, judgedOf, completed, asked}
 
--- ---- a delivery that is put after n bytes
+-- ---- a delivery that is written after n bytes
 
 module _ (n : ℕ) (d room : List ℕ) {i : Intake} where
   pub put-past : length room < n + length d → i ≡ passed → _≡_ {A = Delivered} (record { intake = i; room = room }) (gathersAt n d room)
@@ -36,7 +36,7 @@ module _ (n : ℕ) (d room : List ℕ) {i : Intake} where
       → _≡_ {A = Delivered} (record { intake = i; room = end }) (gathersAt n d room)
   put-held h l e q = rw (le-leb (n + length d) (length room) h, le-leb (n + length d) 4294967295 l, e, q)
 
--- what a copy into the rest of the room leaves of it
+-- the room after a delivery was copied into its rest, from the byte n on
 pub copied-in : (n : ℕ) (d room end : List ℕ) → n + length d ≤ length room → end ≡ take (length d) d ++ drop (length d) (midOf n (length room - n) room)
     → putMid n (length room - n) room end ≡ take n room ++ (d ++ drop (n + length d) room)
 copied-in n d room end h e =
@@ -63,7 +63,7 @@ module _ (i : Intake) (d room : List ℕ) where
 
 -- ---- the completion
 
--- the verdict on a packet, from the judge's
+-- the state with the verdict follows from the judge's verdict
 module _ (n : ℕ) (s : List ℕ) where
   abbrev said : Read → PacketVerdict
   said q = verdictOf PacketVerdict.SheetBytes PacketVerdict.Refused (sizeFrom sheet (treeSheetFields (treeOf (packetNumber s))) 0) q
@@ -102,9 +102,9 @@ module _ (n : ℕ) (room : List ℕ) where
   unfolding completed
   held-completed h q = rw (le-leb n (length room) h) q
 
--- ---- the question
+-- ---- the question for the sheet
 
--- a refusal's answer
+-- the answer of a refused conversion
 abbrev answered : ℕ → ℕ → Converted
 answered r place = record { refusal = r; place = place; length = 0 }
 

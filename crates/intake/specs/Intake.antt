@@ -1,4 +1,4 @@
--- The intake of a packet in deliveries: what a delivery, the completion and a question make of the state and of every byte of the room. Every value of the state has its outcome.
+-- The intake of a packet in deliveries: a delivery, the completion and the question for the sheet, each a total function of the state and of every byte of the room.
 use mathlib.Core.Bool.{Bool, cond, _&&_}
 use mathlib.Core.List.{List, _++_}
 use Prim.Native.Nat.{ℕ, _+_}
@@ -25,23 +25,23 @@ judgedAs n r place = record { phase = 2; length = n; refusal = r; place = place 
 abbrev pub gathered : Intake → ℕ
 gathered i = cond (eqb (i .phase) 2) 0 (i .length)
 
--- "into a lent room": the state, and every byte of the room
+-- "into a lent room": the state after a delivery, and every byte of the room
 pub record Delivered : Type 0 where
   pub intake : Intake
   pub room : List ℕ
 
--- the room holds n bytes, and the state can count them
+-- whether the room holds n bytes, and a state can count them
 abbrev pub holds : List ℕ → ℕ → Bool
 holds room n = leb n (length room) && leb n 4294967295
 
--- "A delivery that would pass the room's end .. writes nothing"; else it stands after the n bytes that are in the room
+-- "A delivery that would pass the room's end .. writes nothing"; any other is written after the n bytes that are in the room
 abbrev pub gathersAt : ℕ → List ℕ → List ℕ → Delivered
 gathersAt n delivery room =
     cond (holds room (n + length delivery))
     (record { intake = gathering (n + length delivery); room = take n room ++ (delivery ++ drop (n + length delivery) room) })
     (record { intake = passed; room = room })
 
--- "several deliveries, some with no bytes": one with none changes nothing; one that passed the end, "and each after it, writes nothing until completion"
+-- "several deliveries, some with no bytes": a delivery of no bytes changes nothing; one that would pass the room's end, "and each after it, writes nothing until completion"
 unfoldable pub delivered : Intake → List ℕ → List ℕ → Delivered
 delivered i delivery room =
     cond (eqb (length delivery) 0) (record { intake = i; room = room })

@@ -1,4 +1,4 @@
-// The intake: a packet taken in several deliveries into a lent room, and judged when it is complete. Its state is a value that the caller keeps.
+// The intake: takes a packet in several deliveries into a lent room, and judges it when it is complete. The caller keeps its state, a value.
 ghost use mathlib.Core.Path.{_≡_};
 ghost use Rattle.intake.specs.Intake.{gathering, passed, judgedAs, gathered, gathersAt, delivered, completed, asked};
 use convert::Converted;
@@ -8,7 +8,7 @@ use kinds::refusals::SHORT_ROOM;
 use kinds::refusals::TOO_EARLY;
 use verdict::PacketVerdict;
 
-// The phase; the bytes that are in the room or were judged; the verdict's refusal and its place.
+// State of an intake: its phase; how many bytes of a packet are in the room or were judged; the refusal of the verdict and its place, a bit of the packet.
 #[repr(C)]
 pub struct Intake {
     pub phase: u32,
@@ -17,15 +17,16 @@ pub struct Intake {
     pub place: u32,
 }
 
-// The deliveries passed the room's end; a verdict was given. Any other phase gathers.
+// Phase in which the deliveries have passed the room's end.
 const PASSED: u32 = 1;
 
+// Phase after a verdict. In a phase that is neither 1 nor 2 the intake gathers bytes.
 const JUDGED: u32 = 2;
 
-// The most bytes that the state can count.
+// Largest count of bytes that a state can hold.
 const MOST: usize = 4294967295;
 
-// So many bytes are in the room.
+// Makes the state in which `length` bytes of a packet are in the room.
 fn gather(length: u32) -> Intake
     ensures { λ r. ⌜ r ≡ gathering length ⌝ }
 {
@@ -37,6 +38,7 @@ fn gather(length: u32) -> Intake
     }
 }
 
+// Makes the state in which the deliveries have passed the room's end.
 fn pass() -> Intake
     ensures { λ r. ⌜ r ≡ passed ⌝ }
 {
@@ -48,6 +50,7 @@ fn pass() -> Intake
     }
 }
 
+// Makes the state after a verdict on a packet of `length` bytes. `refusal` and `place` are 0 for an accepted packet.
 fn judge(length: u32, refusal: u32, place: u32) -> Intake
     ensures { λ r. ⌜ r ≡ judgedAs length refusal place ⌝ }
 {
@@ -59,14 +62,14 @@ fn judge(length: u32, refusal: u32, place: u32) -> Intake
     }
 }
 
-// Before the first delivery.
+// Returns the state before the first delivery.
 pub fn fresh() -> Intake
     ensures { λ r. ⌜ r ≡ gathering 0 ⌝ }
 {
     gather(0)
 }
 
-// The bytes that are in the room: none after a verdict.
+// Returns how many bytes of a packet are in the room: 0 after a verdict.
 fn in_room(intake: Intake) -> u32
     ensures { λ r. ⌜ r ≡ gathered intake ⌝ }
 {
@@ -76,7 +79,8 @@ fn in_room(intake: Intake) -> u32
     intake.length
 }
 
-// A delivery put after the n bytes that are in the room, if the room holds it.
+// Copies `delivery` into the room after the `n` bytes that are there and returns the state after it.
+// Copies nothing if the room does not hold it, or if a state cannot count its bytes.
 fn put(n: u32, delivery: &[u8], room: &mut [u8]) -> Intake
     ensures { λ r. ⌜ record { intake = r; room = now (room .exit) } ≡ gathersAt n (now (delivery .entry)) (now (room .entry)) ⌝ }
 {
@@ -95,7 +99,8 @@ fn put(n: u32, delivery: &[u8], room: &mut [u8]) -> Intake
     gather(to as u32)
 }
 
-// Takes a delivery. One with no bytes changes nothing; one that would pass the room's end, and each after it, writes nothing.
+// Takes a delivery and returns the state after it. A delivery of no bytes changes nothing.
+// A delivery that would pass the room's end, and each after it until the completion, writes nothing.
 pub fn deliver(intake: Intake, delivery: &[u8], room: &mut [u8]) -> Intake
     ensures { λ r. ⌜ record { intake = r; room = now (room .exit) } ≡ delivered intake (now (delivery .entry)) (now (room .entry)) ⌝ }
 {
@@ -108,7 +113,7 @@ pub fn deliver(intake: Intake, delivery: &[u8], room: &mut [u8]) -> Intake
     put(in_room(intake), delivery, room)
 }
 
-// The verdict on the first n bytes of the room.
+// Judges the first `n` bytes of the room as a packet and returns the state with the verdict: 8 if the room has fewer bytes.
 fn verdict(n: u32, room: &[u8]) -> Intake
     ensures { λ r. ⌜ r ≡ completed (gathering n) (now (room .entry)) ⌝ }
 {
@@ -122,7 +127,7 @@ fn verdict(n: u32, room: &[u8]) -> Intake
     }
 }
 
-// The packet is complete: its verdict.
+// Judges the bytes that were delivered as a complete packet and returns the state with the verdict: 8 if they have passed the room's end.
 pub fn complete(intake: Intake, room: &[u8]) -> Intake
     ensures { λ r. ⌜ r ≡ completed intake (now (room .entry)) ⌝ }
 {
@@ -132,7 +137,8 @@ pub fn complete(intake: Intake, room: &[u8]) -> Intake
     judge(0, SHORT_ROOM, 0)
 }
 
-// The sheet of the packet that was judged, which stands in the room that took it.
+// Writes the sheet of the packet that was judged at the start of `room` and answers its length. `taken` is the room with the packet.
+// Refuses with 14 if there is no verdict, then with the verdict's refusal, then with 14 if `taken` is shorter than the packet.
 pub fn sheet(intake: Intake, taken: &[u8], room: &mut [u8]) -> Converted
     ensures { λ r. ⌜ record { answer = r; room = now (room .exit) } ≡ asked intake (now (taken .entry)) (now (room .entry)) ⌝ }
 {

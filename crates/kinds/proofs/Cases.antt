@@ -1,4 +1,4 @@
--- The rules that document 01 spells out, as facts of the kinds: speeds and currents are lowered, and what is refused with which number.
+-- The cases that document 01 spells out, as facts of the field kinds: how speeds and currents are lowered, and which number each refused value gets.
 use mathlib.Core.Path.{_≡_, refl}
 use mathlib.Core.Bool.{false, and-false}
 use Prim.Native.Nat.{ℕ, zero, suc, _/_, _%_, _^_, _<_, _≤_}

@@ -1,4 +1,4 @@
--- Kinds that depend on an earlier field.
+-- Field kinds that depend on the value of an earlier field.
 use mathlib.Core.Path.{_≡_, refl}
 use Prim.Native.Nat.{ℕ, zero, suc}
 use Rattle.kinds.specs.Kinds.{ncDiff, class, mostTraction}

@@ -1,4 +1,4 @@
--- A kind of field: what it keeps with it, and the two ways between a sheet's number and a packet's value.
+-- A field kind: its width, its values, their refusal, and the two ways between a sheet's number and a packet's value.
 use mathlib.Core.Bool.{Bool, true, false, _&&_}
 use mathlib.Core.Option.{Option, none, some}
 use Prim.Native.Nat.{ℕ}
@@ -26,7 +26,7 @@ abbrev pub when : Bool → ℕ → Option ℕ
 when true v = some v
 when false v = none
 
--- "They equal the packet fields": the same number in the sheet and in the packet
+-- "They equal the packet fields": the sheet's number is the packet's value
 abbrev pub same : ℕ → ℕ → (ℕ → ℕ) → (ℕ → Bool) → Kind
 same width largest refusal allowed =
     record { width = width; largest = largest; highest = largest; allowed = allowed; refusal = refusal; lower = λ a. when (allowed a) a; raise = λ v. v }

@@ -71,7 +71,7 @@ dEoAOffset = upTo 24 16777215
 abbrev pub qUtcOffset : Kind
 qUtcOffset = upTo 7 112
 
--- "sent with 100,000 added", and so in the sheet
+-- "sent with 100,000 added"; the sheet's number has 100,000 added too
 abbrev pub mSpAltitude : Kind
 mSpAltitude = upTo 20 1048575
 
@@ -83,7 +83,7 @@ speed = record { width = 7; largest = 120; highest = 604; allowed = λ v. leb v 
 abbrev pub qFront : Kind
 qFront = upTo 1 1
 
--- "N_ITER 5 (0 to 31)", of wire changes up to their limit
+-- "N_ITER 5 (0 to 31)", up to the limit of its list
 abbrev pub nIter : ℕ → Kind
 nIter most = upTo 5 most
 

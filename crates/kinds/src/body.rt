@@ -1,4 +1,4 @@
-// The field kinds of a segment, in the order of a packet's body.
+// Field kinds of a segment's body, in packet order. `WIDTH` is in bits, `LARGEST` is the largest packet value.
 ghost use mathlib.Core.Path.{_≡_};
 ghost use Rattle.kinds.specs.Kinds.{nidC, nidSp, mSpVersion, lSp, dEoAOffset, qUtcOffset, mSpAltitude, speed, qFront, nIter, qDiff, ncCdDiff, ncDiff, class, dLocation, mVoltage, nidCTraction, mCurrent};
 ghost use Rattle.kinds.specs.internal.Rules.{Keeps, meaning};
@@ -6,6 +6,7 @@ use crate::Rule;
 use crate::refusals::FIELD_VALUE;
 use crate::up_to;
 
+// NID_C, the number of the country or region.
 pub struct NidC;
 
 impl NidC {
@@ -20,6 +21,7 @@ impl NidC {
     }
 }
 
+// NID_SP, the number of the segment.
 pub struct NidSp;
 
 impl NidSp {
@@ -34,7 +36,7 @@ impl NidSp {
     }
 }
 
-// The major version, and the minor one.
+// Half of M_SP_Version: the major or the minor version.
 pub struct MSpVersion;
 
 impl MSpVersion {
@@ -49,7 +51,7 @@ impl MSpVersion {
     }
 }
 
-// The segment's length in cm.
+// L_SP, the length of the segment in cm.
 pub struct LSp;
 
 impl LSp {
@@ -59,6 +61,7 @@ impl LSp {
 
     pub const LEAST: u32 = 1;
 
+    // Returns the rule for a length of `LEAST` to `LARGEST` cm.
     pub fn rule() -> Rule
         ensures { λ r. do ⌜ Keeps lSp (← ⟦LSp::WIDTH⟧ .entry) (← ⟦LSp::LARGEST⟧ .entry) r ⌝ }
     {
@@ -71,6 +74,7 @@ impl LSp {
     }
 }
 
+// D_EoA_Offset, in cm.
 pub struct DEoAOffset;
 
 impl DEoAOffset {
@@ -85,6 +89,7 @@ impl DEoAOffset {
     }
 }
 
+// Q_UTC_Offset, a number without a unit.
 pub struct QUtcOffset;
 
 impl QUtcOffset {
@@ -99,7 +104,7 @@ impl QUtcOffset {
     }
 }
 
-// Centimetres, with 100,000 added.
+// M_SP_Altitude, in cm, with 100,000 added.
 pub struct MSpAltitude;
 
 impl MSpAltitude {
@@ -114,7 +119,7 @@ impl MSpAltitude {
     }
 }
 
-// V_STATIC, and V_DIFF of a specific entry: steps of 5 km/h.
+// V_STATIC, or V_DIFF of a specific entry, in steps of 5 km/h.
 pub struct VStatic;
 
 impl VStatic {
@@ -131,6 +136,7 @@ impl VStatic {
     }
 }
 
+// Q_FRONT of an element: 0 delays its end by the length of the train, 1 does not.
 pub struct QFront;
 
 impl QFront {
@@ -145,7 +151,7 @@ impl QFront {
     }
 }
 
-// A count of entries or of changes, up to the limit of its list.
+// N_ITER, a count of entries, changes, timing points or temporary constraints, up to the limit of its list.
 pub struct NIter;
 
 impl NIter {
@@ -160,6 +166,7 @@ impl NIter {
     }
 }
 
+// Q_DIFF of a specific entry, which says what the class of the entry means.
 pub struct QDiff;
 
 impl QDiff {
@@ -174,7 +181,7 @@ impl QDiff {
     }
 }
 
-// A place among the cant figures.
+// NC_CDDIFF, the class of an entry with Q_DIFF 0: a place in the table of cant figures, from 0.
 pub struct NcCdDiff;
 
 impl NcCdDiff {
@@ -189,6 +196,7 @@ impl NcCdDiff {
     }
 }
 
+// NC_DIFF, the class of an entry with Q_DIFF 1 or 2: a train category.
 pub struct NcDiff;
 
 impl NcDiff {
@@ -203,7 +211,7 @@ impl NcDiff {
     }
 }
 
-// A change's location, after the last one and before the segment's end.
+// D_LOCATION of a change, in cm: above the last location and below L_SP.
 pub struct DLocation;
 
 impl DLocation {
@@ -218,7 +226,7 @@ impl DLocation {
     }
 }
 
-// A place among the volts.
+// M_VOLTAGE, a place in the table of volts, from 0.
 pub struct MVoltage;
 
 impl MVoltage {
@@ -233,6 +241,7 @@ impl MVoltage {
     }
 }
 
+// NID_CTRACTION, which is 0 where M_VOLTAGE is 0.
 pub struct NidCTraction;
 
 impl NidCTraction {
@@ -240,7 +249,7 @@ impl NidCTraction {
 
     pub const LARGEST: u32 = 1023;
 
-    // At a voltage: 0 where that is 0.
+    // Returns the rule at M_VOLTAGE `voltage`.
     pub fn rule(voltage: u32) -> Rule
         ensures { λ r. ⌜ meaning r ≡ nidCTraction voltage ⌝ }
     {
@@ -252,7 +261,7 @@ impl NidCTraction {
     }
 }
 
-// Steps of 10 A up to the highest limit, or no limit.
+// M_CURRENT, in steps of 10 A up to `HIGHEST`, or `NO_LIMIT`.
 pub struct MCurrent;
 
 impl MCurrent {
@@ -273,7 +282,7 @@ impl MCurrent {
     }
 }
 
-// The class of a specific entry: NC_CDDIFF where Q_DIFF is 0, else NC_DIFF.
+// Returns the rule for the class of a specific entry: NC_CDDIFF where `q_diff` is 0, else NC_DIFF.
 pub fn class_at(q_diff: u32) -> Rule
     ensures { λ r. ⌜ meaning r ≡ class «q_diff» ⌝ }
 {

@@ -1,24 +1,25 @@
-// The field kinds of a packet's header, in its order.
+// Field kinds of a packet's header, in packet order. `WIDTH` is in bits, `LARGEST` is the largest packet value.
 ghost use Rattle.kinds.specs.Kinds.{nidPacketAto, lPacketAto, nidOperational, nidEngine, tTimestampDate, tTimestampSeconds, nPacketCounter};
 ghost use Rattle.kinds.specs.internal.Rules.{Keeps};
 use crate::Rule;
 use crate::refusals::PACKET_NUMBER;
 use crate::up_to;
 
-// 6 on our link.
+// NID_PACKET_ATO, the packet number.
 pub struct NidPacketAto;
 
 impl NidPacketAto {
     pub const WIDTH: u32 = 8;
 
-    // The number of a segment's packet.
+    // Packet number of a segment.
     pub const SEGMENT: u32 = 6;
 
-    // And of a journey's.
+    // Packet number of a journey.
     pub const JOURNEY: u32 = 4;
 
     pub const LARGEST: u32 = Self::SEGMENT;
 
+    // Returns the rule for the packet number of a segment.
     pub fn rule() -> Rule
         ensures { λ r. do ⌜ Keeps nidPacketAto (← ⟦NidPacketAto::WIDTH⟧ .entry) (← ⟦NidPacketAto::LARGEST⟧ .entry) r ⌝ }
     {
@@ -31,7 +32,7 @@ impl NidPacketAto {
     }
 }
 
-// The body's bits, without header and padding.
+// L_PACKET_ATO, the bits of the body, without header and padding.
 pub struct LPacketAto;
 
 impl LPacketAto {
@@ -46,7 +47,7 @@ impl LPacketAto {
     }
 }
 
-// Eight digits of four bits.
+// NID_OPERATIONAL, eight digits of four bits, each 0 to 9 or F.
 pub struct NidOperational;
 
 impl NidOperational {
@@ -61,6 +62,7 @@ impl NidOperational {
     }
 }
 
+// NID_ENGINE, the number of the engine.
 pub struct NidEngine;
 
 impl NidEngine {
@@ -75,6 +77,7 @@ impl NidEngine {
     }
 }
 
+// T_Timestamp_Date, in days from 1 January 2010.
 pub struct TTimestampDate;
 
 impl TTimestampDate {
@@ -89,6 +92,7 @@ impl TTimestampDate {
     }
 }
 
+// T_Timestamp_Seconds, in seconds of the day, before 24:00:00.
 pub struct TTimestampSeconds;
 
 impl TTimestampSeconds {
@@ -103,6 +107,7 @@ impl TTimestampSeconds {
     }
 }
 
+// N_PACKET_COUNTER, the packet counter.
 pub struct NPacketCounter;
 
 impl NPacketCounter {

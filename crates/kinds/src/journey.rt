@@ -1,4 +1,4 @@
-// The field kinds of a journey, in the order of a packet's body: a type each, with its width and its largest value, and the rule that judges its values.
+// Field kinds of a journey's body, in packet order. `WIDTH` is in bits, `LARGEST` is the largest packet value.
 ghost use mathlib.Core.Bool.{_||_};
 ghost use mathlib.Core.Path.{_≡_};
 ghost use lib.Dec.{eqb};
@@ -9,6 +9,7 @@ ghost use Rattle.kinds.specs.journey.Kinds.{mostAt, mostWhere};
 use crate::Rule;
 use crate::up_to;
 
+// Q_JP_Status: 0 invalid, 1 valid, 2 unavailable, 3 update, 4 overwrite.
 pub struct QJpStatus;
 
 impl QJpStatus {
@@ -23,7 +24,7 @@ impl QJpStatus {
     }
 }
 
-// How many segments follow.
+// N_ITER_SP, the count of segments.
 pub struct NIterSp;
 
 impl NIterSp {
@@ -38,6 +39,7 @@ impl NIterSp {
     }
 }
 
+// Q_SP_DIR: 0 reverse, 1 nominal.
 pub struct QSpDir;
 
 impl QSpDir {
@@ -52,6 +54,7 @@ impl QSpDir {
     }
 }
 
+// NID_TP, the number of the timing point.
 pub struct NidTp;
 
 impl NidTp {
@@ -66,6 +69,7 @@ impl NidTp {
     }
 }
 
+// T_Latest_Arrival_Date, in days from 1 January 2010.
 pub struct TLatestArrivalDate;
 
 impl TLatestArrivalDate {
@@ -80,7 +84,7 @@ impl TLatestArrivalDate {
     }
 }
 
-// 24:00:00 is among them.
+// T_Latest_Arrival_Seconds, in seconds of the day, up to 24:00:00.
 pub struct TLatestArrivalSeconds;
 
 impl TLatestArrivalSeconds {
@@ -95,6 +99,7 @@ impl TLatestArrivalSeconds {
     }
 }
 
+// T_Arrival_Window, in seconds.
 pub struct TArrivalWindow;
 
 impl TArrivalWindow {
@@ -109,6 +114,7 @@ impl TArrivalWindow {
     }
 }
 
+// Q_TP_Alignment: 0 front, 1 middle, 2 rear.
 pub struct QTpAlignment;
 
 impl QTpAlignment {
@@ -123,6 +129,7 @@ impl QTpAlignment {
     }
 }
 
+// Q_Stop_Skip_Passes: 0 stopping point, 1 skipped stopping point, 2 passing point.
 pub struct QStopSkipPasses;
 
 impl QStopSkipPasses {
@@ -139,6 +146,7 @@ impl QStopSkipPasses {
     }
 }
 
+// Q_TP_Information: 0 none, 1 end of journey.
 pub struct QTpInformation;
 
 impl QTpInformation {
@@ -153,6 +161,7 @@ impl QTpInformation {
     }
 }
 
+// Q_DayLightSaving, 0 or 1.
 pub struct QDayLightSaving;
 
 impl QDayLightSaving {
@@ -167,22 +176,24 @@ impl QDayLightSaving {
     }
 }
 
-// The largest value of a field that is 0 at a passing point, by the kind of the stop.
-fn most_at(stop: u32, most: u32) -> u32
-    ensures { λ r. ⌜ r ≡ mostAt stop most ⌝ }
+// Returns the largest value, by Q_Stop_Skip_Passes, of a field that is at most `most`, and 0 at a passing point.
+fn most_at(stop_skip_passes: u32, most: u32) -> u32
+    ensures { λ r. ⌜ r ≡ mostAt «stop_skip_passes» most ⌝ }
 {
-    if stop == QStopSkipPasses::PASSING {
+    if stop_skip_passes == QStopSkipPasses::PASSING {
         return 0;
     }
     most
 }
 
-fn at_stop(stop: u32, width: u32, largest: u32) -> Rule
-    ensures { λ r. ⌜ meaning r ≡ upTo width (mostAt stop largest) ⌝ }
+// Returns the rule, by Q_Stop_Skip_Passes, of a field of `width` bits that is at most `largest`, and 0 at a passing point.
+fn unless_passing(stop_skip_passes: u32, width: u32, largest: u32) -> Rule
+    ensures { λ r. ⌜ meaning r ≡ upTo width (mostAt «stop_skip_passes» largest) ⌝ }
 {
-    up_to(width, most_at(stop, largest))
+    up_to(width, most_at(stop_skip_passes, largest))
 }
 
+// Q_Opening_Door_Side: 0 none, 1 right, 2 left, 3 both; 0 at a passing point.
 pub struct QOpeningDoorSide;
 
 impl QOpeningDoorSide {
@@ -190,13 +201,14 @@ impl QOpeningDoorSide {
 
     pub const LARGEST: u32 = 3;
 
-    pub fn rule(stop: u32) -> Rule
-        ensures { λ r. ⌜ meaning r ≡ kind.qOpeningDoorSide stop ⌝ }
+    pub fn rule(stop_skip_passes: u32) -> Rule
+        ensures { λ r. ⌜ meaning r ≡ kind.qOpeningDoorSide «stop_skip_passes» ⌝ }
     {
-        at_stop(stop, Self::WIDTH, Self::LARGEST)
+        unless_passing(stop_skip_passes, Self::WIDTH, Self::LARGEST)
     }
 }
 
+// Q_Centralised_Opening, 0 or 1; 0 at a passing point.
 pub struct QCentralisedOpening;
 
 impl QCentralisedOpening {
@@ -204,13 +216,14 @@ impl QCentralisedOpening {
 
     pub const LARGEST: u32 = 1;
 
-    pub fn rule(stop: u32) -> Rule
-        ensures { λ r. ⌜ meaning r ≡ kind.qCentralisedOpening stop ⌝ }
+    pub fn rule(stop_skip_passes: u32) -> Rule
+        ensures { λ r. ⌜ meaning r ≡ kind.qCentralisedOpening «stop_skip_passes» ⌝ }
     {
-        at_stop(stop, Self::WIDTH, Self::LARGEST)
+        unless_passing(stop_skip_passes, Self::WIDTH, Self::LARGEST)
     }
 }
 
+// Q_Relaxed_Coupler, 0 or 1; 0 at a passing point.
 pub struct QRelaxedCoupler;
 
 impl QRelaxedCoupler {
@@ -218,13 +231,14 @@ impl QRelaxedCoupler {
 
     pub const LARGEST: u32 = 1;
 
-    pub fn rule(stop: u32) -> Rule
-        ensures { λ r. ⌜ meaning r ≡ kind.qRelaxedCoupler stop ⌝ }
+    pub fn rule(stop_skip_passes: u32) -> Rule
+        ensures { λ r. ⌜ meaning r ≡ kind.qRelaxedCoupler «stop_skip_passes» ⌝ }
     {
-        at_stop(stop, Self::WIDTH, Self::LARGEST)
+        unless_passing(stop_skip_passes, Self::WIDTH, Self::LARGEST)
     }
 }
 
+// Q_Train_Hold, 0 or 1; 0 at a passing point.
 pub struct QTrainHold;
 
 impl QTrainHold {
@@ -232,13 +246,14 @@ impl QTrainHold {
 
     pub const LARGEST: u32 = 1;
 
-    pub fn rule(stop: u32) -> Rule
-        ensures { λ r. ⌜ meaning r ≡ kind.qTrainHold stop ⌝ }
+    pub fn rule(stop_skip_passes: u32) -> Rule
+        ensures { λ r. ⌜ meaning r ≡ kind.qTrainHold «stop_skip_passes» ⌝ }
     {
-        at_stop(stop, Self::WIDTH, Self::LARGEST)
+        unless_passing(stop_skip_passes, Self::WIDTH, Self::LARGEST)
     }
 }
 
+// T_Departure_Date, in days from 1 January 2010; 0 at a passing point.
 pub struct TDepartureDate;
 
 impl TDepartureDate {
@@ -246,13 +261,14 @@ impl TDepartureDate {
 
     pub const LARGEST: u32 = 32767;
 
-    pub fn rule(stop: u32) -> Rule
-        ensures { λ r. ⌜ meaning r ≡ kind.tDepartureDate stop ⌝ }
+    pub fn rule(stop_skip_passes: u32) -> Rule
+        ensures { λ r. ⌜ meaning r ≡ kind.tDepartureDate «stop_skip_passes» ⌝ }
     {
-        at_stop(stop, Self::WIDTH, Self::LARGEST)
+        unless_passing(stop_skip_passes, Self::WIDTH, Self::LARGEST)
     }
 }
 
+// T_Departure_Seconds, in seconds of the day, before 24:00:00; 0 at a passing point.
 pub struct TDepartureSeconds;
 
 impl TDepartureSeconds {
@@ -260,13 +276,14 @@ impl TDepartureSeconds {
 
     pub const LARGEST: u32 = 86399;
 
-    pub fn rule(stop: u32) -> Rule
-        ensures { λ r. ⌜ meaning r ≡ kind.tDepartureSeconds stop ⌝ }
+    pub fn rule(stop_skip_passes: u32) -> Rule
+        ensures { λ r. ⌜ meaning r ≡ kind.tDepartureSeconds «stop_skip_passes» ⌝ }
     {
-        at_stop(stop, Self::WIDTH, Self::LARGEST)
+        unless_passing(stop_skip_passes, Self::WIDTH, Self::LARGEST)
     }
 }
 
+// T_Minimum_Dwell_Time, in seconds; 0 at a passing point.
 pub struct TMinimumDwellTime;
 
 impl TMinimumDwellTime {
@@ -274,13 +291,14 @@ impl TMinimumDwellTime {
 
     pub const LARGEST: u32 = 1023;
 
-    pub fn rule(stop: u32) -> Rule
-        ensures { λ r. ⌜ meaning r ≡ kind.tMinimumDwellTime stop ⌝ }
+    pub fn rule(stop_skip_passes: u32) -> Rule
+        ensures { λ r. ⌜ meaning r ≡ kind.tMinimumDwellTime «stop_skip_passes» ⌝ }
     {
-        at_stop(stop, Self::WIDTH, Self::LARGEST)
+        unless_passing(stop_skip_passes, Self::WIDTH, Self::LARGEST)
     }
 }
 
+// Q_Automatic_Closing, 0 or 1; 0 at a passing point.
 pub struct QAutomaticClosing;
 
 impl QAutomaticClosing {
@@ -288,15 +306,16 @@ impl QAutomaticClosing {
 
     pub const LARGEST: u32 = 1;
 
-    pub fn rule(stop: u32) -> Rule
-        ensures { λ r. ⌜ meaning r ≡ kind.qAutomaticClosing stop ⌝ }
+    pub fn rule(stop_skip_passes: u32) -> Rule
+        ensures { λ r. ⌜ meaning r ≡ kind.qAutomaticClosing «stop_skip_passes» ⌝ }
     {
-        at_stop(stop, Self::WIDTH, Self::LARGEST)
+        unless_passing(stop_skip_passes, Self::WIDTH, Self::LARGEST)
     }
 }
 
-// ---- a temporary constraint
+// ---- fields of a temporary constraint
 
+// Q_TC_Type: 0 additional speed restriction, 1 low adhesion, 2 and 3 driving modes.
 pub struct QTcType;
 
 impl QTcType {
@@ -304,9 +323,10 @@ impl QTcType {
 
     pub const LARGEST: u32 = 3;
 
-    // An additional speed restriction, and a low adhesion.
+    // Type of an additional speed restriction.
     pub const SPEED: u32 = 0;
 
+    // Type of a low adhesion.
     pub const ADHESION: u32 = 1;
 
     pub fn rule() -> Rule
@@ -316,6 +336,7 @@ impl QTcType {
     }
 }
 
+// Q_TC_Range: 0 has a start, 1 an end, 2 both, 3 neither, for the whole segment.
 pub struct QTcRange;
 
 impl QTcRange {
@@ -336,6 +357,7 @@ impl QTcRange {
     }
 }
 
+// D_TC_Start_Location, in cm; 0 where Q_TC_Range has no start.
 pub struct DTcStartLocation;
 
 impl DTcStartLocation {
@@ -343,7 +365,7 @@ impl DTcStartLocation {
 
     pub const LARGEST: u32 = 16777215;
 
-    // The largest start of a range.
+    // Returns the largest start in cm at Q_TC_Range `range`.
     pub fn most(range: u32) -> u32
         ensures { λ r. ⌜ r ≡ mostWhere (eqb range 0 || eqb range 2) 16777215 ⌝ }
     {
@@ -363,6 +385,7 @@ impl DTcStartLocation {
     }
 }
 
+// D_TC_End_Location, in cm; 0 where Q_TC_Range has no end.
 pub struct DTcEndLocation;
 
 impl DTcEndLocation {
@@ -370,7 +393,7 @@ impl DTcEndLocation {
 
     pub const LARGEST: u32 = 16777215;
 
-    // The largest end of a range that is not both.
+    // Returns the largest end in cm at Q_TC_Range `range`, other than `BOTH`.
     pub fn most(range: u32) -> u32
         ensures { λ r. ⌜ r ≡ mostWhere (eqb range 1) 16777215 ⌝ }
     {
@@ -380,6 +403,7 @@ impl DTcEndLocation {
         0
     }
 
+    // Returns the rule at Q_TC_Range `range`: with `BOTH` the end is above `start`, in cm.
     pub fn rule(range: u32, start: u32) -> Rule
         ensures { λ r. ⌜ meaning r ≡ kind.dTcEndLocation range start ⌝ }
     {
@@ -390,7 +414,7 @@ impl DTcEndLocation {
     }
 }
 
-// Q_FRONT of a constraint.
+// Q_FRONT of a temporary constraint; 0 unless it is a speed restriction.
 pub struct QTcFront;
 
 impl QTcFront {
@@ -398,7 +422,7 @@ impl QTcFront {
 
     pub const LARGEST: u32 = 1;
 
-    // The largest of a type.
+    // Returns the largest Q_FRONT at Q_TC_Type `of`.
     pub fn most(of: u32) -> u32
         ensures { λ r. ⌜ r ≡ mostWhere (eqb of 0) 1 ⌝ }
     {
@@ -415,6 +439,7 @@ impl QTcFront {
     }
 }
 
+// V_Speed_Level of a temporary constraint, in steps of 5 km/h; 0 unless it is a speed restriction.
 pub struct VSpeedLevel;
 
 impl VSpeedLevel {
@@ -422,6 +447,7 @@ impl VSpeedLevel {
 
     pub const LARGEST: u32 = 120;
 
+    // Returns the rule at Q_TC_Type `of`: a speed, or 0 where none is used.
     pub fn rule(of: u32) -> Rule
         ensures { λ r. ⌜ meaning r ≡ kind.vSpeedLevel of ⌝ }
     {
@@ -432,6 +458,7 @@ impl VSpeedLevel {
     }
 }
 
+// Q_Low_Adhesion_Rate of a temporary constraint; 0 unless it is a low adhesion.
 pub struct QLowAdhesionRate;
 
 impl QLowAdhesionRate {
@@ -439,7 +466,7 @@ impl QLowAdhesionRate {
 
     pub const LARGEST: u32 = 5;
 
-    // The largest of a type.
+    // Returns the largest Q_Low_Adhesion_Rate at Q_TC_Type `of`.
     pub fn most(of: u32) -> u32
         ensures { λ r. ⌜ r ≡ mostWhere (eqb of 1) 5 ⌝ }
     {

@@ -1,4 +1,4 @@
-// The field kinds of the header and the body: a type each, with its width and its largest value, and the rule that judges its values.
+// Field kinds: one type for each kind, with its width in bits, its largest packet value, and the rule that judges its values.
 pub mod body;
 pub mod header;
 pub mod journey;
@@ -9,46 +9,51 @@ ghost use Rattle.kinds.specs.Kind.{upTo};
 ghost use Rattle.kinds.specs.internal.Rules.{meaning};
 use crate::refusals::FIELD_VALUE;
 
-// A field's value: the sheet's number and the packet's.
+// A field's value: `sheet` is the sheet's number, `packet` the packet's value.
 pub struct Item {
     pub sheet: u32,
     pub packet: u32,
 }
 
-// A value, or the number of its refusal.
+// A judged field: `Is(item)`, or `Refused(number)`.
 pub enum Field {
     Is(Item),
     Refused(u32),
 }
 
-// What judges the values of a kind.
+// The rule of a field kind. Widths are in bits, locations in cm.
 pub enum Rule {
-    // The same number in both, from least to largest.
+    // A sheet's number from `least` to `largest`, which is also the packet's value; `refusal` for any other number.
     Range {
         width: u32,
         least: u32,
         largest: u32,
         refusal: u32,
     },
-    // A change's location, after the last one and before the segment's end.
+    // D_LOCATION of a change: above `last` and below `lsp`.
     Location {
         last: u32,
         lsp: u32,
     },
+    // NID_OPERATIONAL: eight digits of four bits, each 0 to 9 or F.
     Operational,
+    // A speed: km/h in a sheet, steps of 5 km/h in a packet.
     Speed,
+    // A current limit: amperes + 1 in a sheet, steps of 10 A in a packet; 0 and 1,023 for no limit.
     Current,
+    // A cant deficiency: mm in a sheet, the place in the table of cant figures in a packet.
     Cant,
+    // A voltage: volts in a sheet, the place in the table of volts in a packet.
     Volts,
-    // The end of a temporary constraint, after its start.
+    // D_TC_End_Location of a range with a start and an end: above `start`.
     After {
         start: u32,
     },
-    // No current, where none is used.
+    // A current that is not used: 0 in a sheet, 1,023 in a packet.
     NoCurrent,
 }
 
-// From 0 to largest.
+// Returns the rule for values from 0 to `largest` in a field of `width` bits.
 pub fn up_to(width: u32, largest: u32) -> Rule
     ensures { λ r. ⌜ meaning r ≡ upTo width largest ⌝ }
 {

@@ -1,4 +1,4 @@
-// All refusal numbers, with the names that the C header has. 0 is success. The header says the ground and the place of each.
+// Refusal numbers, with their names in the C header, which says the ground and the place of each. 0 is success.
 
 // A packet has fewer than 15 bytes.
 pub const SHORT_PACKET: u32 = 1;
@@ -30,7 +30,7 @@ pub const SHEET_FORM: u32 = 9;
 // The train's length or cant deficiency is not allowed.
 pub const TRAIN_VALUE: u32 = 10;
 
-// x is at or past L_SP.
+// Location x of a speed question is at or past L_SP.
 pub const PAST_END: u32 = 11;
 
 // A sheet's body would exceed 65,535 bits.
@@ -42,5 +42,5 @@ pub const BITS_LEFT: u32 = 13;
 // An intake's sheet is asked for before a completion or after the next delivery, or with the packet's room cut short.
 pub const TOO_EARLY: u32 = 14;
 
-// The segment is brought neither as a packet, 0, nor as a sheet, 1.
+// A speed question brings neither a packet, 0, nor a sheet, 1.
 pub const UNKNOWN_KIND: u32 = 15;

@@ -2,8 +2,9 @@
 use libc::STDIN_FILENO;
 use libc::STDOUT_FILENO;
 
+// Reads a packet from standard input and writes its listing to standard output.
 fn main() {
-    // No longer input can pass rule 3: what is past this is not read.
+    // The largest packet has 8,207 bytes: longer input is refused with 2 or 3 by its first 8,208 bytes, so the rest is not read.
     let mut packet = [0u8; 8208];
     let n = io::read_full(STDIN_FILENO, &mut packet);
     let mut room = [0u8; text::ROOM];

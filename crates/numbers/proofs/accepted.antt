@@ -1,2 +1,2 @@
--- The laws of the module accepted.
+-- Laws of the module `accepted`.
 pub mod Groups

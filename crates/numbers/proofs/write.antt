@@ -1,2 +1,2 @@
--- The laws of the module write.
+-- Laws of the module `write`.
 mod Writing

@@ -1,8 +1,8 @@
-// A number of an accepted sheet, read. Its form and its size are not judged again.
+// Reads the numbers of an accepted sheet. Their form and size are not judged again.
 ghost use mathlib.Core.Path.{_≡_};
 ghost use Rattle.numbers.specs.internal.accepted.Accepted.{There, Single, Reads};
 
-// A number, and the place after it.
+// A number, and the place of the byte after it.
 pub struct ReadNumber {
     pub value: u32,
     pub next: usize,
@@ -14,7 +14,7 @@ fn wide(x: u8) -> u32
     x as u32
 }
 
-// The number at the byte from, of one group: the place after it waits for no byte.
+// Reads the number at byte `from`, of one group. Fast path: `next` does not depend on the byte.
 pub fn single(s: &[u8], from: usize) -> ReadNumber
     requires { ⌜ Single (now s) from ⌝ }
     ensures { λ r. ⌜ Reads (now (s .entry)) from r ⌝ }
@@ -25,7 +25,7 @@ pub fn single(s: &[u8], from: usize) -> ReadNumber
     }
 }
 
-// The number at the byte from, group by group.
+// Reads the number at byte `from`, group by group.
 fn longer(s: &[u8], from: usize) -> ReadNumber
     requires { ⌜ There (now s) from ⌝ }
     ensures { λ r. ⌜ Reads (now (s .entry)) from r ⌝ }
@@ -46,7 +46,8 @@ fn longer(s: &[u8], from: usize) -> ReadNumber
     }
 }
 
-// The number at the byte from: mostly of one group or two, which no branch tells apart.
+// Reads the number at byte `from`.
+// Fast path: one or two groups, without a branch between the two. Otherwise calls `longer`.
 pub fn number(s: &[u8], from: usize) -> ReadNumber
     requires { ⌜ There (now s) from ⌝ }
     ensures { λ r. ⌜ Reads (now (s .entry)) from r ⌝ }

@@ -1,11 +1,11 @@
-// A number of a sheet in its groups: how many they are, and put into a slice.
+// Writes the numbers of a sheet, and counts their groups.
 ghost use mathlib.Core.Path.{_≡_};
 ghost use Prim.Native.Nat.{_+_, _≤_, _<_};
 ghost use lib.ListN.{length};
 ghost use Rattle.numbers.specs.Numbers.{groupsIn};
 ghost use Rattle.numbers.specs.internal.Groups.{putNumber};
 
-// How many groups v has, from the place of its highest one bit.
+// Returns how many groups `v` has, by the place of its highest one bit.
 pub fn groups(v: u32) -> u32
     ensures { λ r. ⌜ r ≡ length (groupsIn v) ⌝ }
 {
@@ -16,7 +16,7 @@ pub fn groups(v: u32) -> u32
     }
 }
 
-// Writes v at the byte at, and returns the place after it.
+// Writes `v` at byte `at` and returns the next byte's place.
 pub fn put_number(s: &mut [u8], at: usize, v: u32) -> usize
     requires { ⌜ at + length (groupsIn v) ≤ length (now s) ⌝ }
     ensures { λ r. ⌜ record { next = r; bytes = now (s .exit) } ≡ putNumber (now (s .entry)) at v ⌝ }
@@ -32,7 +32,8 @@ pub fn put_number(s: &mut [u8], at: usize, v: u32) -> usize
     i + 1
 }
 
-// The same for a number of at most two groups, with no branch on which: the second is stored where it stands, or under the first.
+// Writes `v`, below 16,384, at byte `at` and returns the next byte's place.
+// Fast path, without a branch: writes the second group first; the first group overwrites it where `v` has one group.
 pub fn put_short(s: &mut [u8], at: usize, v: u32) -> usize
     requires { ⌜ (v < 16384) × (at + length (groupsIn v) ≤ length (now s)) ⌝ }
     ensures { λ r. ⌜ record { next = r; bytes = now (s .exit) } ≡ putNumber (now (s .entry)) at v ⌝ }

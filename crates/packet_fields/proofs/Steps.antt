@@ -1,4 +1,4 @@
--- A field judged at its place: the three ends that it can have.
+-- A field judged at its place: it does not fit, it is refused, or it has a value.
 use mathlib.Core.Path.{_≡_, _∙_}
 use mathlib.Core.List.{List}
 use Prim.Native.Nat.{ℕ, _+_, _-_, _≤_, _<_}
@@ -24,7 +24,7 @@ module _ (s : List ℕ) (stop : ℕ) where
   placed : {at n : ℕ} → Standing s stop at n → Placed s at stop
   placed h = record { before = h .before; inside = h .inside; few = h .few }
 
-  -- ---- a field of w bits: they are not all there, or its value is v, of r bytes in the sheet, none where it is refused
+  -- ---- a field of w bits: they are not all present, or its value is v, of r bytes in the sheet, where 0 bytes stand for a refusal
 
   module _ (k : Kind) (w : ℕ) (e : k .width ≡ w) {at n : ℕ} (h : Standing s stop at n) where
     refused : {r : ℕ} → Taken.Refused r ≡ bitsTaken k s at stop → Took k s stop at n (PacketValue.Refused r at)
@@ -56,7 +56,7 @@ module _ (s : List ℕ) (stop : ℕ) where
           }))
           (λ a. absurd (z (er ∙ rw a)))
 
-  -- the same of a field on whose value nothing depends
+  -- a field on whose value nothing depends
 
   pub past : {k : Kind} {at n v to m : ℕ} → Took k s stop at n (PacketValue.Is v to m) → Over (then k) s stop at n (On to m)
   past t = value-on (λ v f. f) t (over-none (t .stands))

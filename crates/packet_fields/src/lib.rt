@@ -1,4 +1,5 @@
-// A field of a packet judged at its place, with the bytes of its sheet counted. Nothing is written.
+// Judges one field of a packet, and counts the bytes of its number in the sheet. Nothing is written.
+// Parameters: `s` is the packet, `stop` the bit where its fields end, `at` the bit of the field, `n` the sheet bytes before it.
 pub mod header;
 pub mod row;
 
@@ -16,19 +17,19 @@ use kinds::refusals::BODY_BITS;
 use kinds::refusals::CHANGE_LOCATION;
 use kinds::refusals::FIELD_VALUE;
 
-// The place after a part with the bytes counted so far, or a refusal and its place.
+// `On(bit, bytes)`: next bit, sheet bytes so far. `Refused(number, bit)`.
 pub enum PacketStep {
     On(usize, usize),
     Refused(u32, u32),
 }
 
-// The same after a field, with its value.
+// `Is(value, bit, bytes)`: value of the field, next bit, sheet bytes so far. `Refused(number, bit)`.
 pub enum PacketValue {
     Is(u32, usize, usize),
     Refused(u32, u32),
 }
 
-// A field at the bit at, n bytes counted before it.
+// Judges one field by `rule` and returns its value.
 pub fn field(s: &[u8], stop: usize, at: usize, n: usize, rule: Rule) -> PacketValue
     requires { ⌜ Standing (now s) stop at n × Wide (meaning rule) ⌝ }
     ensures { λ r. ⌜ Took (meaning rule) (now (s .entry)) stop at n r ⌝ }
@@ -45,7 +46,7 @@ pub fn field(s: &[u8], stop: usize, at: usize, n: usize, rule: Rule) -> PacketVa
     PacketValue::Is(v, at + width as usize, n + bytes as usize)
 }
 
-// The same of a field on whose value nothing depends.
+// Judges one field by `rule` and drops its value; no later field depends on it.
 pub fn plain(s: &[u8], stop: usize, at: usize, n: usize, rule: Rule) -> PacketStep
     requires { ⌜ Standing (now s) stop at n × Wide (meaning rule) ⌝ }
     ensures { λ r. ⌜ Over (then (meaning rule)) (now (s .entry)) stop at n r ⌝ }
@@ -56,9 +57,9 @@ pub fn plain(s: &[u8], stop: usize, at: usize, n: usize, rule: Rule) -> PacketSt
     }
 }
 
-// ---- the fields between the elements of a list, and M_CURRENT, with no rule to look up
+// ---- fast paths for N_ITER, D_LOCATION and M_CURRENT, which look up no `Rule`
 
-// N_ITER up to a limit.
+// Judges N_ITER, at most `limit` (below 128), and returns its value.
 pub fn count(s: &[u8], stop: usize, at: usize, n: usize, limit: u32) -> PacketValue
     requires { ⌜ Standing (now s) stop at n × (limit < 128) ⌝ }
     ensures { λ r. ⌜ Took (nIter limit) (now (s .entry)) stop at n r ⌝ }
@@ -74,7 +75,7 @@ pub fn count(s: &[u8], stop: usize, at: usize, n: usize, limit: u32) -> PacketVa
     PacketValue::Is(v, at + COUNT, n + bytes as usize)
 }
 
-// D_LOCATION after the last one and before L_SP.
+// Judges D_LOCATION, above `last` and below `lsp` (cm), and returns its value.
 pub fn location(s: &[u8], stop: usize, at: usize, n: usize, last: u32, lsp: u32) -> PacketValue
     requires { ⌜ Standing (now s) stop at n ⌝ }
     ensures { λ r. ⌜ Took (dLocation last lsp) (now (s .entry)) stop at n r ⌝ }
@@ -90,9 +91,10 @@ pub fn location(s: &[u8], stop: usize, at: usize, n: usize, last: u32, lsp: u32)
     PacketValue::Is(v, at + LOCATION, n + bytes as usize)
 }
 
+// Bits of M_CURRENT.
 const CURRENT: usize = body::MCurrent::WIDTH as usize;
 
-// M_CURRENT.
+// Judges M_CURRENT and drops its value; no later field depends on it.
 pub fn current(s: &[u8], stop: usize, at: usize, n: usize) -> PacketStep
     requires { ⌜ Standing (now s) stop at n ⌝ }
     ensures { λ r. ⌜ Over segment.current (now (s .entry)) stop at n r ⌝ }

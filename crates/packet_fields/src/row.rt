@@ -1,4 +1,4 @@
-// Fields in a row judged at a place of a packet, with the bytes of their sheet counted. Nothing is written.
+// Judges a row of fields of a packet, and counts the bytes of their numbers in the sheet. Nothing is written.
 ghost use mathlib.Core.Path.{_≡_};
 ghost use mathlib.Core.Bool.{true};
 ghost use Rattle.grammar.specs.internal.rows.Rows as rows;
@@ -6,7 +6,8 @@ ghost use Rattle.grammar.specs.internal.rows.Rows.{fits};
 ghost use Rattle.packet_fields.specs.internal.Judging.{Standing, Over};
 use crate::PacketStep;
 
-// The fields field by field, each from 0 to its largest value.
+// Judges fields from bit `at` on, one after another: field i has `widths[i]` bits and is at most `most[i]`.
+// The fields of the packet end at bit `stop`; `n` sheet bytes are counted before the row.
 pub fn row(s: &[u8], stop: usize, at: usize, n: usize, widths: &[u32], most: &[u32]) -> PacketStep
     requires { ⌜ Standing (now s) stop at n × (fits (now widths) (now most) ≡ true) ⌝ }
     ensures { λ r. ⌜ Over (rows.row (now (widths .entry)) (now (most .entry))) (now (s .entry)) stop at n r ⌝ }

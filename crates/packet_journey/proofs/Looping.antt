@@ -1,4 +1,4 @@
--- A segment of a journey in parts, and the whole in parts.
+-- A segment of a journey in parts, and the whole journey in parts.
 use mathlib.Core.Path.{ap, _∙_}
 use Prim.Native.Nat.{ℕ}
 use Rattle.format.specs.Format.{Format}

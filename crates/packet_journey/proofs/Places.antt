@@ -1,4 +1,4 @@
--- A segment's head whose bits are all there: the step over it, from the bytes of its fields.
+-- A segment's head whose bits are all present: the step over it, from the bytes of its fields.
 use mathlib.Core.Path.{_≡_, refl}
 use mathlib.Core.List.{List, [], _∷_}
 use Prim.Native.Nat.{ℕ, _+_, _*_, _-_, _/_, _%_, _≤_}

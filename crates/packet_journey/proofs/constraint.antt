@@ -1,3 +1,3 @@
--- The laws of the module constraint.
+-- Laws of the module `constraint`.
 pub mod Parts
 pub mod Places

@@ -1,3 +1,3 @@
--- The laws of the module constraint_bytes.
+-- Laws of the module `constraint_bytes`.
 pub mod Both
 pub mod Values

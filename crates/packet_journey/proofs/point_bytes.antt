@@ -1,2 +1,2 @@
--- The laws of the module point_bytes.
+-- Laws of the module `point_bytes`.
 pub mod Values

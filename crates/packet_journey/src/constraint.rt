@@ -1,4 +1,5 @@
-// A journey's temporary constraints judged, with the bytes of their sheet counted. Nothing is written.
+// Judges the temporary constraints of a journey's packet, and counts the bytes of their numbers in the sheet.
+// Parameters: `s` is the packet, `stop` the bit where its fields end, `at` the bit where a part begins, `n` the sheet bytes before it.
 ghost use Prim.Native.Nat.{_-_, _≤_};
 ghost use Rattle.format.specs.Format.{times};
 ghost use Rattle.grammar.specs.journey.Journey as journey;
@@ -18,7 +19,7 @@ use kinds::journey::VSpeedLevel;
 use packet_fields::PacketStep;
 use packet_fields::PacketValue;
 
-// The start and the end, by the range.
+// Judges the start and the end, at Q_TC_Range `range`.
 fn stretch(s: &[u8], stop: usize, at: usize, n: usize, range: u32) -> PacketStep
     requires { ⌜ Standing (now s) stop at n ⌝ }
     ensures { λ r. ⌜ Over (journey.stretch range) (now (s .entry)) stop at n r ⌝ }
@@ -31,7 +32,7 @@ fn stretch(s: &[u8], stop: usize, at: usize, n: usize, range: u32) -> PacketStep
     }
 }
 
-// Q_FRONT to the current, by the type.
+// Judges Q_FRONT, V_Speed_Level, Q_Low_Adhesion_Rate and M_CURRENT, at Q_TC_Type `of`.
 fn restriction(s: &[u8], stop: usize, at: usize, n: usize, of: u32) -> PacketStep
     requires { ⌜ Standing (now s) stop at n ⌝ }
     ensures { λ r. ⌜ Over (journey.restriction of) (now (s .entry)) stop at n r ⌝ }
@@ -62,7 +63,7 @@ fn restriction(s: &[u8], stop: usize, at: usize, n: usize, of: u32) -> PacketSte
     }
 }
 
-// A constraint field by field.
+// Judges a temporary constraint field by field, and finds the field at fault.
 fn cut_constraint(s: &[u8], stop: usize, at: usize, n: usize) -> PacketStep
     requires { ⌜ Standing (now s) stop at n ⌝ }
     ensures { λ r. ⌜ Over temporaryConstraint (now (s .entry)) stop at n r ⌝ }
@@ -85,7 +86,7 @@ fn cut_constraint(s: &[u8], stop: usize, at: usize, n: usize) -> PacketStep
     }
 }
 
-// The same where its bits are all there: they are read at once, and a refusal is told field by field.
+// Fast path: all 73 bits are present. On a refusal, calls `cut_constraint` to find the field at fault.
 fn whole_constraint(s: &[u8], stop: usize, at: usize, n: usize) -> PacketStep
     requires { ⌜ Standing (now s) stop at n × (73 ≤ stop - at) ⌝ }
     ensures { λ r. ⌜ Over temporaryConstraint (now (s .entry)) stop at n r ⌝ }
@@ -104,7 +105,7 @@ fn whole_constraint(s: &[u8], stop: usize, at: usize, n: usize) -> PacketStep
     PacketStep::On(at + CONSTRAINT, n + (stretch + restriction + 2) as usize)
 }
 
-// A temporary constraint.
+// Judges a temporary constraint.
 fn constraint(s: &[u8], stop: usize, at: usize, n: usize) -> PacketStep
     requires { ⌜ Standing (now s) stop at n ⌝ }
     ensures { λ r. ⌜ Over temporaryConstraint (now (s .entry)) stop at n r ⌝ }
@@ -115,7 +116,7 @@ fn constraint(s: &[u8], stop: usize, at: usize, n: usize) -> PacketStep
     whole_constraint(s, stop, at, n)
 }
 
-// The temporary constraints of a segment.
+// Judges `count` temporary constraints, one after another.
 pub fn constraints(s: &[u8], stop: usize, at: usize, n: usize, count: u32) -> PacketStep
     requires { ⌜ Standing (now s) stop at n ⌝ }
     ensures { λ r. ⌜ Over (times temporaryConstraint count) (now (s .entry)) stop at n r ⌝ }

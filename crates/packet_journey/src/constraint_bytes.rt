@@ -1,4 +1,4 @@
-// How many bytes a temporary constraint's values have in the sheet, a few fields at once: 0 where one is refused.
+// Counts the bytes of a temporary constraint's values in the sheet, several fields at once; 0 where a value is refused.
 ghost use mathlib.Core.Path.{_≡_};
 ghost use Prim.Native.Nat.{_%_, _<_};
 ghost use Rattle.packet_journey.specs.internal.constraint_bytes.Bytes.{stretchBytes, restrictionBytes};
@@ -9,7 +9,7 @@ use kinds::journey::QLowAdhesionRate;
 use kinds::journey::QTcRange;
 use kinds::journey::QTcType;
 
-// The start and the end of a range that is both.
+// Bytes of `start` and `end` (cm) in the sheet at Q_TC_Range 2, or 0 if `end` is not above `start`.
 fn both_bytes(start: u32, end: u32) -> u32
     requires { ⌜ (start < 16777216) × (end < 16777216) ⌝ }
     ensures { λ r. ⌜ r ≡ stretchBytes 2 start end ⌝ }
@@ -20,7 +20,7 @@ fn both_bytes(start: u32, end: u32) -> u32
     numbers::write::groups(start) + numbers::write::groups(end)
 }
 
-// The start and the end, by the range.
+// Bytes of `start` and `end` (cm) in the sheet at Q_TC_Range `range`, or 0 if one is refused.
 pub fn stretch_bytes(range: u32, start: u32, end: u32) -> u32
     requires { ⌜ (start < 16777216) × (end < 16777216) ⌝ }
     ensures { λ r. ⌜ r ≡ stretchBytes range start end ⌝ }
@@ -37,7 +37,8 @@ pub fn stretch_bytes(range: u32, start: u32, end: u32) -> u32
     numbers::write::groups(start) + numbers::write::groups(end)
 }
 
-// Q_FRONT to the current, of a restriction of the speed: the speed alone has more than one byte.
+// Bytes of Q_FRONT to M_CURRENT in the sheet at Q_TC_Type 0, or 0 if one is refused. `t` is their 21 bits.
+// Only the speed has more than one byte.
 fn speed_bytes(t: u32) -> u32
     requires { ⌜ t % 1024 ≡ 1023 ⌝ }
     ensures { λ r. ⌜ r ≡ restrictionBytes 0 t ⌝ }
@@ -52,7 +53,8 @@ fn speed_bytes(t: u32) -> u32
     speed + 3
 }
 
-// Q_FRONT to the current, by the type: those before the adhesion are 0 where the adhesion bounds them.
+// Bytes of Q_FRONT to M_CURRENT in the sheet at Q_TC_Type `of`, or 0 if one is refused. `t` is their 21 bits.
+// Where the type is no speed restriction, one comparison checks the adhesion and that Q_FRONT and the speed before it are 0.
 pub fn restriction_bytes(of: u32, t: u32) -> u32
     requires { ⌜ t < 2097152 ⌝ }
     ensures { λ r. ⌜ r ≡ restrictionBytes of t ⌝ }

@@ -1,4 +1,5 @@
-// A journey's fields judged, with the bytes of their sheet counted. Nothing is written.
+// Judges the fields of a journey's packet, and counts the bytes of its sheet. Nothing is written.
+// Parameters: `s` is the packet, `stop` the bit where its fields end, `at` the bit where a part begins, `n` the sheet bytes before it.
 pub mod constraint;
 pub mod constraint_bytes;
 pub mod point;
@@ -21,7 +22,7 @@ use kinds::journey::QJpStatus;
 use packet_fields::PacketStep;
 use packet_fields::PacketValue;
 
-// NID_C to Q_SP_DIR field by field, and the count of the timing points.
+// Judges NID_C to Q_SP_DIR and N_ITER of a segment, field by field, and returns N_ITER.
 fn cut_head(s: &[u8], stop: usize, at: usize, n: usize) -> PacketValue
     requires { ⌜ Standing (now s) stop at n ⌝ }
     ensures { λ r. ⌜ Gave segmentHead (now (s .entry)) stop at n r ⌝ }
@@ -34,7 +35,7 @@ fn cut_head(s: &[u8], stop: usize, at: usize, n: usize) -> PacketValue
     }
 }
 
-// The same where their bits are all there: none can be refused.
+// Fast path: all 64 bits are present. No value of these fields is refused.
 fn whole_head(s: &[u8], stop: usize, at: usize, n: usize) -> PacketValue
     requires { ⌜ Standing (now s) stop at n × (64 ≤ stop - at) ⌝ }
     ensures { λ r. ⌜ Gave segmentHead (now (s .entry)) stop at n r ⌝ }
@@ -48,7 +49,7 @@ fn whole_head(s: &[u8], stop: usize, at: usize, n: usize) -> PacketValue
     PacketValue::Is(t % 32, at + SEGMENT_HEAD, n + bytes as usize)
 }
 
-// NID_C to Q_SP_DIR, and the count of the timing points.
+// Judges NID_C to Q_SP_DIR and N_ITER of a segment, and returns N_ITER, the count of its timing points.
 fn segment_head(s: &[u8], stop: usize, at: usize, n: usize) -> PacketValue
     requires { ⌜ Standing (now s) stop at n ⌝ }
     ensures { λ r. ⌜ Gave segmentHead (now (s .entry)) stop at n r ⌝ }
@@ -59,7 +60,7 @@ fn segment_head(s: &[u8], stop: usize, at: usize, n: usize) -> PacketValue
     whole_head(s, stop, at, n)
 }
 
-// The count of the temporary constraints, and the constraints.
+// Judges the count of a segment's temporary constraints, and the constraints.
 fn constraint_list(s: &[u8], stop: usize, at: usize, n: usize) -> PacketStep
     requires { ⌜ Standing (now s) stop at n ⌝ }
     ensures { λ r. ⌜ Over (constraintList constraints) (now (s .entry)) stop at n r ⌝ }
@@ -70,7 +71,7 @@ fn constraint_list(s: &[u8], stop: usize, at: usize, n: usize) -> PacketStep
     }
 }
 
-// A segment: its head, its timing points, and its temporary constraints.
+// Judges a segment: its head, its timing points, its temporary constraints.
 fn segment(s: &[u8], stop: usize, at: usize, n: usize) -> PacketStep
     requires { ⌜ Standing (now s) stop at n ⌝ }
     ensures { λ r. ⌜ Over (journeySegment constraints) (now (s .entry)) stop at n r ⌝ }
@@ -84,7 +85,7 @@ fn segment(s: &[u8], stop: usize, at: usize, n: usize) -> PacketStep
     }
 }
 
-// The segments of a journey.
+// Judges `count` segments, one after another.
 fn segments(s: &[u8], stop: usize, at: usize, n: usize, count: u32) -> PacketStep
     requires { ⌜ Standing (now s) stop at n ⌝ }
     ensures { λ r. ⌜ Over (times (journeySegment constraints) count) (now (s .entry)) stop at n r ⌝ }
@@ -107,7 +108,7 @@ fn segments(s: &[u8], stop: usize, at: usize, n: usize, count: u32) -> PacketSte
     PacketStep::On(to, m)
 }
 
-// Q_JP_Status, and the count of the segments with the segments.
+// Judges the body: Q_JP_Status, N_ITER_SP and the segments.
 fn body(s: &[u8], stop: usize, at: usize, n: usize) -> PacketStep
     requires { ⌜ Standing (now s) stop at n ⌝ }
     ensures { λ r. ⌜ Over journeyBodyPart (now (s .entry)) stop at n r ⌝ }
@@ -121,7 +122,7 @@ fn body(s: &[u8], stop: usize, at: usize, n: usize) -> PacketStep
     }
 }
 
-// Every field of a journey after L_PACKET_ATO.
+// Judges every field after L_PACKET_ATO.
 pub fn fields(s: &[u8], stop: usize) -> PacketStep
     requires { ⌜ Standing (now s) stop 24 1 ⌝ }
     ensures { λ r. ⌜ Over journeyPart (now (s .entry)) stop 24 1 r ⌝ }

@@ -1,4 +1,5 @@
-// A journey's timing points judged, with the bytes of their sheet counted. Nothing is written.
+// Judges the timing points of a journey's packet, and counts the bytes of their numbers in the sheet.
+// Parameters: `s` is the packet, `stop` the bit where its fields end, `at` the bit where a part begins, `n` the sheet bytes before it.
 ghost use Prim.Native.Nat.{_-_, _≤_};
 ghost use Rattle.format.specs.Format.{times};
 ghost use Rattle.grammar.specs.internal.rows.Rows.{row};
@@ -15,7 +16,7 @@ use kinds::journey::QStopSkipPasses;
 use packet_fields::PacketStep;
 use packet_fields::PacketValue;
 
-// NID_TP to Q_TP_Alignment.
+// Judges NID_TP to Q_TP_Alignment, field by field.
 fn arrival(s: &[u8], stop: usize, at: usize, n: usize) -> PacketStep
     requires { ⌜ Standing (now s) stop at n ⌝ }
     ensures { λ r. ⌜ Over (row arrivalWidths arrivalMost) (now (s .entry)) stop at n r ⌝ }
@@ -25,17 +26,17 @@ fn arrival(s: &[u8], stop: usize, at: usize, n: usize) -> PacketStep
     packet_fields::row::row(s, stop, at, n, &widths, &most)
 }
 
-// Q_TP_Information to Q_Automatic_Closing, by the kind of the stop.
-fn stopping(s: &[u8], stop: usize, at: usize, n: usize, kind: u32) -> PacketStep
+// Judges Q_TP_Information to Q_Automatic_Closing, field by field, by Q_Stop_Skip_Passes.
+fn stopping(s: &[u8], stop: usize, at: usize, n: usize, stop_skip_passes: u32) -> PacketStep
     requires { ⌜ Standing (now s) stop at n ⌝ }
-    ensures { λ r. ⌜ Over (row stoppingWidths (stoppingMost kind)) (now (s .entry)) stop at n r ⌝ }
+    ensures { λ r. ⌜ Over (row stoppingWidths (stoppingMost «stop_skip_passes»)) (now (s .entry)) stop at n r ⌝ }
 {
     let widths = grammar::journey::stopping_widths();
-    let most = grammar::journey::stopping_most(kind);
+    let most = grammar::journey::stopping_most(stop_skip_passes);
     packet_fields::row::row(s, stop, at, n, &widths, &most)
 }
 
-// A timing point field by field.
+// Judges a timing point field by field, and finds the field at fault.
 fn cut_point(s: &[u8], stop: usize, at: usize, n: usize) -> PacketStep
     requires { ⌜ Standing (now s) stop at n ⌝ }
     ensures { λ r. ⌜ Over timingPoint (now (s .entry)) stop at n r ⌝ }
@@ -45,13 +46,19 @@ fn cut_point(s: &[u8], stop: usize, at: usize, n: usize) -> PacketStep
         PacketStep::On(at2, n2) => {
             match packet_fields::field(s, stop, at2, n2, QStopSkipPasses::rule()) {
                 PacketValue::Refused(r, place) => PacketStep::Refused(r, place),
-                PacketValue::Is(kind, at3, n3) => stopping(s, stop, at3, n3, kind),
+                PacketValue::Is(stop_skip_passes, at3, n3) => stopping(
+                    s,
+                    stop,
+                    at3,
+                    n3,
+                    stop_skip_passes,
+                ),
             }
         }
     }
 }
 
-// The same where its bits are all there: they are read at once, and a refusal is told field by field.
+// Fast path: all 129 bits are present. On a refusal, calls `cut_point` to find the field at fault.
 fn whole_point(s: &[u8], stop: usize, at: usize, n: usize) -> PacketStep
     requires { ⌜ Standing (now s) stop at n × (129 ≤ stop - at) ⌝ }
     ensures { λ r. ⌜ Over timingPoint (now (s .entry)) stop at n r ⌝ }
@@ -75,7 +82,7 @@ fn whole_point(s: &[u8], stop: usize, at: usize, n: usize) -> PacketStep
     PacketStep::On(at + POINT, n + (name + latest + marks + eight) as usize)
 }
 
-// A timing point.
+// Judges a timing point.
 fn point(s: &[u8], stop: usize, at: usize, n: usize) -> PacketStep
     requires { ⌜ Standing (now s) stop at n ⌝ }
     ensures { λ r. ⌜ Over timingPoint (now (s .entry)) stop at n r ⌝ }
@@ -86,7 +93,7 @@ fn point(s: &[u8], stop: usize, at: usize, n: usize) -> PacketStep
     whole_point(s, stop, at, n)
 }
 
-// The timing points of a segment.
+// Judges `count` timing points, one after another.
 pub fn points(s: &[u8], stop: usize, at: usize, n: usize, count: u32) -> PacketStep
     requires { ⌜ Standing (now s) stop at n ⌝ }
     ensures { λ r. ⌜ Over (times timingPoint count) (now (s .entry)) stop at n r ⌝ }

@@ -1,4 +1,4 @@
-// How many bytes a timing point's values have in the sheet, a few fields at once: 0 where one is refused.
+// Counts the bytes of a timing point's values in the sheet, several fields at once; 0 where a value is refused.
 ghost use mathlib.Core.List.{_++_};
 ghost use mathlib.Core.Path.{_≡_};
 ghost use Prim.Native.Nat.{_<_};
@@ -10,7 +10,7 @@ use kinds::journey::QTpInformation;
 use kinds::journey::TDepartureSeconds;
 use kinds::journey::TLatestArrivalSeconds;
 
-// The date and the seconds of the latest arrival.
+// Bytes of T_Latest_Arrival_Date and T_Latest_Arrival_Seconds in the sheet, or 0 if one is refused. `t` is their 32 bits.
 pub fn latest_bytes(t: u32) -> u32
     ensures { λ r. ⌜ r ≡ rowBytes latestMost (parts latestWidths t) ⌝ }
 {
@@ -21,7 +21,8 @@ pub fn latest_bytes(t: u32) -> u32
     numbers::write::groups(t / 131072) + numbers::write::groups(seconds)
 }
 
-// T_Arrival_Window to Q_DayLightSaving: the first alone has more than one byte.
+// Bytes of T_Arrival_Window to Q_DayLightSaving in the sheet, or 0 if one is refused. `t` is their 17 bits.
+// Only the window has more than one byte.
 pub fn marks_bytes(t: u32) -> u32
     requires { ⌜ t < 131072 ⌝ }
     ensures { λ r. ⌜ r ≡ rowBytes marksMost (parts marksWidths t) ⌝ }
@@ -38,8 +39,9 @@ pub fn marks_bytes(t: u32) -> u32
     fields::size::short(t / 128) + 4
 }
 
-// The last eight fields where the train stops: the seconds alone can be refused.
-fn stop_bytes(doors: u32, leaving: u32) -> u32
+// Bytes of the last eight fields in the sheet, not at a passing point, or 0 if the departure seconds are refused.
+// `doors` is Q_Opening_Door_Side to T_Departure_Date (20 bits), `leaving` T_Departure_Seconds to Q_Automatic_Closing (28 bits).
+fn not_passing_bytes(doors: u32, leaving: u32) -> u32
     requires { ⌜ leaving < 268435456 ⌝ }
     ensures { λ r. ⌜ r ≡ rowBytes (eightMost 0) (parts doorsWidths doors ++ parts leavingWidths leaving) ⌝ }
 {
@@ -51,13 +53,14 @@ fn stop_bytes(doors: u32, leaving: u32) -> u32
     date + numbers::write::groups(seconds) + fields::size::short(leaving / 2 % 1024) + 5
 }
 
-// The same by the kind of the stop: at a passing point they are 0.
-pub fn eight_bytes(kind: u32, doors: u32, leaving: u32) -> u32
+// Bytes of the last eight fields in the sheet, by Q_Stop_Skip_Passes, or 0 if one is refused; at a passing point all are 0.
+// `doors` is Q_Opening_Door_Side to T_Departure_Date (20 bits), `leaving` T_Departure_Seconds to Q_Automatic_Closing (28 bits).
+pub fn eight_bytes(stop_skip_passes: u32, doors: u32, leaving: u32) -> u32
     requires { ⌜ (doors < 1048576) × (leaving < 268435456) ⌝ }
-    ensures { λ r. ⌜ r ≡ rowBytes (eightMost kind) (parts doorsWidths doors ++ parts leavingWidths leaving) ⌝ }
+    ensures { λ r. ⌜ r ≡ rowBytes (eightMost «stop_skip_passes») (parts doorsWidths doors ++ parts leavingWidths leaving) ⌝ }
 {
-    if kind != QStopSkipPasses::PASSING {
-        return stop_bytes(doors, leaving);
+    if stop_skip_passes != QStopSkipPasses::PASSING {
+        return not_passing_bytes(doors, leaving);
     }
     if doors != 0 {
         return 0;

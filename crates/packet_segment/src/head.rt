@@ -1,4 +1,5 @@
 // The fields of a segment's packet before its lists judged, with the bytes of their sheet counted. Nothing is written.
+// Parameters: `s` is the packet, `stop` the bit where its fields end, `at` the bit of the part, `n` the sheet bytes before it.
 ghost use mathlib.Core.Path.{_≡_};
 ghost use Prim.Native.Nat.{_≤_};
 ghost use lib.ListN.{length};

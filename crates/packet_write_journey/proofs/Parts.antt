@@ -1,4 +1,4 @@
--- A segment's row in the three pieces in which it is put.
+-- The row of a segment is the three pieces in which it is written.
 use mathlib.Core.Path.{refl}
 use lib.Dec.{lit≤}
 use Rattle.grammar.specs.internal.rows.Rows.{row}

@@ -1,4 +1,4 @@
--- The laws of the module row.
+-- Laws of the module `row`.
 pub mod Alone
 pub mod Rows
 pub mod Pieces

@@ -1,4 +1,5 @@
-// A temporary constraint of an accepted journey sheet, put into its packet. Nothing in the packet's layout depends on its type or its range.
+// Writes a temporary constraint of an accepted journey sheet into its packet. No width depends on its type or range.
+// Parameters: `sheet` is read and `room` is written at the place `p`; each function returns the place after its part.
 ghost use Rattle.grammar.specs.journey.Journey as tree;
 ghost use Rattle.packet_write_segment.specs.internal.elements.Writing.{Ready, Wrote};
 ghost use Rattle.packet_write_journey.specs.internal.constraint.Begun.{Begun};
@@ -7,7 +8,7 @@ use kinds::body::MCurrent;
 use kinds::journey::DTcEndLocation;
 use packet_write_segment::elements::PacketSpot;
 
-// The type, the range and the start, put at once, and the end; the type is given.
+// Writes the type, the range and the start at once, then the end, and returns the type.
 fn location(sheet: &[u8], room: &mut [u8], p: PacketSpot) -> Given
     requires { ⌜ Ready tree.temporaryConstraint (now sheet) (now room) p ⌝ }
     ensures { λ r. ⌜ Begun tree.temporaryConstraint tree.restriction (now (sheet .entry)) (now (room .entry)) p (now (room .exit)) r ⌝ }
@@ -30,7 +31,8 @@ fn location(sheet: &[u8], room: &mut [u8], p: PacketSpot) -> Given
     }
 }
 
-// Q_FRONT, the speed, the adhesion and the current, put at once. An unused speed, 0, stays; the current has no limit. The type is for the contract alone.
+// Writes Q_FRONT, the speed, the adhesion and the current at once; the current is no limit, and an unused speed is 0.
+// `of`, the Q_TC_Type, is for the contract alone.
 fn restriction(sheet: &[u8], room: &mut [u8], p: PacketSpot, of: u32) -> PacketSpot
     requires { ⌜ Ready (tree.restriction of) (now sheet) (now room) p ⌝ }
     ensures { λ r. ⌜ Wrote (tree.restriction of) (now (sheet .entry)) (now (room .entry)) p (now (room .exit)) r ⌝ }
@@ -50,7 +52,7 @@ fn restriction(sheet: &[u8], room: &mut [u8], p: PacketSpot, of: u32) -> PacketS
     }
 }
 
-// A temporary constraint.
+// Writes a temporary constraint.
 pub fn constraint(sheet: &[u8], room: &mut [u8], p: PacketSpot) -> PacketSpot
     requires { ⌜ Ready tree.temporaryConstraint (now sheet) (now room) p ⌝ }
     ensures { λ r. ⌜ Wrote tree.temporaryConstraint (now (sheet .entry)) (now (room .entry)) p (now (room .exit)) r ⌝ }

@@ -1,4 +1,5 @@
-// The body of an accepted journey sheet's packet, written part by part. What was accepted is not judged again.
+// Writes the body of an accepted journey sheet's packet. No value is judged again.
+// Parameters: `sheet` is read and `room` is written, at the place `p` or `from`; each function returns the place after its part.
 pub mod constraint;
 pub mod point;
 pub mod row;
@@ -22,10 +23,10 @@ use kinds::journey::QJpStatus;
 use kinds::journey::QSpDir;
 use packet_write_segment::elements::PacketSpot;
 
-// The bits of the versions and Q_SP_DIR, put at once.
+// Bits of the two versions and Q_SP_DIR, which are written at once.
 const VERSION: u32 = MSpVersion::WIDTH + MSpVersion::WIDTH + QSpDir::WIDTH;
 
-// The timing points of a segment.
+// Writes `count` timing points, one after another.
 fn points(sheet: &[u8], room: &mut [u8], from: PacketSpot, count: u32) -> PacketSpot
     requires { ⌜ Ready (times tree.timingPoint count) (now sheet) (now room) from ⌝ }
     ensures { λ r. ⌜ Wrote (times tree.timingPoint count) (now (sheet .entry)) (now (room .entry)) from (now (room .exit)) r ⌝ }
@@ -39,7 +40,7 @@ fn points(sheet: &[u8], room: &mut [u8], from: PacketSpot, count: u32) -> Packet
     p
 }
 
-// The temporary constraints of a segment.
+// Writes `count` temporary constraints, one after another.
 fn constraints(sheet: &[u8], room: &mut [u8], from: PacketSpot, count: u32) -> PacketSpot
     requires { ⌜ Ready (times tree.temporaryConstraint count) (now sheet) (now room) from ⌝ }
     ensures { λ r. ⌜ Wrote (times tree.temporaryConstraint count) (now (sheet .entry)) (now (room .entry)) from (now (room .exit)) r ⌝ }
@@ -53,7 +54,7 @@ fn constraints(sheet: &[u8], room: &mut [u8], from: PacketSpot, count: u32) -> P
     p
 }
 
-// NID_C to Q_SP_DIR of a segment.
+// Writes NID_C to Q_SP_DIR of a segment.
 fn names(sheet: &[u8], room: &mut [u8], p: PacketSpot) -> PacketSpot
     requires { ⌜ Ready (row segmentWidths segmentMost) (now sheet) (now room) p ⌝ }
     ensures { λ r. ⌜ Wrote (row segmentWidths segmentMost) (now (sheet .entry)) (now (room .entry)) p (now (room .exit)) r ⌝ }
@@ -65,7 +66,7 @@ fn names(sheet: &[u8], room: &mut [u8], p: PacketSpot) -> PacketSpot
     piece(sheet, room, name, &widths, &most, 2, 5, VERSION)
 }
 
-// A segment: its names, its timing points, and its temporary constraints, each list after its count.
+// Writes a segment: NID_C to Q_SP_DIR, its timing points, its temporary constraints, each list after its count.
 fn segment(sheet: &[u8], room: &mut [u8], p: PacketSpot) -> PacketSpot
     requires { ⌜ Ready (tree.journeySegment tree.constraints) (now sheet) (now room) p ⌝ }
     ensures { λ r. ⌜ Wrote (tree.journeySegment tree.constraints) (now (sheet .entry)) (now (room .entry)) p (now (room .exit)) r ⌝ }
@@ -79,7 +80,7 @@ fn segment(sheet: &[u8], room: &mut [u8], p: PacketSpot) -> PacketSpot
     constraints(sheet, room, begin, second.value)
 }
 
-// The segments of the journey.
+// Writes `count` segments, one after another.
 fn segments(sheet: &[u8], room: &mut [u8], from: PacketSpot, count: u32) -> PacketSpot
     requires { ⌜ Ready (times (tree.journeySegment tree.constraints) count) (now sheet) (now room) from ⌝ }
     ensures { λ r. ⌜ Wrote (times (tree.journeySegment tree.constraints) count) (now (sheet .entry)) (now (room .entry)) from (now (room .exit)) r ⌝ }
@@ -93,7 +94,7 @@ fn segments(sheet: &[u8], room: &mut [u8], from: PacketSpot, count: u32) -> Pack
     p
 }
 
-// The fields of the body.
+// Writes the body: Q_JP_Status, N_ITER_SP and the segments.
 pub fn body(sheet: &[u8], room: &mut [u8], p: PacketSpot) -> PacketSpot
     requires { ⌜ Ready journeyBodyPart (now sheet) (now room) p ⌝ }
     ensures { λ r. ⌜ Wrote journeyBodyPart (now (sheet .entry)) (now (room .entry)) p (now (room .exit)) r ⌝ }

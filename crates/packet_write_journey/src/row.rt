@@ -1,4 +1,5 @@
-// Fields of an accepted sheet whose numbers are their values, put into a packet: one alone, and those of a row in one piece.
+// Writes fields of an accepted sheet whose numbers are their packet values: one field, or some fields of a row at once.
+// Parameters: `sheet` is read and `room` is written at the place `p`.
 ghost use Prim.Native.Nat.{_^_, _≤_, _<_};
 ghost use Rattle.kinds.specs.Kind.{upTo};
 ghost use Rattle.packet_write_segment.specs.internal.elements.Writing.{Ready, Wrote};
@@ -6,13 +7,13 @@ ghost use Rattle.packet_write_journey.specs.internal.row.Alone.{Offers, 
 ghost use Rattle.packet_write_journey.specs.internal.row.Pieces.{between, Puttable};
 use packet_write_segment::elements::PacketSpot;
 
-// A field's value, and the place after it.
+// The value of a field, and the place after it.
 pub struct Given {
     pub value: u32,
     pub next: PacketSpot,
 }
 
-// One field, on whose value what follows may depend. Its largest value is for the contract alone.
+// Writes one field of `width` bits and returns its value. `most`, its largest value, is for the contract alone.
 pub fn number(sheet: &[u8], room: &mut [u8], p: PacketSpot, width: u32, most: u32) -> Given
     requires { ⌜ Offers (upTo width most) (now sheet) (now room) p × (1 ≤ width) × (width ≤ 32) × (most < 2 ^ width) ⌝ }
     ensures { λ r. ⌜ Gives (upTo width most) (now (sheet .entry)) (now (room .entry)) p (now (room .exit)) r ⌝ }
@@ -29,7 +30,8 @@ pub fn number(sheet: &[u8], room: &mut [u8], p: PacketSpot, width: u32, most: u3
     }
 }
 
-// The fields of a row from one on to before another, at most 32 bits, put at once. Their largest values are for the contract alone.
+// Writes the fields `first` to `end - 1` of a row at once, `total` bits (at most 32), and returns the place after them.
+// `widths` is the row's widths in bits; `most`, its largest values, is for the contract alone.
 pub fn piece(
     sheet: &[u8],
     room: &mut [u8],

@@ -1,4 +1,4 @@
--- Sheets agree after lowering, field by field, exactly when they make one packet; a packet's values are lowered already.
+-- Two sheets agree in every field after lowering exactly when they make one packet; lowering changes no values of a packet.
 use mathlib.Core.Path.{_≡_, refl, sym, ap, ap₂, _∙_}
 use mathlib.Core.List.{List, _∷_}
 use Prim.Native.Nat.{ℕ}
@@ -18,7 +18,7 @@ use Rattle.grammar.proofs.link.Values.{either-packet-taken, either-sheet-taken}
 use Rattle.promises.specs.Promised.{spelled, LoweredTo, Lowering, over, one, Agreeing}
 use Rattle.promises.proofs.Values.{either-lowered, either-lowered-good, either-good-sheet, numbers-spelled, lowered-to, lowering}
 
--- a number is lowered to one number
+-- a number is lowered to only one number
 lowered-once : (k : Kind) (a b c : ℕ) → LoweredTo k a b → LoweredTo k a c → b ≡ c
 lowered-once k a b c p q =
     by-cases (eqb b c) (eqb-true b c) λ d.
@@ -51,7 +51,7 @@ module _ {l m : List Item} (cl : EitherSheetValues l) (cm : EitherSheetValues m)
       let q : x ≡ y = accepted-same (sym (either-packet-taken x (either-lowered-good cl)) ∙ ap fromEitherPacket p ∙ either-packet-taken y (either-lowered-good cm)) in
       record { lower = x; first = lowering link-lawful (cl .good); second = rw q (lowering link-lawful (cm .good)) }
 
-  -- and sheets that are lowered to the same numbers have one packet
+  -- sheets that are lowered to the same numbers have one packet
   pub agreeing-packets : Agreeing l m → toEitherPacket l ≡ toEitherPacket m
   unfolding toEitherSheet
   agreeing-packets a =
@@ -62,7 +62,7 @@ module _ {l m : List Item} (cl : EitherSheetValues l) (cm : EitherSheetValues m)
       let q : x ≡ y = accepted-same (sym (either-sheet-taken x (either-good-sheet gl)) ∙ ap fromEitherSheet p ∙ either-sheet-taken y (either-good-sheet gm)) in
       sym (either-lowered l) ∙ ap toEitherPacket q ∙ either-lowered m
 
--- a packet's values stay as they are
+-- lowering changes no values of a packet
 pub lowered-same : {f : Format} {l : List Item} → Conforming InPacket f l → givenBack f l ≡ l
 lowered-same done = refl
 lowered-same (also {k = k} {i = i} {l = l} g c) = λ j. record { sheet = sym (g .raised) j; packet = i .packet } ∷ lowered-same c j

@@ -1,4 +1,4 @@
--- The customer's first demand: "Whatever bytes come in, every public operation ends with an answer or the one refusal the rules name." Of a question on speed: `Speeds`.
+-- The customer's first demand: "Whatever bytes come in, every public operation ends with an answer or the one refusal the rules name." For a question on speed see `Speeds`.
 use mathlib.Core.Path.{_≡_, ap}
 use mathlib.Core.List.{List}
 use mathlib.Core.Logic.{_↔_}
@@ -53,7 +53,7 @@ module _ (s : List ℕ) (ok : Bytes s) where
   unfolding altitudeOf
   altitude-of-packet-ending = one-ending (altitudeOf s .refusal, altitudeOf s .place) (altitude-answered (segments Brought.packet) (segments-on Brought.packet) s ok) altitude-of-packet-refused
 
-  -- the same of the judgement before 8, 10 and 11, of a segment as it is brought
+  -- a segment that is brought as a packet or a sheet has good values or one ground of its own, and never both: it is judged before 8, 10 and 11
   pub segment-judged : (b : Brought) → OneJudgement (λ l. SegmentValues b l × (s ≡ segmentOf b l)) (SegmentGround b s)
   segment-judged b = side-judged (segments b) (segments-on b) s ok
 
@@ -82,7 +82,7 @@ module _ (s : List ℕ) (ok : Bytes s) where
   unfolding altitudeOf
   altitude-of-packet-outcome = one-outcome (altitudeOf s) (altitude-ends (segments Brought.packet) (segments-on Brought.packet) s ok altitudeRefusals (altitude-listed s) altitude-most)
 
--- so that "a room of the largest is never refused as too short", as the C header says, for whatever is on the link
+-- "a room of the largest is never refused as too short", as the C header says, for a segment and for a journey
 pub largest-sheet-room : (s room : List ℕ) → Bytes s → 15226 ≤ length room → packetToSheet s room .answer .refusal ≡ 8 → ⊥
 largest-sheet-room s room ok h e =
     never-short toEitherSheet 15226 room h (λ l c. packet-sheet-size l c .1) (packet-not-8 s) (packet-to-sheet-refused s ok room 8 (packetToSheet s room .answer .place) .0 (ap (λ (r : ℕ). (r, packetToSheet s room .answer .place)) e, omega arith))
@@ -101,7 +101,7 @@ pub sheet-refused : (s room : List ℕ) → (Done (sheetToPacket s room) → ⊥
 unfolding sheetToPacket
 sheet-refused s room n = kept toEitherPacket (fromEitherSheet s) room n
 
--- the same for the altitude: the number comes with altitude 0
+-- a refusal of the altitude question comes with altitude 0
 pub altitude-refused : (s : List ℕ) → (altitudeOf s .refusal ≡ 0 → ⊥) → altitudeOf s .altitude ≡ pos 0
 unfolding altitudeOf
 altitude-refused s n = altitude-none (fromPacket wireChanges s) n

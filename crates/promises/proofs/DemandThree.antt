@@ -1,4 +1,4 @@
--- The customer's third demand: "Two accepted sheets make the same packet exactly when they agree in every field after that lowering", and the speeds with it.
+-- The customer's third demand: "Two accepted sheets make the same packet exactly when they agree in every field after that lowering", and the speed from a sheet's packet.
 use mathlib.Core.Path.{_≡_, sym, ap, _∙_}
 use mathlib.Core.List.{List}
 use mathlib.Core.Logic.{_↔_}
@@ -26,11 +26,11 @@ use Rattle.promises.proofs.Values.{packet-taken, sheet-taken, lowered-p
 
 -- ==== "Two accepted sheets make the same packet exactly when they agree in every field after that lowering."
 
--- for any values of accepted sheets: they agree exactly when both are lowered, field by field, to the same numbers
+-- the values of two accepted sheets make the same packet exactly when both are lowered, field by field, to the same numbers
 pub same-packet : (l m : List Item) → EitherSheetValues l → EitherSheetValues m → (toEitherPacket l ≡ toEitherPacket m) ↔ Agreeing l m
 same-packet l m cl cm = (packets-agree cl cm, agreeing-packets cl cm)
 
--- in the words of the operation: two sheets that are converted into the same room leave it the same exactly then
+-- the operation gives two converted sheets one outcome, answer and room, exactly when their values agree
 pub same-outcome : (s t room : List ℕ) (c : ConvertibleSheet s room) (d : ConvertibleSheet t room)
     → (sheetToPacket s room ≡ sheetToPacket t room) ↔ Agreeing (c .values) (d .values)
 same-outcome s t room c d = (there, back)
@@ -48,7 +48,7 @@ same-outcome s t room c d = (there, back)
 
 -- ==== "For every accepted sheet, valid train and centimetre, the speed from its packet is the greatest multiple of 5 not above the speed from the sheet."
 
--- for any values of an accepted sheet; the refusal is the same too, for any train and any x
+-- for any values of an accepted sheet, any train and any x, the packet's answer is the sheet's with its speed lowered, refusals included
 pub lowered-speed : (l : List Item) (t : Train) (x : ℕ) → SegmentValues Brought.sheet l
     → permittedSpeed 0 (toPacket wireChanges l) t x ≡ answerInFives (permittedSpeed 1 (toSheet wireChanges l) t x)
 unfolding permittedSpeed
@@ -57,11 +57,12 @@ lowered-speed l t x c =
     let taken : fromPacket wireChanges (toPacket wireChanges l) ≡ accepted m = ap (fromPacket wireChanges) (sym (lowered-packet l)) ∙ packet-taken m (lowered-good c) in
     rw (taken, sheet-taken l c) (asked-lowered t x l c)
 
--- in the words of the operations
+-- the speeds that the operations answer from a sheet and from its packet
 pub record Lowered (s packet : List ℕ) (t : Train) (x : ℕ) : Type 0 where
   pub answered : permittedSpeed 0 packet t x .refusal ≡ 0
   pub greatest : GreatestFive (permittedSpeed 1 s t x .speed) (permittedSpeed 0 packet t x .speed)
 
+-- a question that is answered from a converted sheet is answered from its packet, with the greatest multiple of 5 not above
 pub speed-again : (s room : List ℕ) (t : Train) (x : ℕ) → Bytes s → Done (sheetToPacket s room) → Answerable 1 s t x
     → Lowered s (result (sheetToPacket s room)) t x
 speed-again s room t x ok d a = go (a .brought) (a .named) (a .good) (a .whole)

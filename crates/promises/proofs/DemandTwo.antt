@@ -1,4 +1,4 @@
--- The customer's second demand: "Every packet and sheet that keeps the published widths and ranges and the stated rules is converted if the room holds the result, and nothing else is." Of a question on speed: `Speeds`.
+-- The customer's second demand: "Every packet and sheet that keeps the published widths and ranges and the stated rules is converted if the room holds the result, and nothing else is." For a question on speed see `Speeds`.
 use mathlib.Core.Path.{_≡_, sym, ap, ap₂, _∙_}
 use mathlib.Core.List.{List}
 use mathlib.Core.Logic.{_↔_}
@@ -31,16 +31,17 @@ module _ (s room : List ℕ) where
   unfolding packetToSheet
   packet-converted ok = side-converted either-packets toEitherSheet s room ok
 
-  -- and then the room begins with exactly that sheet, and keeps the bytes past it
+  -- the room of a converted packet begins with the sheet of its values, and keeps the bytes past it
   pub packet-result : (c : ConvertiblePacket s room) → packetToSheet s room ≡ successWith (toEitherSheet (c .values)) room
   unfolding packetToSheet
   packet-result c = side-result either-packets toEitherSheet s room c
 
-  -- the same for sheets
+  -- a sheet is converted exactly when it is the sheet of good values and the room holds their packet
   pub sheet-converted : Bytes s → Done (sheetToPacket s room) ↔ ConvertibleSheet s room
   unfolding sheetToPacket
   sheet-converted ok = side-converted either-sheets toEitherPacket s room ok
 
+  -- the room of a converted sheet begins with the packet of its values, and keeps the bytes past it
   pub sheet-result : (c : ConvertibleSheet s room) → sheetToPacket s room ≡ successWith (toEitherPacket (c .values)) room
   unfolding sheetToPacket
   sheet-result c = side-result either-sheets toEitherPacket s room c
@@ -50,7 +51,7 @@ pub every-field : (l : List Item) → EitherPacketValues l → toEitherSheet l �
 unfolding toEitherSheet
 every-field l v = numbers-spelled (v .good)
 
--- the packet of a sheet is the value of every one of them in its width, in order, framed with the packet number and padded, and nothing else
+-- the packet of a sheet is the value of every field in its width, in order, framed with the packet number and padded, and nothing else
 pub every-bit : (l : List Item) → EitherSheetValues l → toEitherPacket l ≡ spelledPacket (numberAmong l) (spelledBits (treeFields (treeOf (numberAmong l))) (afterNumber l))
 unfolding toEitherPacket
 every-bit l v =
@@ -69,7 +70,7 @@ packet-again s room back ok d h =
 
 -- "Sheet written and read again: the same sheet, speeds lowered to multiples of 5 km/h and currents to multiples of 10 A."
 pub record Again (s room back : List ℕ) : Type 0 where
-  -- the sheet's values, and those lowered
+  -- the sheet's values, and these values lowered
   pub values : List Item
   pub lower : List Item
   pub whole : s ≡ toEitherSheet values
@@ -101,7 +102,7 @@ pub altitude-answered : (s : List ℕ) → Bytes s → (altitudeOf s .refusal �
 unfolding altitudeOf
 altitude-answered s ok = answered-altitude (segments Brought.packet) (segments-on Brought.packet) s ok
 
--- and then with the value of their M_SP_Altitude, less 100,000
+-- the altitude of a packet of good values is the value of their M_SP_Altitude, less 100,000
 pub altitude-value : (s : List ℕ) → Bytes s → (c : SegmentOfValues Brought.packet s) → AltitudeOf (c .values) (altitudeOf s .altitude)
 unfolding altitudeOf
 altitude-value s ok c =

@@ -1,4 +1,4 @@
--- The permitted speed below L_SP is the lowest of the elements that hold, of which there is one.
+-- The permitted speed below L_SP is the lowest speed of the elements that hold, and some element holds.
 use mathlib.Core.Path.{_≡_, sym, subst}
 use mathlib.Core.List.{List, [], _∷_}
 use Prim.Native.Nat.{ℕ, _+_, _≤_, _<_, min}

@@ -1,4 +1,4 @@
--- The ends of a journey are reached: no segment, and a body of 65,535 bits, in a packet of 8,207 bytes.
+-- The smallest and the largest journey exist: no segment, and a body of 65,535 bits in a packet of 8,207 bytes.
 use mathlib.Core.Path.{_≡_, refl, _∙_}
 use mathlib.Core.List.{List, [], _∷_, _++_}
 use Prim.Native.Nat.{ℕ, _+_}
@@ -14,7 +14,7 @@ use Rattle.grammar.specs.journey.Journey.{journeyBody}
 use Rattle.grammar.specs.link.Link.{linkFields, linkBits, toEitherPacket, toEitherSheet}
 use Rattle.grammar.specs.link.Grounds.{EitherSheetValues}
 
--- a sheet's values with a body of so many bits, a packet and a sheet of so many bytes
+-- l are values of a sheet whose body has `bits` bits, whose packet has `packet` bytes and whose sheet has `sheet` bytes
 pub record Reaches (l : List Item) (bits packet sheet : ℕ) : Type 0 where
   pub values : EitherSheetValues l
   pub body : length (linkBits l) ≡ 96 + bits

@@ -1,4 +1,4 @@
--- "For 1, 2, 3, 8, 10 to 12, success and, unless said, numbers above 13 it is 0": the refusals that have no place, of every operation.
+-- "For 1, 2, 3, 8, 10 to 12, success and, unless said, numbers above 13 it is 0": each operation gives the refusals that have no place with place 0.
 use mathlib.Core.Path.{_≡_, refl, sym, _∙_}
 use mathlib.Core.Bool.{true, false}
 use mathlib.Core.List.{List}
@@ -33,7 +33,7 @@ use Rattle.promises.proofs.Refused.{member, among-member}
 use Rattle.promises.proofs.Speeds.{permitted-speed-refused, permitted-speed-outcome}
 use Rattle.promises.proofs.DemandOne.{packet-to-sheet-refused, sheet-to-packet-refused, altitude-of-packet-refused, packet-to-sheet-outcome, sheet-to-packet-outcome, altitude-of-packet-outcome}
 
--- a refusal that has a place
+-- a refusal n that has a place is not among the refusals that have none
 placed : {C : Type 0} {r : ℕ} (n : ℕ) → r ≡ n → Among r placeless → member n placeless ≡ false → C
 placed n e a m = absurd (let z : true ≡ false = sym (among-member (rw e at a)) ∙ m in let y : _≡_ {A = ℕ} 0 1 = cc in omega arith)
 
@@ -54,7 +54,7 @@ packet-place n every s r place (inFields w (atField g)) a = go (g .fault) a
 packet-place n every s r place (inFields w (leftOver g)) a = placed 13 (g .number) a refl
 packet-place n every s r place (inPadding w l v o e) a = placed 7 e a refl
 
--- the packet number is the first of a sheet's numbers, and the only one that is refused with 2
+-- the packet number is the first number of a sheet, and the only number that is refused with 2
 numbers-place : {k : Kind} {next : ℕ → Format} → ((v : ℕ) → Every FieldRefusal (next v)) → (s : List ℕ) (r place : ℕ)
     → Ground sheet InSheet GroupsFault (field k next) 0 s r place → Among r placeless → place ≡ 0
 numbers-place {k} {next} every s r place (atField g) a = go (g .front) (g .stands) (g .fault)
@@ -83,7 +83,7 @@ unfolding sheetFields
 segment-place Brought.packet s r place g a = packet-place segmentNumber (fields-refusals wireChanges) s r place g a
 segment-place Brought.sheet s r place g a = numbers-place (λ n. fields-refusals wireChanges) s r place g a
 
--- ---- those of the operations
+-- ---- the grounds of the operations
 
 conversion-place : {Own : ℕ → ℕ → Type 0} → ((r place : ℕ) → Own r place → Among r placeless → place ≡ 0) → {Good : List Item → Type 0} {input result : List Item → List ℕ} {s room : List ℕ} (r place : ℕ)
     → ConversionGround Own Good input result s room r place → Among r placeless → place ≡ 0
@@ -96,7 +96,7 @@ question-place {s = s} r place (SpeedGround.own b k g) a = segment-place b s r p
 question-place r place (SpeedGround.badTrain b k w v e p) a = p
 question-place r place (SpeedGround.pastEnd b k w v h e p) a = p
 
--- what an answer says has no place, if its ground has none
+-- the place of an answer is 0 if the place of its ground is
 said-place : {On : ℕ → ℕ → Type 0} (said : ℕ × ℕ) → ((r place : ℕ) → Refuses said r place ↔ On r place) → ((r place : ℕ) → On r place → Among r placeless → place ≡ 0)
     → 1 ≤ said .0 → Among (said .0) placeless → said .1 ≡ 0
 said-place said on none h a = none (said .0) (said .1) (on (said .0) (said .1) .0 (refl, h)) a

@@ -52,7 +52,7 @@ sheet-packet-size l v = either-packet-size v
 pub packet-speed-fives : (t : Train) (x : ℕ) (l : List Item) → SegmentValues Brought.packet l → speedIn t x (sheetNumbers l) ≡ inFives (speedIn t x (sheetNumbers l))
 packet-speed-fives t x l c = ap (λ (m : List Item). speedIn t x (sheetNumbers m)) (sym (lowered-same c)) ∙ speed-in-fives t x l (good-sheet c)
 
--- and so the highest is 600
+-- the highest speed is 600 km/h from a packet and 604 from a sheet
 pub highest : (b : Brought) (t : Train) (x : ℕ) (l : List Item) → SegmentValues b l → speedIn t x (sheetNumbers l) ≤ highestSpeed b
 highest Brought.packet t x l c = omega (arith, packet-speed-fives t x l c, speed-most t x l (good-sheet c))
 highest Brought.sheet t x l c = speed-most t x l c
@@ -60,7 +60,7 @@ highest Brought.sheet t x l c = speed-most t x l c
 pub altitude-most : (l : List Item) → SegmentValues Brought.packet l → altitudeField l ≤ 1048575
 altitude-most l c = let a = altitude-stands l c in let h : a .0 .packet < 1048576 = a .2 .fits in omega (arith, a .3)
 
--- a room that holds the largest result is not too short
+-- a conversion into a room that holds the largest result is not refused with 8
 pub never-short : {Own : ℕ → ℕ → Type 0} {Good : List Item → Type 0} {input : List Item → List ℕ} {s : List ℕ} (write : List Item → List ℕ) (most : ℕ) (room : List ℕ)
     → most ≤ length room → ((l : List Item) → Good l → length (write l) ≤ most) → ((place : ℕ) → Own 8 place → ⊥) → {place : ℕ} → ConversionGround Own Good input write s room 8 place → ⊥
 never-short write most room h size none {place} (ConversionGround.own g) = none place g

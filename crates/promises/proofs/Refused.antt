@@ -1,4 +1,4 @@
--- Refused exactly on a ground, whatever judges the input: conversions and the altitude; and the refusals that they have.
+-- Conversions and the altitude question refuse exactly on a ground, for any judge of the input; and the refusals that each of them has.
 use mathlib.Core.Path.{_≡_, refl, sym, ap, _∙_}
 use mathlib.Core.Bool.{Bool, true, false, _&&_, _||_}
 use mathlib.Core.List.{List, [], _∷_}
@@ -29,24 +29,25 @@ use Rattle.promises.specs.Refused.{Refuses, ConversionGround, SegmentGro
 use Rattle.promises.specs.Ranges.{ConversionEnds, AltitudeEnds, OneOutcome}
 use Rattle.promises.proofs.Values.{Side, kept, side-result, side-converted, altitude-none}
 
--- one side's grounds: what judges it refuses exactly then
+-- `judge` refuses with r at `place` exactly on the ground `On`
 pub record Grounded (judge : List ℕ → Read) (On : List ℕ → ℕ → ℕ → Type 0) : Type 0 where
   pub refused-on : (s : List ℕ) (r place : ℕ) → Bytes s → (judge s ≡ refused r place) ↔ On s r place
 
--- a segment's, as it is brought
+-- the grounds of a segment that is brought as a packet or a sheet
 pub segments-on : (b : Brought) → Grounded (readAs b) (SegmentGround b)
 unfolding fromPacket
 segments-on Brought.packet = record { refused-on = λ s r place ok. packet-grounds segmentNumber (fields wireChanges) s r place }
 segments-on Brought.sheet = record { refused-on = sheet-grounds wireChanges }
 
--- a segment's or a journey's
+-- the grounds of a packet of a segment or a journey
 pub either-packets-on : Grounded fromEitherPacket EitherPacketGround
 either-packets-on = record { refused-on = λ s r place ok. either-packet-grounds s r place }
 
+-- the grounds of a sheet of a segment or a journey
 pub either-sheets-on : Grounded fromEitherSheet EitherSheetGround
 either-sheets-on = record { refused-on = either-sheet-grounds }
 
--- ---- one of the numbers of a list
+-- ---- a number among the numbers of a list
 
 abbrev pub member : ℕ → List ℕ → Bool
 member a [] = false
@@ -70,7 +71,7 @@ among-into m e (later {b = b} {l = l} h) = among-into m (and-right (member b m) 
 
 -- ---- an answer, or one ground
 
--- the outcome that an equation gives is the only one
+-- an outcome that an equation gives is the only outcome
 pub one-outcome : {Out : Type 0} {Ends : Out → Type 0} (outcome : Out) → Ends outcome → OneOutcome outcome Ends
 one-outcome outcome end = record { one = λ o p e f. e ∙ sym f; ends = λ o e. rw e end }
 
@@ -97,7 +98,7 @@ module _ {judge : List ℕ → Read} {Good : List Item → Type 0} {input : List
   pub own-refused : (r place : ℕ) → On s r place → (judge s ≡ refused r place) × (1 ≤ r)
   own-refused r place g = let e = on .refused-on s r place ok .1 g in (e, side .refuses s ok r place e)
 
-  -- an answer that says what was refused is on the input's own ground, or on one of its values'
+  -- if an answer passes the judge's refusals on, its refusal has a ground of the input, or comes from the accepted values
   pub by-judge : {C : Type 0} (answer : Read → ℕ × ℕ) (r place : ℕ) → ((q p : ℕ) → answer (refused q p) ≡ (q, p)) → answer (judge s) ≡ (r, place)
       → (On s r place → C) → ((l : List Item) → judge s ≡ accepted l → answer (accepted l) ≡ (r, place) → C) → C
   by-judge {C} answer r place same e mine values = go (judge s) refl e
@@ -132,7 +133,7 @@ module _ {judge : List ℕ → Read} {Good : List Item → Type 0} {input : List
         given (ConversionGround.own g) = let e = own-refused r place g in (ap conversion (e .0), e .1)
         given (ConversionGround.shortRoom w h e p) = (ap conversion (taken w) ∙ short (w .values) h ∙ rw (e, p), omega arith)
 
-    -- so it ends as a caller may rely on, if what is written has its size and the refusals are listed
+    -- a conversion ends as `ConversionEnds` says, if each result is within its sizes and each refusal is listed
     pub conversion-ends : (refusals : List ℕ) (least most : ℕ) → ((r place : ℕ) → ConversionGround (On s) Good input write s room r place → Among r refusals)
         → ((l : List Item) → Good l → (least ≤ length (write l)) × (length (write l) ≤ most)) → ConversionEnds room refusals least most (converted write (judge s) room)
     conversion-ends refusals least most listed size = go (one-ending (conversion (judge s)) (side-converted side write s room ok) conversion-refused .ending)

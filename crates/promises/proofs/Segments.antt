@@ -1,4 +1,4 @@
--- What is promised of a segment's sizes, beside those of whatever is on the link: a caller of segments sizes a room by these.
+-- The sizes that are promised of a segment alone, below a journey's: a caller that converts only segments sizes a room by them.
 use mathlib.Core.Path.{_≡_, refl, sym, ap, _∙_}
 use mathlib.Core.Bool.{true, false}
 use mathlib.Core.List.{List, _∷_}
@@ -41,7 +41,7 @@ segment-sheet-size l c =
     let g = good-sheet c in
     rw (on-link g .sameSheet) (size-least sheet-priced (sheet-groups wireChanges (lit≤ tt)) g, sheet-most wireChanges (lit≤ tt) g)
 
--- "packet of 39 bytes", "2,073 bytes"
+-- "packet of 39 bytes", "2,073 bytes": the smallest and the largest packet of a segment
 own-size : (l : List Item) → SegmentValues Brought.packet l → (39 ≤ length (toPacket wireChanges l)) × (length (toPacket wireChanges l) ≤ 2073)
 unfolding toPacket sheetFields
 own-size (i ∷ l) (also g c) = (packet-least wireChanges (lit≤ tt) c, packet-most wireChanges (lit≤ tt) c)
@@ -52,12 +52,12 @@ segment-packet-size l c = rw (on-link c .samePacket, ← lowered-packet l) (own-
 never-8 : {r : ℕ} → false ≡ true → r ≡ 8 → ⊥
 never-8 e _ = let z : _≡_ {A = ℕ} 0 1 = cc in omega arith
 
--- a room that holds a result is not too short for it
+-- a result that the room holds is not refused with 8
 fits : (bytes room : List ℕ) → length bytes ≤ length room → fitted bytes room .answer .refusal ≡ 8 → ⊥
 fits bytes room h e = let z : _≡_ {A = ℕ} 0 8 = rw (le-ltb (length room) (length bytes) h) at e in omega arith
 
 module _ (s room : List ℕ) (ok : Bytes s) where
-  -- a packet of another number than a journey's is never refused with 8 where the room has 5,728 bytes
+  -- a packet whose number is not 4 is never refused with 8 if the room has 5,728 bytes
   pub largest-segment-sheet-room : (packetNumber s ≡ 4 → ⊥) → 5728 ≤ length room → packetToSheet s room .answer .refusal ≡ 8 → ⊥
   unfolding packetToSheet fromPacket fields
   largest-segment-sheet-room n h e = go (fromPacket wireChanges s) refl (sym (ap (λ (r : Read). converted toEitherSheet r room .answer .refusal) (segment-judged s n)) ∙ e)
@@ -68,7 +68,7 @@ module _ (s room : List ℕ) (ok : Bytes s) where
           let g = packet-listed segmentNumber (fields-refusals wireChanges) s q place (packet-grounds segmentNumber (fields wireChanges) s q place .0 a) in
           never-8 (rw d at (among-member g)) d
 
-  -- nor is a sheet with another first number where the room has 2,073
+  -- a sheet whose first number is not 4 is never refused with 8 if the room has 2,073 bytes
   pub largest-segment-packet-room : (numberIn s ≡ Value 4 → ⊥) → 2073 ≤ length room → sheetToPacket s room .answer .refusal ≡ 8 → ⊥
   unfolding sheetToPacket fromEitherSheet fromSheet sheetFields fields
   largest-segment-packet-room n h e =

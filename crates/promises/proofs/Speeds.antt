@@ -1,4 +1,4 @@
--- The promises on speeds, of a packet and of a sheet by one law: when a question is answered and with what, and on which ground it is refused.
+-- The promises on speeds, for a packet and a sheet by one law: when a question is answered, with which speed, and on which ground it is refused.
 use mathlib.Core.Path.{_≡_, refl, sym, ap, _∙_}
 use mathlib.Core.Bool.{true, false}
 use mathlib.Core.List.{List}
@@ -29,7 +29,7 @@ use Rattle.promises.proofs.Ranges.{packet-speed-fives, highest, own-lis
 module _ (medium : ℕ) (s : List ℕ) (t : Train) (x : ℕ) where
   -- ==== "Every permitted speed is the one the speed rules give."
 
-  -- where a question can be answered, the answer is the permitted speed of the values
+  -- a question that has an answer is answered with the permitted speed of the values
   pub permitted-speed-value : (c : Answerable medium s t x) → permittedSpeed medium s t x ≡ record { refusal = 0; place = 0; speed = speedIn t x (sheetNumbers (c .values)) }
   permitted-speed-value c =
       let b = c .brought in
@@ -37,7 +37,7 @@ module _ (medium : ℕ) (s : List ℕ) (t : Train) (x : ℕ) where
       asked s t x b (c .named) ∙ ap (answerOf noSpeed (speedOfValues t x)) (ap (readAs b) (c .whole) ∙ segments b .again l (c .good))
       ∙ rw (c .valid, lt-ltb x (segmentLength (sheetNumbers l)) (c .inside))
 
-  -- and it is answered exactly for a medium of 0 or 1, a packet or a sheet of good values, a valid train and an x below L_SP
+  -- a question is answered exactly for a medium of 0 or 1, a packet or a sheet of good values, a valid train and an x below L_SP
   pub permitted-speed-answered : Bytes s → (permittedSpeed medium s t x .refusal ≡ 0) ↔ Answerable medium s t x
   permitted-speed-answered ok = (
     λ d. either-medium medium (λ b e. go b e (readAs b s) refl (sym (ap (λ (o : Speed). o .refusal) (asked s t x b e)) ∙ d))
@@ -58,7 +58,7 @@ module _ (medium : ℕ) (s : List ℕ) (t : Train) (x : ℕ) where
       go b k (accepted l) e d = inside b k l e d
       go b k (refused q place) e d = absurd (omega (arith, segments b .refuses s ok q place e))
 
-  -- it is "the lowest speed of the elements that hold there": some element holds, so it is never a speed that no element has
+  -- the answer is "the lowest speed of the elements that hold there": some element holds, so it is never a speed that no element has
   pub permitted-speed-held : (c : Answerable medium s t x) → LowestOf (permittedSpeed medium s t x .speed) (heldAt t x (sheetNumbers (c .values)))
   permitted-speed-held c = rw (permitted-speed-value c) (lowest-held t x (sheetNumbers (c .values)) (c .inside))
 
@@ -112,7 +112,7 @@ module _ (medium : ℕ) (s : List ℕ) (t : Train) (x : ℕ) where
         beyond : (l : List Item) → validTrain t ≡ true → segmentLength (sheetNumbers l) ≤ x → said (speedOfValues t x l) ≡ (11, 0)
         beyond l v h = rw (v, le-ltb x (segmentLength (sheetNumbers l)) h)
 
-        -- what is said of values
+        -- the answer about a packet or a sheet of good values is the answer from these values
         of : (b : Brought) → medium ≡ mediumOf b → (w : SegmentOfValues b s) → said (permittedSpeed medium s t x) ≡ said (speedOfValues t x (w .values))
         of b k w = ap said (asked s t x b k) ∙ ap answer (taken (segments b) (segments-on b) s ok w)
 
@@ -152,6 +152,6 @@ packet-fives s t x c = rw (permitted-speed-value 0 s t x c) (go (c .brought) (c 
     go Brought.packet e g = packet-speed-fives t x (c .values) g
     go Brought.sheet e g = absurd (omega arith)
 
--- the x of a question is below the number of L_SP
+-- the length that x is compared with is the number of L_SP
 pub segment-length : (b : Brought) (l : List Item) → SegmentValues b l → LengthOf (goodIn b) l (segmentLength (sheetNumbers l))
 segment-length b l c = length-stands l c

@@ -16,7 +16,7 @@ use Rattle.speed.specs.Speed.{segmentLength}
 use Rattle.altitude.specs.Altitude.{altitudeField}
 use Rattle.promises.specs.Promised.{StandsAt, LengthOf}
 
--- one value more
+-- values that conform to the front of a tree up to a field, with the field's value after them
 front-on : {Good : Kind → Item → Type 0} {f : Format} {l : List Item} {k : Kind} {next : ℕ → Format} (i : Item)
     → Front Good f l (field k next) → Good k i → Front Good f (l ++ i ∷ []) (next (i .packet))
 front-on i here g = past g here
@@ -26,7 +26,7 @@ value-at : (value : Item → ℕ) (l : List Item) (i : Item) (m : List Item) →
 value-at value [] i m = refl
 value-at value (j ∷ l) i m = value-at value l i m
 
--- n values before, and the tree that stands there
+-- the values l after the first n of them conform to the tree f, which stands there
 pub record After (Good : Kind → Item → Type 0) (whole : Format) (l : List Item) (n : ℕ) (f : Format) : Type 0 where
   pub before : List Item
   pub rest : List Item
@@ -36,7 +36,7 @@ pub record After (Good : Kind → Item → Type 0) (whole : Format) (l : List It
   pub count : length before ≡ n
 
 module _ {Good : Kind → Item → Type 0} {whole : Format} {l : List Item} {n : ℕ} {k : Kind} where
-  -- the field there: its value, by its place and by its number, and the tree after it
+  -- the field after n values: where its value stands, its number, and the tree after it
   at-field : {C : Type 0} (next : ℕ → Format) → After Good whole l n (field k next)
       → ((i : Item) → StandsAt Good whole k l i → Good k i → ((value : Item → ℕ) → getD (map value l) n 0 ≡ value i)
       → After Good whole l (n + 1) (next (i .packet)) → C) → C
@@ -59,7 +59,7 @@ module _ {Good : Kind → Item → Type 0} {whole : Format} {l : List Item} {n :
   on {f} a = at-field (λ _. f) a λ i s g v b. b
 
 module _ {Good : Kind → Item → Type 0} (l : List Item) (c : Conforming Good (sheetFields wireChanges) l) where
-  -- the ten fields before L_SP
+  -- ten fields stand before L_SP
   before-length : After Good (sheetFields wireChanges) l 10 (skip 10 (sheetFields wireChanges))
   unfolding sheetFields fields body
   before-length =
@@ -72,7 +72,7 @@ module _ {Good : Kind → Item → Type 0} (l : List Item) (c : Conforming Good 
   unfolding sheetFields fields body
   length-stands = at-field _ before-length λ i s g v b. record { item = i; stands = s; number = v (λ j. j .sheet) }
 
-  -- the field that the altitude is worked out from is M_SP_Altitude
+  -- the field that the altitude is computed from is M_SP_Altitude
   pub altitude-stands : (i : Item) × StandsAt Good (sheetFields wireChanges) mSpAltitude l i × Good mSpAltitude i × (altitudeField l ≡ i .packet)
   unfolding sheetFields fields body
   altitude-stands = at-field _ before-length λ i s g v b. at-field _ (on (on b)) λ j t h u d. (j, t, h, u (λ k. k .packet))

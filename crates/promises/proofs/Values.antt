@@ -1,4 +1,4 @@
--- What the promises rest on: packets and sheets of good values, a conversion's outcomes, and the lowering of any tree's numbers.
+-- Lemmas of the promises: packets and sheets of good values, a conversion's outcomes, and the lowering of any tree's numbers.
 use mathlib.Core.Path.{_≡_, refl, sym, ap, ap₂, _∙_}
 use mathlib.Core.Bool.{Bool, true, _&&_}
 use mathlib.Core.List.{List, [], _∷_, _++_}
@@ -45,7 +45,7 @@ use Rattle.promises.specs.Promised.{SegmentValues, segmentOf, Convertibl
 
 -- ---- packets and sheets of good values
 
--- the packet number's item
+-- the item of a segment's packet number is 6 in both media
 number-is : (i : Item) → (leb 6 (i .packet) && leb (i .packet) 6) ≡ true → i .sheet ≡ i .packet → i ≡ numberItem 6
 number-is i a r =
     let l : 6 ≤ i .packet = leb-true 6 (i .packet) (and-left (leb 6 (i .packet)) (leb (i .packet) 6) a) in
@@ -77,7 +77,7 @@ pub sheet-taken : (l : List Item) → SegmentValues Brought.sheet l → fromShee
 unfolding fromSheet toSheet
 sheet-taken l c = sheet-again c 0
 
--- lowering leaves the packet
+-- lowering a segment's values does not change their packet
 pub lowered-packet : (l : List Item) → toPacket wireChanges (givenBack (sheetFields wireChanges) l) ≡ toPacket wireChanges l
 unfolding toPacket sheetFields
 lowered-packet [] = refl
@@ -86,7 +86,7 @@ lowered-packet (i ∷ l) = ap (packetOfBits segmentNumber) (lowered-bits (fields
 pub lowered-good : {l : List Item} → SegmentValues Brought.sheet l → SegmentValues Brought.packet (givenBack (sheetFields wireChanges) l)
 lowered-good c = to-packet (sheetFields-lawful wireChanges (lit≤ tt)) c
 
--- ---- a conversion's outcomes, whatever judges and writes
+-- ---- a conversion's outcomes, for any judge and any writer
 
 module _ (write : List Item → List ℕ) (r : Read) (room : List ℕ) where
   pub written : (l : List Item) → r ≡ accepted l → length (write l) ≤ length room → converted write r room ≡ successWith (write l) room
@@ -103,7 +103,7 @@ module _ (write : List Item → List ℕ) (r : Read) (room : List ℕ) where
       go (refused q place) m = refl
       go (accepted l) m = short l m
 
-  -- what is done was accepted, and fits
+  -- a conversion without refusal has accepted its input, and the room holds the result
   pub done-only : {C : Type 0} → ((q place : ℕ) → r ≡ refused q place → 1 ≤ q) → Done (converted write r room)
       → ((l : List Item) → r ≡ accepted l → length (write l) ≤ length room → C) → C
   done-only {C} least d k = go r refl
@@ -116,19 +116,19 @@ module _ (write : List Item → List ℕ) (r : Read) (room : List ℕ) where
           (λ x. let z : _≡_ {A = ℕ} 8 0 = rw x at f in absurd (omega arith))
           (λ x. k l e (ltb-false (length room) (length (write l)) x))
 
--- ---- one side: what judges it, and what it is written of
+-- ---- a side of a conversion: its judge, its good values, and its writer
 
 pub record Side (judge : List ℕ → Read) (Good : List Item → Type 0) (input : List Item → List ℕ) : Type 0 where
   pub only : (s : List ℕ) (l : List Item) → Bytes s → judge s ≡ accepted l → Good l × (s ≡ input l)
   pub again : (l : List Item) → Good l → judge (input l) ≡ accepted l
   pub refuses : (s : List ℕ) → Bytes s → (q place : ℕ) → judge s ≡ refused q place → 1 ≤ q
 
--- a segment's, as it is brought
+-- a segment that is brought as a packet or a sheet
 pub segments : (b : Brought) → Side (readAs b) (SegmentValues b) (segmentOf b)
 segments Brought.packet = record { only = packet-values; again = packet-taken; refuses = λ s ok q place e. packet-refusal wireChanges s q place e }
 segments Brought.sheet = record { only = sheet-values; again = sheet-taken; refuses = λ s ok q place e. sheet-refusal wireChanges s q place ok e }
 
--- a segment's or a journey's
+-- a packet of a segment or a journey
 pub either-packets : Side fromEitherPacket EitherPacketValues toEitherPacket
 either-packets = record {
   only = either-packet-values;
@@ -136,6 +136,7 @@ either-packets = record {
   refuses = λ s ok q place e. among-positive (either-packet-listed s q place (either-packet-grounds s q place .0 e)) refl;
 }
 
+-- a sheet of a segment or a journey
 pub either-sheets : Side fromEitherSheet EitherSheetValues toEitherSheet
 either-sheets = record {
   only = either-sheet-values;
@@ -143,17 +144,19 @@ either-sheets = record {
   refuses = λ s ok q place e. among-positive (either-sheet-listed s q place (either-sheet-grounds s q place ok .0 e)) refl;
 }
 
--- lowering leaves the packet on the link, and makes a packet's values of a sheet's
+-- lowering the values of a segment or a journey does not change the bits of their packet
 lowered-link : (l : List Item) → linkBits (givenBack linkFields l) ≡ linkBits l
 unfolding linkFields
 lowered-link [] = refl
 lowered-link (i ∷ l) = lowered-bits (treeFields (treeOf (i .packet))) l
 
+-- lowering the values of a segment or a journey does not change their packet
 pub either-lowered : (l : List Item) → toEitherPacket (givenBack linkFields l) ≡ toEitherPacket l
 unfolding toEitherPacket linkFields
 either-lowered [] = refl
 either-lowered (i ∷ l) = ap (packetOfBits (treeNumber (treeOf (i .packet)))) (lowered-bits (treeFields (treeOf (i .packet))) l)
 
+-- the lowered values of a sheet are good for a packet
 pub either-lowered-good : {l : List Item} → EitherSheetValues l → EitherPacketValues (givenBack linkFields l)
 either-lowered-good {l} v = record { good = to-packet link-lawful (v .good); few = rw (lowered-link l) (v .few) }
 
@@ -184,7 +187,7 @@ altitude-none (accepted l) n = absurd (n refl)
 pub in-fives : (v : ℕ) → GreatestFive v (inFives v)
 in-fives v = record { fives = v / 5; multiple = refl; notAbove = omega arith; greatest = λ n h. omega arith }
 
--- the answer from lowered values
+-- lowering the speed of an answer changes nothing else in it
 answered-lowered : (t : Train) (x lsp v : ℕ) → judgedSpeed t x lsp (inFives v) ≡ answerInFives (judgedSpeed t x lsp v)
 answered-lowered t x lsp v = by-cases (validTrain t) (λ e. by-cases (ltb x lsp) (λ b. rw (e, b)) (λ b. rw (e, b))) (λ e. rw e)
 
@@ -193,18 +196,18 @@ pub asked-lowered : (t : Train) (x : ℕ) (l : List Item) → SegmentValues Brou
 asked-lowered t x l c =
     ap₂ (judgedSpeed t x) (length-stays l c) (speed-in-fives t x l c) ∙ answered-lowered t x (segmentLength (sheetNumbers l)) (speedIn t x (sheetNumbers l))
 
--- the result of what is placed
+-- the result of a success is the bytes that were written
 pub placed-result : (bytes room : List ℕ) → result (successWith bytes room) ≡ bytes
 placed-result bytes room = take-at bytes (drop (length bytes) room) (length bytes) refl
 
 -- ---- the numbers of any tree's fields
 
--- what a sheet says: every field's number, and nothing else
+-- a sheet is the number of every field, and nothing else
 pub numbers-spelled : {f : Format} {l : List Item} {Good : Kind → Item → Type 0} → Conforming Good f l → write sheet f l ≡ spelled (sheetNumbers l)
 numbers-spelled done = refl
 numbers-spelled (also {i = i} g c) = ap (λ (s : List ℕ). groupsIn (i .sheet) ++ s) (numbers-spelled c)
 
--- what a packet's fields say: every field's value in its width, and nothing else
+-- the bits of a packet's fields are the value of every field in its width, and nothing else
 pub bits-spelled : (f : Format) (l : List Item) → write packet f l ≡ spelledBits f l
 bits-spelled end l = refl
 bits-spelled (field k next) [] = refl

@@ -24,7 +24,7 @@ use Rattle.speed_question.specs.declared.Speed.{Speed}
 use Rattle.speed_question.specs.Question.{Brought, packet, sheet, mediumOf}
 use Rattle.convert.specs.Convert.{Outcome}
 
--- a good value of a field: of a packet's, and of a sheet's
+-- whether an item is a good value of a field, in a packet or in a sheet
 abbrev pub goodIn : Brought → Kind → Item → Type 0
 goodIn packet = InPacket
 goodIn sheet = InSheet
@@ -33,7 +33,7 @@ goodIn sheet = InSheet
 abbrev pub SegmentValues : Brought → List Item → Type 0
 SegmentValues b l = Conforming (goodIn b) (sheetFields wireChanges) l
 
--- "When a packet is written", "numbers one after the other": the segment of the values, as it is brought
+-- "When a packet is written", "numbers one after the other": the packet or the sheet of a segment's values
 abbrev pub segmentOf : Brought → List Item → List ℕ
 segmentOf packet = toPacket wireChanges
 segmentOf sheet = toSheet wireChanges
@@ -43,7 +43,7 @@ abbrev pub readAt : Brought → ℕ → List ℕ → Read
 readAt packet = fromPacket
 readAt sheet = fromSheet
 
--- the input is written of good values, as "When a packet is written"
+-- the input s is what `input` writes for good values, as in "When a packet is written"
 pub record OfValues (Good : List Item → Type 0) (input : List Item → List ℕ) (s : List ℕ) : Type 0 where
   pub values : List Item
   pub good : Good values
@@ -53,7 +53,7 @@ pub record OfValues (Good : List Item → Type 0) (input : List Item → List �
 abbrev pub SegmentOfValues : Brought → List ℕ → Type 0
 SegmentOfValues b s = OfValues (SegmentValues b) (segmentOf b) s
 
--- "is converted if the room holds the result": the input is written of good values, and the room holds what is written of them
+-- "is converted if the room holds the result": the input s is what `input` writes for good values, and the room holds what `result` writes for them
 pub record Convertible (Good : List Item → Type 0) (input result : List Item → List ℕ) (s room : List ℕ) : Type 0 where
   pub values : List Item
   pub good : Good values
@@ -68,7 +68,7 @@ ConvertiblePacket s room = Convertible EitherPacketValues toEitherPacket toEithe
 abbrev pub ConvertibleSheet : List ℕ → List ℕ → Type 0
 ConvertibleSheet s room = Convertible EitherSheetValues toEitherSheet toEitherPacket s room
 
--- the medium is that of what is brought, which is written of good values, the train is valid, and x is "from 0 to L_SP - 1"
+-- a speed question that has an answer: `medium` says what is brought, s is a packet or a sheet of good values, the train is valid, and x is "from 0 to L_SP - 1"
 pub record Answerable (medium : ℕ) (s : List ℕ) (t : Train) (x : ℕ) : Type 0 where
   pub brought : Brought
   pub named : medium ≡ mediumOf brought
@@ -78,7 +78,7 @@ pub record Answerable (medium : ℕ) (s : List ℕ) (t : Train) (x : ℕ) : Type
   pub valid : validTrain t ≡ true
   pub inside : x < segmentLength (sheetNumbers values)
 
--- "the greatest multiple of 5 not above the speed from the sheet": the same answer with its speed lowered so
+-- "the greatest multiple of 5 not above the speed from the sheet": an answer with its speed lowered to it
 abbrev pub answerInFives : Speed → Speed
 answerInFives o = record { refusal = o .refusal; place = o .place; speed = inFives (o .speed) }
 
@@ -93,7 +93,7 @@ pub record GreatestFive (v w : ℕ) : Type 0 where
 abbrev pub Done : Outcome → Type 0
 Done o = o .answer .refusal ≡ 0
 
--- "Success returns the length": as many of the room's bytes
+-- "Success returns the length": that many bytes from the room's start
 abbrev pub result : Outcome → List ℕ
 result o = take (o .answer .length) (o .room)
 
@@ -116,7 +116,7 @@ spelledPacket n bits = bytesOfBits (bitsOf 8 n ++ (bitsOf 16 (length bits - 96) 
 abbrev pub loweredCurrent : ℕ → ℕ
 loweredCurrent a = cond (eqb a 0) 0 ((a - 1) / 10 * 10 + 1)
 
--- "speeds lowered to multiples of 5 km/h and currents to multiples of 10 A", and every other number the same
+-- "speeds lowered to multiples of 5 km/h and currents to multiples of 10 A", and every other number unchanged
 pub record LoweredTo (k : Kind) (a b : ℕ) : Type 0 where
   pub speeds : k ≡ speed → b ≡ a / 5 * 5
   pub currents : k ≡ mCurrent → b ≡ loweredCurrent a
@@ -156,11 +156,11 @@ pub record LengthOf (Good : Kind → Item → Type 0) (l : List Item) (n : ℕ) 
   pub stands : StandsAt Good (sheetFields wireChanges) lSp l item
   pub number : n ≡ item .sheet
 
--- "the elements that hold there": the speeds of those at x
+-- "the elements that hold there", at x: the speed of each
 abbrev pub heldAt : Train → ℕ → List ℕ → List ℕ
 heldAt t x s = heldSpeeds t (segmentLength s) x (elementsFrom 0 (profileOf s))
 
--- "the lowest speed of the elements that hold there", of which there is one
+-- "the lowest speed of the elements that hold there": v is one of the speeds l, and none of them is lower
 pub record LowestOf (v : ℕ) (l : List ℕ) : Type 0 where
   pub one : Among v l
   pub lowest : (w : ℕ) → Among w l → v ≤ w

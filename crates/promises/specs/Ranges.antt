@@ -1,4 +1,4 @@
--- What a caller may rely on, whatever bytes were handed over: a refusal of the listed ones with nothing else, or success within its range.
+-- What a caller may rely on, whatever bytes were handed over: one of the listed refusals and nothing written, or success within its range.
 use mathlib.Core.Path.{_≡_}
 use mathlib.Core.List.{List}
 use Prim.Native.Nat.{ℕ, _≤_}
@@ -36,7 +36,7 @@ pub data AltitudeEnds (refusals : List ℕ) (o : Altitude) : Type 0 where
   success : (v : ℕ) → v ≤ 1048575 → o .refusal ≡ 0 → o .place ≡ 0 → o .altitude ≡ centimetres v → AltitudeEnds refusals o
   refusal : Among (o .refusal) refusals → o .altitude ≡ pos 0 → AltitudeEnds refusals o
 
--- "Each public operation's contract has one possible outcome for every input": any two that satisfy it coincide, and end so
+-- "Each public operation's contract has one possible outcome for every input": any two outcomes that satisfy it are equal, and `Ends` is true of them
 pub record OneOutcome {Out : Type 0} (outcome : Out) (Ends : Out → Type 0) : Type 0 where
   pub one : (o p : Out) → o ≡ outcome → p ≡ outcome → o ≡ p
   pub ends : (o : Out) → o ≡ outcome → Ends o

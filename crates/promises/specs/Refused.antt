@@ -1,4 +1,4 @@
--- The ground of each refusal of each public operation, with its place: 15 of a question, the input's own, then 8 of a conversion, 10 and 11 of a question. No operation is run.
+-- The ground of each refusal of each public operation, with its place: 15 of a speed question, the refusals of the packet or sheet itself, 8 of a conversion, 10 and 11 of a speed question. No operation is run.
 use mathlib.Core.Path.{_≡_}
 use mathlib.Core.Bool.{true, false}
 use mathlib.Core.List.{List, [], _∷_}
@@ -16,7 +16,7 @@ use Rattle.speed.specs.Speed.{validTrain, segmentLength}
 use Rattle.speed_question.specs.Question.{Brought, packet, sheet, mediumOf, Neither}
 use Rattle.promises.specs.Promised.{OfValues, SegmentOfValues}
 
--- "Every refusal carries its place": what an answer says is the refusal r at this place, and r is not 0, which is success
+-- "Every refusal carries its place": `said`, the refusal and the place of an answer, is r at `place`, and r is not 0, which is success
 abbrev pub Refuses : ℕ × ℕ → ℕ → ℕ → Type 0
 Refuses said r place = (said ≡ (r, place)) × (1 ≤ r)
 

@@ -1,4 +1,4 @@
--- An input for each refusal that an operation lists, in the order of the list; of a question on speed its answer.
+-- An input for each refusal that an operation lists, in the order of the list; for a question on speed, its answer.
 use mathlib.Core.Bool.{false}
 use mathlib.Core.List.{List, [], _∷_, _++_}
 use Prim.Native.Nat.{ℕ, zero, suc}
@@ -11,7 +11,7 @@ use Rattle.speed.specs.Desk.{trainOf, plain}
 use Rattle.speed_question.specs.declared.Speed.{Speed}
 use Rattle.speed_question.specs.Question.{permittedSpeed}
 
--- "They equal the packet fields": a value that is the same number in both
+-- "They equal the packet fields": the item with v as its number in the sheet and its value in the packet
 abbrev item : ℕ → Item
 item v = record { sheet = v; packet = v }
 
@@ -19,8 +19,8 @@ item v = record { sheet = v; packet = v }
 abbrev fallen : List Item
 fallen = item 6 ∷ replicate 9 (item 0) ++ item 1 ∷ replicate 6 (item 0) ++ item 1 ∷ item 0 ∷ []
 
--- 1: no byte. 2: the number 7. 3: a body of 1 bit in no byte. 4: the digit A. 5: a change at 0. 6: a body of no bit. 7: the document's, "Last byte 01".
--- 13: the document's, with a body of 186 bits
+-- a packet for each refusal. 1: no byte. 2: the number 7. 3: a body of 1 bit in no byte. 4: the digit A. 5: a change at 0. 6: a body of no bit.
+-- 7: the document's packet, "Last byte 01". 13: the document's packet, with a body of 186 bits
 abbrev pub refusedPackets : List (List ℕ)
 refusedPackets =
     [] ∷ (7 ∷ replicate 14 0) ∷ (6 ∷ 0 ∷ 1 ∷ replicate 12 0) ∷ (6 ∷ 0 ∷ 0 ∷ 0xA0 ∷ replicate 11 0) ∷ toPacket wireChanges fallen
@@ -34,7 +34,7 @@ refusedSheets = (7 ∷ []) ∷ (6 ∷ 10 ∷ []) ∷ toSheet wireChanges fallen 
 abbrev pub convertedPackets : List (List ℕ)
 convertedPackets = refusedPackets ++ firstPacket ∷ []
 
--- so many lists, one after the other
+-- n copies of a list, one after the other
 abbrev times : ℕ → List ℕ → List ℕ
 times zero l = []
 times (suc n) l = l ++ times n l
@@ -47,8 +47,8 @@ tooManyBits = 4 ∷ replicate 6 0 ++ 17 ∷ times 17 (replicate 5 0 ++ 31 ∷ re
 abbrev pub convertedSheets : List (List ℕ)
 convertedSheets = refusedSheets ++ firstSheet ∷ [] ∷ tooManyBits ∷ []
 
--- the segment is judged before the train: a valid train is told of each that is refused. Of one that is not, with L_SP 1:
--- 10, "train length .. not allowed", by a train of no length; 11, "x at or past L_SP", at 1
+-- the answers for each refused segment of a list, asked with a valid train; then for the accepted segment s, whose L_SP is 1:
+-- 10, "train length .. not allowed", for a train of no length; 11, "x at or past L_SP", at x 1
 abbrev questions : ℕ → List (List ℕ) → List ℕ → List Speed
 questions medium [] s = permittedSpeed medium s (trainOf 0 80 false false false) 1 ∷ permittedSpeed medium s plain 1 ∷ []
 questions medium (r ∷ l) s = permittedSpeed medium r plain 0 ∷ questions medium l s

@@ -1,1 +1,1 @@
-// What the customer is promised of the intake. Definitions and theorems; it has no code of its own.
+// The promises about the intake: definitions and theorems, no code.

@@ -1,1 +1,1 @@
-// The desk cases have no code: one table over the definitions that the public contracts cite.
+// The desk cases: one table over the definitions that the public contracts cite, no code.

@@ -1,3 +1,3 @@
-// The promises: what the customer demands, as theorems over the definitions that the public contracts cite. It has no code.
+// The promises: the customer's demands as theorems over the definitions that the public contracts cite, no code.
 pub mod deliveries;
 pub mod desk;

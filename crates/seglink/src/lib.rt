@@ -1,4 +1,4 @@
-// The public operations, under the names that the customer's server links.
+// The eight public operations, under the names that the customer's server links. None has a `requires`: any bytes and numbers may be handed over.
 ghost use mathlib.Core.Path.{_≡_};
 ghost use Rattle.convert.specs.Convert.{packetToSheet, sheetToPacket};
 ghost use Rattle.speed_question.specs.Question.{permittedSpeed};
@@ -10,7 +10,8 @@ use intake::Intake;
 use speed::Train;
 use speed_question::Speed;
 
-// The sheet of a packet, in a lent room: a refusal's number and place, or 0 and the sheet's length.
+// Writes the sheet of a packet at the start of `room`. Answers 0, 0 and the sheet's length in bytes;
+// or a refusal's number, its place (a bit of the packet) and 0, and then writes nothing.
 #[no_mangle]
 pub extern "C" fn seglink_packet_to_sheet(packet: &[u8], room: &mut [u8]) -> Converted
     ensures { λ r. ⌜ record { answer = r; room = now (room .exit) } ≡ packetToSheet (now (packet .entry)) (now (room .entry)) ⌝ }
@@ -18,7 +19,8 @@ pub extern "C" fn seglink_packet_to_sheet(packet: &[u8], room: &mut [u8]) -> Con
     convert_packet::packet_to_sheet(packet, room)
 }
 
-// The packet of a sheet, in a lent room: a refusal's number and place, or 0 and the packet's length.
+// Writes the packet of a sheet at the start of `room`. Answers 0, 0 and the packet's length in bytes;
+// or a refusal's number, its place (a byte of the sheet) and 0, and then writes nothing.
 #[no_mangle]
 pub extern "C" fn seglink_sheet_to_packet(sheet: &[u8], room: &mut [u8]) -> Converted
     ensures { λ r. ⌜ record { answer = r; room = now (room .exit) } ≡ sheetToPacket (now (sheet .entry)) (now (room .entry)) ⌝ }
@@ -26,7 +28,8 @@ pub extern "C" fn seglink_sheet_to_packet(sheet: &[u8], room: &mut [u8]) -> Conv
     convert_sheet::sheet_to_packet(sheet, room)
 }
 
-// The permitted speed at x for a train, from a packet, medium 0, or a sheet, medium 1: a refusal's number and place, or 0 and the speed in km/h.
+// Answers the permitted speed of `train` at `x` cm from the start of `segment`, a packet (`medium` 0) or a sheet (`medium` 1):
+// 0, 0 and the speed in km/h; or a refusal's number, its place and 0.
 #[no_mangle]
 pub extern "C" fn seglink_permitted_speed(
     medium: u32,
@@ -39,7 +42,7 @@ pub extern "C" fn seglink_permitted_speed(
     speed_question::permitted_speed(medium, segment, train, x)
 }
 
-// The altitude of a packet in signed centimetres: a refusal's number and place, or 0 and the altitude.
+// Answers the altitude of a packet's segment: 0, 0 and the altitude in signed centimetres; or a refusal's number, its place and 0.
 #[no_mangle]
 pub extern "C" fn seglink_altitude_of_packet(packet: &[u8]) -> Altitude
     ensures { λ r. ⌜ r ≡ altitudeOf (now (packet .entry)) ⌝ }
@@ -47,7 +50,7 @@ pub extern "C" fn seglink_altitude_of_packet(packet: &[u8]) -> Altitude
     altitude::altitude_of_packet(packet)
 }
 
-// The state of an intake before the first delivery.
+// Returns the state of an intake before the first delivery.
 #[no_mangle]
 pub extern "C" fn seglink_intake_fresh() -> Intake
     ensures { λ r. ⌜ r ≡ gathering 0 ⌝ }
@@ -55,7 +58,7 @@ pub extern "C" fn seglink_intake_fresh() -> Intake
     intake::fresh()
 }
 
-// Takes a delivery of a packet into a lent room: the state after it.
+// Takes a delivery of a packet into `room` and returns the state after it.
 #[no_mangle]
 pub extern "C" fn seglink_intake_deliver(intake: Intake, delivery: &[u8], room: &mut [u8]) -> Intake
     ensures { λ r. ⌜ record { intake = r; room = now (room .exit) } ≡ delivered intake (now (delivery .entry)) (now (room .entry)) ⌝ }
@@ -63,7 +66,7 @@ pub extern "C" fn seglink_intake_deliver(intake: Intake, delivery: &[u8], room: 
     intake::deliver(intake, delivery, room)
 }
 
-// The packet in the room is complete: the state with its verdict.
+// Judges the bytes that were delivered into `room` as a complete packet and returns the state with the verdict.
 #[no_mangle]
 pub extern "C" fn seglink_intake_complete(intake: Intake, room: &[u8]) -> Intake
     ensures { λ r. ⌜ r ≡ completed intake (now (room .entry)) ⌝ }
@@ -71,7 +74,8 @@ pub extern "C" fn seglink_intake_complete(intake: Intake, room: &[u8]) -> Intake
     intake::complete(intake, room)
 }
 
-// The sheet of the packet that was judged, from the room that took it, in a lent room: a refusal's number and place, or 0 and the sheet's length.
+// Writes the sheet of the packet that was judged, which is in `taken`, at the start of `room`. Answers 0, 0 and the sheet's length in bytes;
+// or a refusal's number, its place and 0, and then writes nothing.
 #[no_mangle]
 pub extern "C" fn seglink_intake_sheet(intake: Intake, taken: &[u8], room: &mut [u8]) -> Converted
     ensures { λ r. ⌜ record { answer = r; room = now (room .exit) } ≡ asked intake (now (taken .entry)) (now (room .entry)) ⌝ }

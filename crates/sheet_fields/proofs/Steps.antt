@@ -57,12 +57,12 @@ module _ (s : List ℕ) {at : ℕ} (h : Standing s at) {a : Found} (e : a ≡ fo
         let l = ap length (number-only (drop at s) (a .value) (bytes-drop s at (h .bytes)) (c .value) .bytes) in
         omega (arith, c .groups, h .inside, length-drop at s, simp length-append at l)
 
-    -- a number that is none of the kind's
+    -- a number that the kind refuses
     pub took-out : k .lower (a .value) ≡ none → Took k s at n (SheetValue.Refused (k .refusal (a .value)) at)
     took-out o =
         took-off (sheet-seen s) judging (λ at n. Standing s at) k tt (rw o at (number-found k s at (found-value (drop at s) a e z .value)))
 
-    -- one of the kind's
+    -- a number that the kind takes
     pub took-in : {v to m : ℕ} → k .lower (a .value) ≡ some v → to ≡ at + a .count → m ≡ (n + k .width) % 2 ^ 32 → Took k s at n (SheetValue.Is v to m)
     took-in {v} o p q =
         let c = found-value (drop at s) a e z in
@@ -72,7 +72,7 @@ module _ (s : List ℕ) {at : ℕ} (h : Standing s at) {a : Found} (e : a ≡ fo
         took-is (sheet-seen s) judging (λ at n. Standing s at) k tt f (record { bytes = h .bytes; inside = groups-inside }) in
         rw (p, q) (rw (length-bits (k .width) v) at t)
 
-    -- the same from the one number that lowering makes
+    -- a number, from the value v that it lowers to, or 2 to the width where it lowers to none
     module _ {v : ℕ} (l : v ≡ lowered k (a .value)) where
       pub low-out : LawfulKind k → v ≡ 2 ^ k .width → Took k s at n (SheetValue.Refused (k .refusal (a .value)) at)
       low-out w o = took-out (lowered-none k (a .value) v w l (omega arith))
@@ -88,7 +88,7 @@ module _ (s : List ℕ) {k : Kind} {at n : ℕ} where
   pub plain-on : {v to m : ℕ} → Took k s at n (SheetValue.Is v to m) → Over (then k) s at n (On to m)
   plain-on t = value-on (λ v f. f) t (over-none (t .stands))
 
--- the same from the value that a number lowers to
+-- the step over a field on whose value nothing depends, from the value v that its number lowers to
 pub low-over : (s : List ℕ) {at : ℕ} → Standing s at → {a : Found} → a ≡ found (numberIn (drop at s)) → (k : Kind) (n : ℕ) → LawfulKind k → ((b : ℕ) → k .refusal b ≡ 4)
     → {v : ℕ} → v ≡ lowered k (a .value) → {width : ℕ} → k .width ≡ width → {r : SheetStep} → Lowers at n (a .count) v (2 ^ width) width r → Over (then k) s at n r
 low-over s {at} h {a} e k n w f {v} l {width} d t =

@@ -1,2 +1,2 @@
--- The laws of the module row.
+-- Laws of the module `row`.
 pub mod Rows

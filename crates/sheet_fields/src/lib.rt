@@ -1,4 +1,5 @@
-// A field of a sheet judged at its byte, with the bits of its packet counted.
+// Judges one field of a sheet, and counts the bits of its value in the packet. Nothing is written.
+// Parameters: `s` is the sheet, `at` the byte of the field's number, `n` the packet bits before it modulo 2^32.
 pub mod row;
 
 ghost use mathlib.Core.Path.{_≡_};
@@ -15,19 +16,19 @@ use kinds::refusals::CHANGE_LOCATION;
 use kinds::refusals::FIELD_VALUE;
 use kinds::refusals::SHEET_FORM;
 
-// The place after a part with the bits counted so far, round 2 to the 32, or a refusal and its place.
+// `On(byte, bits)`: next byte, packet bits so far modulo 2^32. `Refused(number, byte)`.
 pub enum SheetStep {
     On(usize, u32),
     Refused(u32, usize),
 }
 
-// The same after a field, with its value.
+// `Is(value, byte, bits)`: packet value of the field, next byte, packet bits so far modulo 2^32. `Refused(number, byte)`.
 pub enum SheetValue {
     Is(u32, usize, u32),
     Refused(u32, usize),
 }
 
-// The step over a field of width bits, from the count of groups that was found and the value that its number lowers to, which is none where there is no such value.
+// Returns the step over a field of `width` bits: 9 if its number has no groups (`count` is 0), 4 if its packet value `v` is `none`.
 fn lowered(at: usize, n: u32, count: u32, v: u32, none: u32, width: u32) -> SheetStep
     requires { ⌜ at + count < 2 ^ 64 ⌝ }
     ensures { λ r. ⌜ Lowers at n count v none width r ⌝ }
@@ -41,7 +42,7 @@ fn lowered(at: usize, n: u32, count: u32, v: u32, none: u32, width: u32) -> Shee
     SheetStep::On(at + count as usize, std::num::wrapping_add_u32(n, width))
 }
 
-// A field from least to largest at the byte at, n bits counted before it.
+// Judges a field of `width` bits from `least` to `largest` and returns its value. Any other number is refused with `refusal`.
 pub fn ranged(
     s: &[u8],
     at: usize,
@@ -78,7 +79,8 @@ fn wide(x: u8) -> u32
     x as u32
 }
 
-// A field up to a largest value below 128: a byte that is not above it is the whole number, so that the place after it waits for no byte.
+// Judges a field of `width` bits from 0 to `largest` (below 128) and returns its value.
+// Fast path: a byte up to `largest` is the whole number, so that the next place does not depend on it.
 pub fn single(s: &[u8], at: usize, n: u32, width: u32, largest: u32) -> SheetValue
     requires { ⌜ Standing (now s) at × (largest < 128) ⌝ }
     ensures { λ r. ⌜ Took (upTo width largest) (now (s .entry)) at n r ⌝ }
@@ -92,7 +94,7 @@ pub fn single(s: &[u8], at: usize, n: u32, width: u32, largest: u32) -> SheetVal
     ranged(s, at, n, width, 0, largest, FIELD_VALUE)
 }
 
-// A change's location, after the last one and before the segment's end.
+// Judges D_LOCATION, above `last` and below `lsp` (cm), and returns its value.
 pub fn location(s: &[u8], at: usize, n: u32, last: u32, lsp: u32) -> SheetValue
     requires { ⌜ Standing (now s) at ⌝ }
     ensures { λ r. ⌜ Took (kind.dLocation last lsp) (now (s .entry)) at n r ⌝ }
@@ -115,7 +117,7 @@ pub fn location(s: &[u8], at: usize, n: u32, last: u32, lsp: u32) -> SheetValue
     )
 }
 
-// The end of a temporary constraint, after its start: 4 for an end of more than 24 bits, and 5 for one that is not after its start.
+// Judges D_TC_End_Location (cm): 4 for an end of more than 24 bits, 5 for an end that is not above `start`.
 pub fn after(s: &[u8], at: usize, n: u32, start: u32) -> SheetStep
     requires { ⌜ Standing (now s) at ⌝ }
     ensures { λ r. ⌜ Over (then (kind.dEndAfter start)) (now (s .entry)) at n r ⌝ }
@@ -137,7 +139,7 @@ pub fn after(s: &[u8], at: usize, n: u32, start: u32) -> SheetStep
     )
 }
 
-// NID_OPERATIONAL, digit by digit.
+// Judges NID_OPERATIONAL: each digit of four bits is 0 to 9 or F.
 pub fn operational(s: &[u8], at: usize, n: u32) -> SheetStep
     requires { ⌜ Standing (now s) at ⌝ }
     ensures { λ r. ⌜ Over (then kind.nidOperational) (now (s .entry)) at n r ⌝ }
@@ -155,7 +157,7 @@ pub fn operational(s: &[u8], at: usize, n: u32) -> SheetStep
     SheetStep::Refused(FIELD_VALUE, at)
 }
 
-// V_STATIC or V_DIFF.
+// Judges V_STATIC, V_DIFF or V_Speed_Level, in km/h.
 pub fn speed(s: &[u8], at: usize, n: u32) -> SheetStep
     requires { ⌜ Standing (now s) at ⌝ }
     ensures { λ r. ⌜ Over (then kind.speed) (now (s .entry)) at n r ⌝ }
@@ -172,7 +174,7 @@ pub fn speed(s: &[u8], at: usize, n: u32) -> SheetStep
     )
 }
 
-// The class of an entry, by its Q_DIFF.
+// Judges the class of an entry with Q_DIFF `q`. `figures` is the table of cant figures, in mm.
 pub fn class(s: &[u8], figures: &[u32; 11], at: usize, n: u32, q: u32) -> SheetStep
     requires { ⌜ Standing (now s) at × (now figures ≡ cantFigures) ⌝ }
     ensures { λ r. ⌜ Over (then (kind.class q)) (now (s .entry)) at n r ⌝ }
@@ -189,7 +191,7 @@ pub fn class(s: &[u8], figures: &[u32; 11], at: usize, n: u32, q: u32) -> SheetS
     )
 }
 
-// M_VOLTAGE, on which NID_CTRACTION depends.
+// Judges M_VOLTAGE, in volts, and returns its place in the table of volts.
 pub fn voltage(s: &[u8], at: usize, n: u32) -> SheetValue
     requires { ⌜ Standing (now s) at ⌝ }
     ensures { λ r. ⌜ Took kind.mVoltage (now (s .entry)) at n r ⌝ }
@@ -209,7 +211,7 @@ pub fn voltage(s: &[u8], at: usize, n: u32) -> SheetValue
     )
 }
 
-// M_CURRENT.
+// Judges M_CURRENT: amperes + 1, or 0 for no limit.
 pub fn current(s: &[u8], at: usize, n: u32) -> SheetStep
     requires { ⌜ Standing (now s) at ⌝ }
     ensures { λ r. ⌜ Over (then kind.mCurrent) (now (s .entry)) at n r ⌝ }
@@ -226,7 +228,7 @@ pub fn current(s: &[u8], at: usize, n: u32) -> SheetStep
     )
 }
 
-// No current, where none is used: the number 0 alone.
+// Judges a current that is not used: the number 0 alone.
 pub fn no_current(s: &[u8], at: usize, n: u32) -> SheetStep
     requires { ⌜ Standing (now s) at ⌝ }
     ensures { λ r. ⌜ Over (then kind.noCurrent) (now (s .entry)) at n r ⌝ }

@@ -1,4 +1,5 @@
-// The temporary constraints of a journey's sheet judged, number by number.
+// Judges the temporary constraints of a journey's sheet, and counts the bits of their values in the packet.
+// Parameters: `s` is the sheet, `at` the byte where a part begins, `n` the packet bits before it modulo 2^32.
 ghost use Rattle.kinds.specs.Kind.{upTo};
 ghost use Rattle.format.specs.Format.{then, times};
 ghost use Rattle.kinds.specs.journey.Kinds as kind;
@@ -19,7 +20,7 @@ use sheet_fields::no_current;
 use sheet_fields::ranged;
 use sheet_fields::speed;
 
-// A field up to most, on whose value nothing depends.
+// Judges a field of `width` bits up to `most` and drops its value; no later field depends on it.
 fn up_to(s: &[u8], at: usize, n: u32, width: u32, most: u32) -> SheetStep
     requires { ⌜ Standing (now s) at ⌝ }
     ensures { λ r. ⌜ Over (then (upTo width most)) (now (s .entry)) at n r ⌝ }
@@ -30,7 +31,7 @@ fn up_to(s: &[u8], at: usize, n: u32, width: u32, most: u32) -> SheetStep
     }
 }
 
-// The end, by the range and the start.
+// Judges the end at Q_TC_Range `range`: with `BOTH` it is above `start`, in cm.
 fn end(s: &[u8], at: usize, n: u32, range: u32, start: u32) -> SheetStep
     requires { ⌜ Standing (now s) at ⌝ }
     ensures { λ r. ⌜ Over (then (kind.dTcEndLocation range start)) (now (s .entry)) at n r ⌝ }
@@ -41,7 +42,7 @@ fn end(s: &[u8], at: usize, n: u32, range: u32, start: u32) -> SheetStep
     up_to(s, at, n, DTcEndLocation::WIDTH, DTcEndLocation::most(range))
 }
 
-// The start and the end, by the range.
+// Judges the start and the end, at Q_TC_Range `range`.
 fn stretch(s: &[u8], at: usize, n: u32, range: u32) -> SheetStep
     requires { ⌜ Standing (now s) at ⌝ }
     ensures { λ r. ⌜ Over (journey.stretch range) (now (s .entry)) at n r ⌝ }
@@ -60,7 +61,7 @@ fn stretch(s: &[u8], at: usize, n: u32, range: u32) -> SheetStep
     }
 }
 
-// V_Speed_Level, by the type: one that is not used is the number 0 itself.
+// Judges V_Speed_Level at Q_TC_Type `of`: km/h, or the number 0 alone where no speed is used.
 fn level(s: &[u8], at: usize, n: u32, of: u32) -> SheetStep
     requires { ⌜ Standing (now s) at ⌝ }
     ensures { λ r. ⌜ Over (then (kind.vSpeedLevel of)) (now (s .entry)) at n r ⌝ }
@@ -71,7 +72,7 @@ fn level(s: &[u8], at: usize, n: u32, of: u32) -> SheetStep
     up_to(s, at, n, VSpeedLevel::WIDTH, 0)
 }
 
-// Q_FRONT, the speed, the adhesion and the current, by the type.
+// Judges Q_FRONT, V_Speed_Level, Q_Low_Adhesion_Rate and M_CURRENT, at Q_TC_Type `of`.
 fn restriction(s: &[u8], at: usize, n: u32, of: u32) -> SheetStep
     requires { ⌜ Standing (now s) at ⌝ }
     ensures { λ r. ⌜ Over (journey.restriction of) (now (s .entry)) at n r ⌝ }
@@ -94,7 +95,7 @@ fn restriction(s: &[u8], at: usize, n: u32, of: u32) -> SheetStep
     }
 }
 
-// A temporary constraint.
+// Judges a temporary constraint.
 fn constraint(s: &[u8], at: usize, n: u32) -> SheetStep
     requires { ⌜ Standing (now s) at ⌝ }
     ensures { λ r. ⌜ Over journey.temporaryConstraint (now (s .entry)) at n r ⌝ }
@@ -119,7 +120,7 @@ fn constraint(s: &[u8], at: usize, n: u32) -> SheetStep
     }
 }
 
-// The temporary constraints of a segment.
+// Judges `count` temporary constraints, one after another.
 pub fn constraints(s: &[u8], at: usize, n: u32, count: u32) -> SheetStep
     requires { ⌜ Standing (now s) at ⌝ }
     ensures { λ r. ⌜ Over (times journey.temporaryConstraint count) (now (s .entry)) at n r ⌝ }

@@ -1,4 +1,5 @@
-// The sheet of a journey judged part by part, with the bits of its packet counted. Nothing is written.
+// Judges the numbers of a journey's sheet, and counts the bits of its packet. Nothing is written.
+// Parameters: `s` is the sheet, `at` the byte where a part begins, `n` the packet bits before it modulo 2^32.
 pub mod constraint;
 pub mod point;
 
@@ -20,7 +21,7 @@ use sheet_fields::operational;
 use sheet_fields::ranged;
 use sheet_fields::row::row;
 
-// The count of a segment's temporary constraints, and the constraints.
+// Judges the count of a segment's temporary constraints, and the constraints.
 fn constraints(s: &[u8], at: usize, n: u32) -> SheetStep
     requires { ⌜ Standing (now s) at ⌝ }
     ensures { λ r. ⌜ Over (parts.constraintList journey.constraints) (now (s .entry)) at n r ⌝ }
@@ -31,7 +32,7 @@ fn constraints(s: &[u8], at: usize, n: u32) -> SheetStep
     }
 }
 
-// NID_C to Q_SP_DIR of a segment.
+// Judges NID_C to Q_SP_DIR of a segment.
 fn segment_row(s: &[u8], at: usize, n: u32) -> SheetStep
     requires { ⌜ Standing (now s) at ⌝ }
     ensures { λ r. ⌜ Over (rows.row parts.segmentWidths parts.segmentMost) (now (s .entry)) at n r ⌝ }
@@ -41,7 +42,7 @@ fn segment_row(s: &[u8], at: usize, n: u32) -> SheetStep
     row(s, at, n, &widths, &most)
 }
 
-// A segment: its names, its timing points, and its temporary constraints.
+// Judges a segment: NID_C to Q_SP_DIR, its timing points, its temporary constraints.
 fn segment(s: &[u8], at: usize, n: u32) -> SheetStep
     requires { ⌜ Standing (now s) at ⌝ }
     ensures { λ r. ⌜ Over (journey.journeySegment journey.constraints) (now (s .entry)) at n r ⌝ }
@@ -66,7 +67,7 @@ fn segment(s: &[u8], at: usize, n: u32) -> SheetStep
     }
 }
 
-// The segments of a journey.
+// Judges `count` segments, one after another.
 fn segments(s: &[u8], at: usize, n: u32, count: u32) -> SheetStep
     requires { ⌜ Standing (now s) at ⌝ }
     ensures { λ r. ⌜ Over (times (journey.journeySegment journey.constraints) count) (now (s .entry)) at n r ⌝ }
@@ -89,7 +90,7 @@ fn segments(s: &[u8], at: usize, n: u32, count: u32) -> SheetStep
     SheetStep::On(to, m)
 }
 
-// Q_JP_Status, and the count of the segments with the segments.
+// Judges the body: Q_JP_Status, N_ITER_SP and the segments.
 fn body(s: &[u8], at: usize, n: u32) -> SheetStep
     requires { ⌜ Standing (now s) at ⌝ }
     ensures { λ r. ⌜ Over parts.journeyBodyPart (now (s .entry)) at n r ⌝ }
@@ -119,7 +120,7 @@ fn body(s: &[u8], at: usize, n: u32) -> SheetStep
     }
 }
 
-// NID_ENGINE to N_PACKET_COUNTER.
+// Judges NID_ENGINE to N_PACKET_COUNTER.
 fn header_row(s: &[u8], at: usize, n: u32) -> SheetStep
     requires { ⌜ Standing (now s) at ⌝ }
     ensures { λ r. ⌜ Over (rows.row segment.headerWidths segment.headerMost) (now (s .entry)) at n r ⌝ }
@@ -129,7 +130,7 @@ fn header_row(s: &[u8], at: usize, n: u32) -> SheetStep
     row(s, at, n, &widths, &most)
 }
 
-// Every field after the packet number.
+// Judges every number after the packet number.
 pub fn fields(s: &[u8], at: usize, n: u32) -> SheetStep
     requires { ⌜ Standing (now s) at ⌝ }
     ensures { λ r. ⌜ Over parts.journeyPart (now (s .entry)) at n r ⌝ }

@@ -1,4 +1,5 @@
-// The timing points of a journey's sheet judged, number by number.
+// Judges the timing points of a journey's sheet, and counts the bits of their values in the packet.
+// Parameters: `s` is the sheet, `at` the byte where a part begins, `n` the packet bits before it modulo 2^32.
 ghost use Rattle.format.specs.Format.{times};
 ghost use Rattle.grammar.specs.internal.rows.Rows as rows;
 ghost use Rattle.grammar.specs.journey.Journey as journey;
@@ -11,20 +12,21 @@ use sheet_fields::SheetValue;
 use sheet_fields::ranged;
 use sheet_fields::row::row;
 
-// The fields of a timing point after the kind of its stop: two rows of five are unrolled, where one of ten would not be.
-fn stopping_row(s: &[u8], at: usize, n: u32, stop: u32) -> SheetStep
+// Judges Q_TP_Information to Q_Automatic_Closing, by Q_Stop_Skip_Passes.
+// For speed, judges two rows of five fields, which the compiler unrolls; it would not unroll one row of ten.
+fn stopping_row(s: &[u8], at: usize, n: u32, stop_skip_passes: u32) -> SheetStep
     requires { ⌜ Standing (now s) at ⌝ }
-    ensures { λ r. ⌜ Over (rows.row parts.stoppingWidths (parts.stoppingMost stop)) (now (s .entry)) at n r ⌝ }
+    ensures { λ r. ⌜ Over (rows.row parts.stoppingWidths (parts.stoppingMost «stop_skip_passes»)) (now (s .entry)) at n r ⌝ }
 {
     let widths = grammar::journey::stopping_widths();
-    let most = grammar::journey::stopping_most(stop);
+    let most = grammar::journey::stopping_most(stop_skip_passes);
     match row(s, at, n, &widths[0..5], &most[0..5]) {
         SheetStep::Refused(r, place) => SheetStep::Refused(r, place),
         SheetStep::On(at2, n2) => row(s, at2, n2, &widths[5..10], &most[5..10]),
     }
 }
 
-// The fields before it.
+// Judges NID_TP to Q_TP_Alignment.
 fn arrival_row(s: &[u8], at: usize, n: u32) -> SheetStep
     requires { ⌜ Standing (now s) at ⌝ }
     ensures { λ r. ⌜ Over (rows.row parts.arrivalWidths parts.arrivalMost) (now (s .entry)) at n r ⌝ }
@@ -34,7 +36,7 @@ fn arrival_row(s: &[u8], at: usize, n: u32) -> SheetStep
     row(s, at, n, &widths, &most)
 }
 
-// A timing point.
+// Judges a timing point.
 fn point(s: &[u8], at: usize, n: u32) -> SheetStep
     requires { ⌜ Standing (now s) at ⌝ }
     ensures { λ r. ⌜ Over journey.timingPoint (now (s .entry)) at n r ⌝ }
@@ -51,12 +53,12 @@ fn point(s: &[u8], at: usize, n: u32) -> SheetStep
             FIELD_VALUE,
         ) {
             SheetValue::Refused(r, place) => SheetStep::Refused(r, place),
-            SheetValue::Is(stop, at3, n3) => stopping_row(s, at3, n3, stop),
+            SheetValue::Is(stop_skip_passes, at3, n3) => stopping_row(s, at3, n3, stop_skip_passes),
         },
     }
 }
 
-// The timing points of a segment.
+// Judges `count` timing points, one after another.
 pub fn points(s: &[u8], at: usize, n: u32, count: u32) -> SheetStep
     requires { ⌜ Standing (now s) at ⌝ }
     ensures { λ r. ⌜ Over (times journey.timingPoint count) (now (s .entry)) at n r ⌝ }

@@ -1,3 +1,3 @@
--- The laws of the module row.
+-- Laws of the module `row`.
 pub mod Rows
 pub mod Tree

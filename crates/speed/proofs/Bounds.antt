@@ -1,4 +1,4 @@
--- A permitted speed is at most 604 km/h: every speed of a sheet's values is, and the lowest of some is one of them.
+-- A permitted speed is at most 604 km/h: every speed of a sheet is, and the permitted speed is one of them.
 use mathlib.Core.Path.{_≡_, refl}
 use mathlib.Core.Bool.{Bool, true, false, cond, _&&_}
 use mathlib.Core.List.{List, [], _∷_}
@@ -38,7 +38,7 @@ instead-within : (v : ℕ) (l : List ℕ) → v ≤ 604 → Within l → instead
 instead-within v [] h b = h
 instead-within v (w ∷ l) h b = lowest-within w l (b .0)
 
--- whether one is taken or not
+-- a list of speeds with one more speed or without it is within 604
 chosen-within : (b : Bool) (v : ℕ) (l : List ℕ) → v ≤ 604 → Within l → Within (cond b (v ∷ l) l)
 chosen-within true v l h r = (h, r)
 chosen-within false v l h r = r
@@ -73,12 +73,12 @@ held-within : (t : Train) (lsp x : ℕ) (l : List Element) → ElementsWithin l 
 held-within t lsp x [] b = tt
 held-within t lsp x (e ∷ l) b = chosen-within (holds t e (endBefore lsp l) x) (elementSpeed t e) (heldSpeeds t lsp x l) (element-within t e (b .0) (b .1)) (held-within t lsp x l (b .2))
 
--- ---- through the segment's tree
+-- ---- along the segment's tree
 
 speed-within : (i : Item) → InSheet speed i → i .sheet ≤ 604
 speed-within i g = speed-lawful .top (i .sheet) (i .packet) (g .lowered)
 
--- a part of a sheet's numbers that is within, and the values after it
+-- a part of a sheet's values of which `Fine` is true, and the values after it
 pub record Part (Fine : Type 0) (f : Format) (after : List ℕ) : Type 0 where
   pub fine : Fine
   pub rest : List Item

@@ -1,4 +1,4 @@
--- The desk cases on speed, by one statement over the definitions.
+-- The desk cases on speed, proved by one statement over the definitions.
 use mathlib.Core.Path.{_≡_, refl}
 use mathlib.Core.List.{map}
 use Rattle.speed.specs.Speed.{speedIn}

@@ -1,4 +1,4 @@
--- At every place of a segment some element holds; the permitted speed of lowered elements is the permitted speed, lowered; what the code asks of a train.
+-- At every place of a segment some element holds; lowering the elements lowers the permitted speed; a train's categories and figure as the code computes them.
 use mathlib.Core.Path.{_≡_, refl, sym, ap, _∙_}
 use mathlib.Core.Bool.{Bool, true, false, cond, _&&_}
 use mathlib.Core.List.{List, [], _∷_, map}
@@ -18,7 +18,7 @@ use Rattle.fields.specs.internal.lower.Lowered.{valueOr, lowered}
 use Rattle.speed.specs.declared.Train.{Train}
 use Rattle.speed.specs.Speed.{found, figure, validTrain, belongs, memberships, Entry, Element, isNotAbove, notAbove, greatestFigure, isOf, figureSpeeds, cantSpeeds, namedSpeeds, lowest, instead, elementSpeed, endBefore, holds, heldSpeeds, permitted, inFives, entryInFives, elementInFives}
 
--- ---- somewhere an element holds
+-- ---- some element holds
 
 held-in-element : (t : Train) (e : Element) (stop x : ℕ) → e .start ≤ x → x < stop → holds t e stop x ≡ true
 held-in-element t e stop x a b =
@@ -49,7 +49,7 @@ lowered-instead : (v : ℕ) (l : List ℕ) → instead (inFives v) (map inFives 
 lowered-instead v [] = refl
 lowered-instead v (w ∷ l) = lowered-lowest w l
 
--- whether one is taken or not
+-- `map` goes into a choice between a list with one more element and the list without it
 map-chosen : {A B : Type 0} (f : A → B) (b : Bool) (e : A) (l : List A) → cond b (f e ∷ map f l) (map f l) ≡ map f (cond b (e ∷ l) l)
 map-chosen f true e l = refl
 map-chosen f false e l = refl
@@ -58,7 +58,7 @@ lowered-named : (t : Train) (q : ℕ) (l : List Entry) → namedSpeeds t q (map 
 lowered-named t q [] = refl
 lowered-named t q (e ∷ l) = rw (lowered-named t q l) (map-chosen inFives (eqb (e .qDiff) q && belongs t (e .class)) (e .vDiff) (namedSpeeds t q l))
 
--- lowering changes no figure, so the greatest stays
+-- lowering changes no figure, so it chooses the entries that are chosen without it
 lowered-above : (t : Train) (l : List Entry) → notAbove t (map entryInFives l) ≡ map entryInFives (notAbove t l)
 lowered-above t [] = refl
 lowered-above t (e ∷ l) = rw (lowered-above t l) (map-chosen entryInFives (isNotAbove t e) e (notAbove t l))
@@ -97,9 +97,9 @@ lowered-held t lsp x (e ∷ l) =
 pub lowered-permitted : (t : Train) (lsp x : ℕ) (l : List Element) → permitted t lsp x (map elementInFives l) ≡ inFives (permitted t lsp x l)
 lowered-permitted t lsp x l = ap (instead 0) (lowered-held t lsp x l) ∙ lowered-instead 0 (heldSpeeds t lsp x l)
 
--- ---- what the code asks of a train
+-- ---- a train's categories and figure, as the code computes them
 
--- the train's categories, a bit each
+-- the train's three memberships as one number, a bit each
 abbrev pub categories : Train → ℕ
 categories t = boolByte (t .«freight_p») + 2 * boolByte (t .«freight_g») + 4 * boolByte (t .passenger)
 
@@ -118,7 +118,7 @@ categories-bits false true false = (refl, refl, refl)
 categories-bits false false true = (refl, refl, refl)
 categories-bits false false false = (refl, refl, refl)
 
--- no bit of them stands from the fourth on
+-- each bit of the categories is a membership; from the fourth bit on they are 0
 pub belongs-bit : (t : Train) (m : ℕ) → eqb (categories t / 2 ^ m % 2) 1 ≡ getD (memberships t) m false
 belongs-bit t zero = categories-bits (t .«freight_p») (t .«freight_g») (t .passenger) .0
 belongs-bit t (suc zero) = categories-bits (t .«freight_p») (t .«freight_g») (t .passenger) .1
@@ -128,14 +128,14 @@ belongs-bit t (suc (suc (suc k))) =
     let none : categories t / 2 ^ suc (suc (suc k)) ≡ 0 = div-eq-of-lt (omega (arith, large, byte-most (t .«freight_p»), byte-most (t .«freight_g»), byte-most (t .passenger))) in
     rw none
 
--- of a category
+-- a category below 3 is looked up among the memberships
 pub belongs-listed : (t : Train) (c : ℕ) → c < 3 → getD (memberships t) (c % 32) false ≡ belongs t c
 belongs-listed t zero h = refl
 belongs-listed t (suc zero) h = refl
 belongs-listed t (suc (suc zero)) h = refl
 belongs-listed t (suc (suc (suc c))) h = absurd (omega arith)
 
--- a cant deficiency that has a place is one of the figures
+-- a cant deficiency is one of the figures exactly when its place in the table is below 16
 pub figure-place : (a v : ℕ) → v ≡ lowered (class 0) a → ltb v 16 ≡ figure a
 figure-place a v e = rw e (go (place 0 cantFigures a) refl)
   where

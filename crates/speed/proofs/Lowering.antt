@@ -1,4 +1,4 @@
--- The speed from lowered values is the speed, lowered: through the segment's tree, element by element.
+-- The speed from a segment's lowered values is the speed from its values, lowered: along the segment's tree, element by element.
 use mathlib.Core.Path.{_≡_, refl, sym, ap, ap₂, _∙_}
 use mathlib.Core.Bool.{Bool, true, false}
 use mathlib.Core.List.{List, _∷_, map}
@@ -20,7 +20,7 @@ use Rattle.speed.specs.declared.Train.{Train}
 use Rattle.speed.specs.Speed.{entriesOf, afterEntries, elementOf, afterElement, changesFrom, elementsFrom, segmentLength, profileOf, permitted, speedIn, inFives, entryInFives, elementInFives, Element}
 use Rattle.speed.proofs.Laws.{lowered-permitted}
 
--- a number that is the same in both
+-- a number that `when` lets through is unchanged
 pub when-is : (b : Bool) (a v : ℕ) → when b a ≡ some v → v ≡ a
 when-is true a v e = let q : a ≡ v = cc in sym q
 when-is false a v e = absurd (let z : _≡_ {A = ℕ} 0 1 = cc in omega arith)
@@ -32,7 +32,7 @@ class-is : (q : ℕ) (i : Item) → InSheet (class q) i → class q .raise (i .p
 class-is zero i g = let z : i .packet - 0 ≡ i .packet = omega arith in rw z at (place-stands 0 cantFigures (i .sheet) (i .packet) (g .lowered))
 class-is (suc q) i g = same-is i g
 
--- the first value of a field's, and the others
+-- values that conform to a field: the field's value, and the values after it
 pub apart : {k : Kind} {next : ℕ → Format} (C : List Item → Type 0) (l : List Item) → Conforming InSheet (field k next) l
     → ((i : Item) (m : List Item) → InSheet k i → Conforming InSheet (next (i .packet)) m → C (i ∷ m)) → C l
 apart C (i ∷ l) (also g c) f = f i l g c
@@ -123,7 +123,7 @@ module _ (from lsp : ℕ) (f : Format) where
 
 -- ---- the fields before the profile
 
--- past the first n values of a tree
+-- the values of a tree after its first n, and after the first n as a packet gives them back
 pub record Past (whole : Format) (l : List Item) (n : ℕ) (f : Format) : Type 0 where
   pub rest : List Item
   pub good : Conforming InSheet f rest
@@ -153,7 +153,7 @@ module _ {whole : Format} {l : List Item} {n : ℕ} {k : Kind} where
   past : {f : Format} → Past whole l n (then k f) → Past whole l (n + 1) f
   past p = past-field p λ i g here there q. q
 
--- past the fields before the lists, L_SP's value among them
+-- the values after the fields before the lists; L_SP's value is among those fields
 pub at-lists : {C : Type 0} (l : List Item) → Conforming InSheet (sheetFields wireChanges) l
     → (let low : List ℕ = sheetNumbers (givenBack (sheetFields wireChanges) l) in
     (i : Item) → InSheet lSp i → getD (drop 10 (sheetNumbers l)) 0 0 ≡ i .sheet → getD (drop 10 low) 0 0 ≡ i .packet
@@ -164,7 +164,7 @@ at-lists l c k =
     let p : Past whole l 0 whole = record { rest = l; good = c; here = refl; there = refl } in
     past-field (past (past (past (past (past (past (past (past (past (past p)))))))))) λ i g here there q. k i g here there (past (past (past q)))
 
--- L_SP and the elements of a sheet's values, as its packet gives them back
+-- a packet gives back L_SP as it was and the elements lowered
 at-profile : {C : Type 0} (l : List Item) → Conforming InSheet (sheetFields wireChanges) l
     → (let low : List ℕ = sheetNumbers (givenBack (sheetFields wireChanges) l) in
     segmentLength low ≡ segmentLength (sheetNumbers l) → elementsFrom 0 (profileOf low) ≡ map elementInFives (elementsFrom 0 (profileOf (sheetNumbers l))) → C)
@@ -180,7 +180,7 @@ pub length-stays : (l : List Item) → Conforming InSheet (sheetFields wireChang
     → segmentLength (sheetNumbers (givenBack (sheetFields wireChanges) l)) ≡ segmentLength (sheetNumbers l)
 length-stays l c = at-profile l c λ same es. same
 
--- the speed from a sheet's values as its packet gives them back
+-- the speed from the values that a packet gives back is the speed from the sheet, lowered to a multiple of 5
 pub speed-in-fives : (t : Train) (x : ℕ) (l : List Item) → Conforming InSheet (sheetFields wireChanges) l
     → speedIn t x (sheetNumbers (givenBack (sheetFields wireChanges) l)) ≡ inFives (speedIn t x (sheetNumbers l))
 speed-in-fives t x l c =

@@ -1,10 +1,11 @@
--- The desk cases on speed, and a train of each sort at one element: one table of questions, each with its answer.
+-- The desk cases on speed, and trains of each category at one element: one table of questions, each with its answer.
 use mathlib.Core.Bool.{Bool, true, false}
 use mathlib.Core.List.{List, [], _∷_, _++_}
 use Prim.Native.Nat.{ℕ}
 use lib.ListN.{replicate}
 use Rattle.speed.specs.declared.Train.{Train}
 
+-- a question on speed about the segment with these numbers in its sheet, at x cm, and its answer in km/h
 pub record SpeedCase : Type 0 where
   pub train : Train
   pub x : ℕ
@@ -15,11 +16,11 @@ pub record SpeedCase : Type 0 where
 abbrev pub trainOf : ℕ → ℕ → Bool → Bool → Bool → Train
 trainOf length cant p g passenger = record { length = length; cant = cant; «freight_p» = p; «freight_g» = g; passenger = passenger }
 
--- a segment of 1,000 cm with this profile
+-- the numbers of a segment of 1,000 cm with the numbers `profile` as its speed profile
 abbrev pub segmentWith : List ℕ → List ℕ
 segmentWith profile = 6 ∷ replicate 9 0 ++ 1000 ∷ replicate 3 0 ++ profile ++ replicate 5 0
 
--- "Length 1,000 cm, 100 km/h with Q_FRONT 0, change at 500 to 140", over the Q_FRONT of each
+-- "Length 1,000 cm, 100 km/h with Q_FRONT 0, change at 500 to 140", with Q_FRONT `front` before the change and `next` after it
 abbrev pub changeNumbers : ℕ → ℕ → List ℕ
 changeNumbers front next = segmentWith (100 ∷ front ∷ 0 ∷ 1 ∷ 500 ∷ 140 ∷ next ∷ 0 ∷ [])
 
@@ -27,22 +28,23 @@ changeNumbers front next = segmentWith (100 ∷ front ∷ 0 ∷ 1 ∷ 500 ∷ 14
 abbrev pub plain : Train
 plain = trainOf 200 80 false false false
 
--- 100 km/h; 120 for 100 mm; instead 130 in P position, 90 in G position; at most 125 for passengers
+-- V_STATIC 100 km/h; 120 for 100 mm; instead 130 for freight in P position and 90 for freight in G position; at most 125 for passenger trains
 abbrev pub specific : List ℕ
 specific = segmentWith (100 ∷ 0 ∷ 4 ∷ 0 ∷ 100 ∷ 120 ∷ 1 ∷ 0 ∷ 130 ∷ 1 ∷ 1 ∷ 90 ∷ 2 ∷ 2 ∷ 125 ∷ 0 ∷ [])
 
--- a train of this cant deficiency and of no category
+-- a train of 200 cm with the cant deficiency `cant` in mm, in no category
 abbrev pub canted : ℕ → Train
 canted cant = trainOf 200 cant false false false
 
--- 100 km/h; "entries for 100 and 165": 120 and 140
+-- V_STATIC 100 km/h; "entries for 100 and 165": 120 and 140 km/h
 abbrev pub twoFigures : List ℕ
 twoFigures = segmentWith (100 ∷ 0 ∷ 2 ∷ 0 ∷ 100 ∷ 120 ∷ 0 ∷ 165 ∷ 140 ∷ 0 ∷ [])
 
--- 100 km/h; 90 for 100 mm; 115, 112 and 125 for 130 mm; 140 for 165 mm
+-- V_STATIC 100 km/h; 90 km/h for 100 mm; 115, 112 and 125 for 130 mm; 140 for 165 mm
 abbrev pub severalEntries : List ℕ
 severalEntries = segmentWith (100 ∷ 0 ∷ 5 ∷ 0 ∷ 130 ∷ 115 ∷ 0 ∷ 165 ∷ 140 ∷ 0 ∷ 130 ∷ 112 ∷ 0 ∷ 100 ∷ 90 ∷ 0 ∷ 130 ∷ 125 ∷ 0 ∷ [])
 
+-- the table of all questions on speed
 abbrev pub speeds : List SpeedCase
 speeds =
     -- "a 200 cm train gets 100 at 699 and 140 at 700. With Q_FRONT 1 it gets 140 at 500"
@@ -50,12 +52,12 @@ speeds =
     ∷ record { train = plain; x = 700; numbers = changeNumbers 0 0; answer = 140 }
     ∷ record { train = plain; x = 499; numbers = changeNumbers 1 1; answer = 100 }
     ∷ record { train = plain; x = 500; numbers = changeNumbers 1 1; answer = 140 }
-    -- the delay is that of the element that ends, and not of "the element that follows"
+    -- Q_FRONT of the element that ends decides on the delay, and not Q_FRONT of "the element that follows"
     ∷ record { train = plain; x = 699; numbers = changeNumbers 0 1; answer = 100 }
     ∷ record { train = plain; x = 700; numbers = changeNumbers 0 1; answer = 140 }
     ∷ record { train = plain; x = 499; numbers = changeNumbers 1 0; answer = 100 }
     ∷ record { train = plain; x = 500; numbers = changeNumbers 1 0; answer = 140 }
-    -- each sentence of an element's speed
+    -- each rule of an element's speed
     ∷ record { train = plain; x = 0; numbers = specific; answer = 100 }
     ∷ record { train = trainOf 200 100 false false false; x = 0; numbers = specific; answer = 120 }
     ∷ record { train = trainOf 200 100 true false false; x = 0; numbers = specific; answer = 130 }
@@ -65,11 +67,11 @@ speeds =
     ∷ record { train = trainOf 200 80 true false true; x = 999; numbers = specific; answer = 125 }
     -- "A 150 mm train with entries for 100 and 165 uses the 100 entry"
     ∷ record { train = canted 150; x = 0; numbers = twoFigures; answer = 120 }
-    -- its own beside a lower one, the greatest of two below, and none at or below its own
+    -- entries for the train's own figure and a lower one; for two figures below its own; for no figure at or below its own
     ∷ record { train = canted 165; x = 0; numbers = twoFigures; answer = 140 }
     ∷ record { train = canted 300; x = 0; numbers = twoFigures; answer = 140 }
     ∷ record { train = canted 80; x = 0; numbers = twoFigures; answer = 100 }
-    -- several entries of the figure that is taken: "the lowest speed of them", and of them alone
+    -- several entries for the figure that counts: "the lowest speed of them", whatever the speeds of other figures are
     ∷ record { train = canted 150; x = 0; numbers = severalEntries; answer = 112 }
     ∷ record { train = canted 130; x = 0; numbers = severalEntries; answer = 112 }
     ∷ record { train = canted 100; x = 0; numbers = severalEntries; answer = 90 }

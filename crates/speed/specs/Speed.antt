@@ -29,7 +29,7 @@ belongs t zero = t .«freight_p»
 belongs t (suc zero) = t .«freight_g»
 belongs t (suc (suc c)) = t .passenger
 
--- the three in the order of the categories, as the code looks them up
+-- the three memberships in the order of the categories; the code looks a category up in them
 abbrev pub memberships : Train → List Bool
 memberships t = t .«freight_p» ∷ t .«freight_g» ∷ t .passenger ∷ []
 
@@ -52,6 +52,7 @@ pub record Element : Type 0 where
 abbrev pub isNotAbove : Train → Entry → Bool
 isNotAbove t e = eqb (e .qDiff) 0 && leb (e .class) (t .cant)
 
+-- the entries "with Q_DIFF 0" whose figure is not above "the train's own cant deficiency"
 abbrev pub notAbove : Train → List Entry → List Entry
 notAbove t [] = []
 notAbove t (e ∷ l) = cond (isNotAbove t e) (e ∷ notAbove t l) (notAbove t l)
@@ -61,10 +62,11 @@ abbrev pub greatestFigure : List Entry → ℕ
 greatestFigure [] = 0
 greatestFigure (e ∷ l) = max (e .class) (greatestFigure l)
 
--- the speeds of "the entries of" a figure
+-- whether an entry is one of "the entries of" a figure
 abbrev pub isOf : ℕ → Entry → Bool
 isOf figure e = eqb (e .class) figure
 
+-- the speeds of "the entries of" a figure
 abbrev pub figureSpeeds : ℕ → List Entry → List ℕ
 figureSpeeds figure [] = []
 figureSpeeds figure (e ∷ l) = cond (isOf figure e) (e .vDiff ∷ figureSpeeds figure l) (figureSpeeds figure l)
@@ -92,7 +94,7 @@ abbrev pub instead : ℕ → List ℕ → ℕ
 instead v [] = v
 instead v (w ∷ l) = lowest w l
 
--- "begin with V_STATIC", then Q_DIFF 0 and 1 instead, then Q_DIFF 2 with it
+-- "begin with V_STATIC"; entries with Q_DIFF 0 replace it, then entries with Q_DIFF 1; entries with Q_DIFF 2 can only lower it
 abbrev pub elementSpeed : Train → Element → ℕ
 elementSpeed t e = lowest (instead (instead (e .vStatic) (cantSpeeds t (e .entries))) (namedSpeeds t 1 (e .entries))) (namedSpeeds t 2 (e .entries))
 
@@ -111,7 +113,7 @@ heldTo t e stop = cond (eqb (e .qFront) 0) (stop + t .length) stop
 abbrev pub holds : Train → Element → ℕ → ℕ → Bool
 holds t e stop x = leb (e .start) x && ltb x (heldTo t e stop)
 
--- "the elements that hold there": the speeds of those at x
+-- "the elements that hold there", at x: the speed of each
 abbrev pub heldSpeeds : Train → ℕ → ℕ → List Element → List ℕ
 heldSpeeds t lsp x [] = []
 heldSpeeds t lsp x (e ∷ l) = cond (holds t e (endBefore lsp l) x) (elementSpeed t e ∷ heldSpeeds t lsp x l) (heldSpeeds t lsp x l)
@@ -122,7 +124,7 @@ permitted t lsp x l = instead 0 (heldSpeeds t lsp x l)
 
 -- ---- "Element 0 of the profile starts at 0 and each change starts the next"
 
--- n entries, by their numbers: "Q_DIFF 2, class 4, V_DIFF 7"; and what comes after them
+-- n entries, by their numbers: "Q_DIFF 2, class 4, V_DIFF 7"
 abbrev pub entriesOf : ℕ → List ℕ → List Entry
 entriesOf zero s = []
 entriesOf (suc n) s = record { qDiff = getD s 0 0; class = getD s 1 0; vDiff = getD s 2 0 } ∷ entriesOf n (drop 3 s)
@@ -140,12 +142,12 @@ elementOf start s = record { start = start; vStatic = getD s 0 0; qFront = getD 
 abbrev pub afterElement : List ℕ → List ℕ
 afterElement s = afterEntries (getD s 2 0) (drop 3 s)
 
--- "each change starts the next": n changes, with every start shifted by where the segment starts
+-- "each change starts the next": the elements of n changes; `from`, in cm, is added to the start of each
 abbrev pub changesFrom : ℕ → ℕ → List ℕ → List Element
 changesFrom from zero s = []
 changesFrom from (suc n) s = elementOf (from + getD s 0 0) (drop 1 s) ∷ changesFrom from n (afterElement (drop 1 s))
 
--- "Element 0 of the profile starts at 0 and each change starts the next", shifted so
+-- "Element 0 of the profile starts at 0 and each change starts the next"; `from`, in cm, is added to the start of each
 abbrev pub elementsFrom : ℕ → List ℕ → List Element
 elementsFrom from s = elementOf (from + 0) s ∷ changesFrom from (getD (afterElement s) 0 0) (drop 1 (afterElement s))
 
@@ -167,8 +169,10 @@ speedIn t x s = permitted t (segmentLength s) x (elementsFrom 0 (profileOf s))
 abbrev pub inFives : ℕ → ℕ
 inFives v = v / 5 * 5
 
+-- an entry with its speed lowered to a multiple of 5 km/h
 abbrev pub entryInFives : Entry → Entry
 entryInFives e = record { qDiff = e .qDiff; class = e .class; vDiff = inFives (e .vDiff) }
 
+-- an element with all its speeds lowered to multiples of 5 km/h
 abbrev pub elementInFives : Element → Element
 elementInFives e = record { start = e .start; vStatic = inFives (e .vStatic); qFront = e .qFront; entries = map entryInFives (e .entries) }

@@ -1,4 +1,4 @@
-// A train, and what of a segment's speed profile is meant for it.
+// A train of a speed question: its measures, which of them are allowed, and the categories that it belongs to.
 ghost use mathlib.Core.Path.{_≡_};
 ghost use mathlib.Core.Bool.{false};
 ghost use Prim.Native.Nat.{_%_};
@@ -6,6 +6,8 @@ ghost use lib.ListN.{getD};
 ghost use Rattle.speed.specs.Speed.{validTrain, figure, memberships};
 use fields::tables;
 
+// A train: `length` in cm, 1 to 150,000; cant deficiency `cant` in mm, one of eleven figures; whether it is freight in P position,
+// freight in G position, a passenger train.
 #[repr(C)]
 pub struct Train {
     pub length: u32,
@@ -15,13 +17,13 @@ pub struct Train {
     pub passenger: bool,
 }
 
-// The longest train, in centimetres.
+// Length in cm of the longest train that is allowed.
 pub const LONGEST: u32 = 150000;
 
-// The Q_DIFF of entries that name a cant deficiency.
+// Q_DIFF of a specific entry whose class is a cant deficiency.
 pub const OF_CANT: u32 = 0;
 
-// Whether a cant deficiency is one of the eleven figures.
+// Returns whether `cant`, in mm, is one of the eleven cant deficiencies of the table.
 fn is_figure(cant: u32) -> bool
     ensures { λ r. ⌜ r ≡ figure cant ⌝ }
 {
@@ -29,7 +31,7 @@ fn is_figure(cant: u32) -> bool
     fields::lower::class_place(&figures, OF_CANT, cant) < fields::lower::NO_CLASS
 }
 
-// Whether a train's length and cant deficiency are allowed.
+// Returns whether the length and the cant deficiency of `train` are allowed.
 pub fn valid(train: Train) -> bool
     ensures { λ r. ⌜ r ≡ validTrain train ⌝ }
 {
@@ -42,7 +44,8 @@ pub fn valid(train: Train) -> bool
     is_figure(train.cant)
 }
 
-// Whether a train belongs to a category: its bit among the train's three, with no branch on it. A shift takes its count modulo 32.
+// Returns whether `train` belongs to `category`, which counts modulo 32: 0 freight in P position, 1 freight in G position, 2 passenger, others none.
+// For speed, the three memberships are bits of one number, so that there is no branch on `category`.
 pub fn belongs_to(train: Train, category: u32) -> bool
     ensures { λ r. ⌜ r ≡ getD (memberships train) (category % 32) false ⌝ }
 {

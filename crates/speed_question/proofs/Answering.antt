@@ -1,4 +1,4 @@
--- The answer of a question: by the refusal of the train and the place, and by the verdict on the packet or the sheet.
+-- The answer of a question follows from the refusal of the train and the place, and from the verdict on the packet or the sheet.
 use mathlib.Core.Path.{_≡_, sym, ap, ap₂, _∙_}
 use mathlib.Core.Bool.{true, false}
 use mathlib.Core.List.{List}
@@ -34,9 +34,9 @@ module _ (t : Train) (x lsp : ℕ) where
   pub in-place : validTrain t ≡ true → x < lsp → 0 ≡ judgedSpeed t x lsp 0 .refusal
   in-place e h = rw (e, lt-ltb x lsp h)
 
-  -- ---- the answer by its refusal
+  -- ---- the answer from the refusal of the train and the place
 
-  -- either a refusal with no speed, or no refusal and the speed
+  -- an answer is a refusal with speed 0, or no refusal and the speed
   answer-by : {C : Type 0} (v : ℕ) → (judgedSpeed t x lsp 0 .refusal ≡ 0 → judgedSpeed t x lsp v ≡ record { refusal = 0; place = 0; speed = v } → C)
       → ((r : ℕ) → judgedSpeed t x lsp 0 .refusal ≡ r → (r ≡ 0 → ⊥) → judgedSpeed t x lsp v ≡ noSpeed r 0 → C) → C
   answer-by v f g =
@@ -51,7 +51,7 @@ module _ (t : Train) (x lsp : ℕ) where
     pub some-speed : r ≡ 0 → record { refusal = 0; place = 0; speed = v } ≡ judgedSpeed t x lsp v
     some-speed z = answer-by v (λ a b. sym b) (λ q a n b. absurd (n (sym a ∙ sym e ∙ z)))
 
--- ---- the answer by the verdict
+-- ---- the answer from the verdict
 
 module _ (s : List ℕ) where
   pub packet-refused : (q place : ℕ) → PacketVerdict.Refused q place ≡ packetVerdict Segment s → readAs Brought.packet s ≡ refused q place

@@ -1,4 +1,4 @@
--- The question by its medium: what is brought by 0 or 1 is answered as before, and a medium that is neither is refused, first of all.
+-- The question by its medium: 0 and 1 are answered from a packet and a sheet, and a medium that is neither is refused, first of all.
 use mathlib.Core.Path.{_≡_, refl}
 use mathlib.Core.List.{List}
 use Prim.Native.Nat.{ℕ}
@@ -28,6 +28,6 @@ module _ (s : List ℕ) (t : Train) (x : ℕ) where
   unfolding permittedSpeed
   neither-first {medium} n = rw (ne-eqb medium 0 (n .0), ne-eqb medium 1 (n .1))
 
-  -- "Answers stay the same for each kind": what speed from a packet and speed from a sheet were
+  -- "Answers stay the same for each kind": 0 gives the speed from a packet, 1 the speed from a sheet
   pub same-answers : (permittedSpeed 0 s t x ≡ answerOf noSpeed (speedOfValues t x) (fromPacket wireChanges s)) × (permittedSpeed 1 s t x ≡ answerOf noSpeed (speedOfValues t x) (fromSheet wireChanges s))
   same-answers = (asked packet refl, asked sheet refl)

@@ -20,7 +20,7 @@ noSpeed r place = record { refusal = r; place = place; speed = 0 }
 abbrev pub judgedSpeed : Train → ℕ → ℕ → ℕ → Speed
 judgedSpeed t x lsp v = cond (validTrain t) (cond (ltb x lsp) (record { refusal = 0; place = 0; speed = v }) (noSpeed 11 0)) (noSpeed 10 0)
 
--- the answer of the segment's values: "Speed from a packet uses the packet's speeds times 5, from a sheet the sheet's own"
+-- the answer from a segment's values: "Speed from a packet uses the packet's speeds times 5, from a sheet the sheet's own"
 abbrev pub speedOfValues : Train → ℕ → List Item → Speed
 speedOfValues t x l = judgedSpeed t x (segmentLength (sheetNumbers l)) (speedIn t x (sheetNumbers l))
 

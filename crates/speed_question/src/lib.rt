@@ -1,4 +1,5 @@
-// The permitted speed for a train at a place, from a packet or from a sheet. It is judged whole, then the train and the place; only then the speed is worked out.
+// The permitted speed of a train at a place of a segment, from a packet or from a sheet.
+// The segment is judged whole, then the train, then the place; only then is the speed worked out.
 
 ghost use mathlib.Core.Path.{_≡_};
 ghost use Rattle.speed_question.specs.Question.{Brought, judgedSpeed, speedFrom, permittedSpeed};
@@ -10,7 +11,7 @@ use speed::Train;
 use verdict::PacketVerdict;
 use verdict::SheetVerdict;
 
-// A refusal's number and its place, or 0 and the permitted speed in km/h.
+// Answer to a speed question: 0, 0 and the permitted speed in km/h; or a refusal's number, its place (a bit of the packet or a byte of the sheet) and 0.
 #[repr(C)]
 pub struct Speed {
     pub refusal: u32,
@@ -18,11 +19,13 @@ pub struct Speed {
     pub speed: u32,
 }
 
-// What a question brings.
+// `medium` of a question that brings a packet.
 pub const PACKET: u32 = 0;
 
+// `medium` of a question that brings a sheet.
 pub const SHEET: u32 = 1;
 
+// Makes an answer of `refusal`, its `place` and `speed` in km/h.
 fn answer(refusal: u32, place: u32, speed: u32) -> Speed
     ensures { λ r. ⌜ r ≡ record { refusal = refusal; place = place; speed = speed } ⌝ }
 {
@@ -33,7 +36,7 @@ fn answer(refusal: u32, place: u32, speed: u32) -> Speed
     }
 }
 
-// The refusal of a train and a place in a segment of this length, or 0.
+// Judges `train`, then the place `x` in a segment of length `lsp` (both in cm). Returns refusal 10 or 11, or 0 if both are allowed.
 fn refusal_of(train: Train, x: u32, lsp: u32) -> u32
     ensures { λ r. ⌜ r ≡ judgedSpeed train x lsp 0 .refusal ⌝ }
 {
@@ -46,7 +49,7 @@ fn refusal_of(train: Train, x: u32, lsp: u32) -> u32
     TRAIN_VALUE
 }
 
-// From a packet: its speeds times 5.
+// Judges `packet`, then `train` and the place `x` (in cm), and answers with the speed. A packet's speeds count steps of 5 km/h.
 fn from_packet(packet: &[u8], train: Train, x: u32) -> Speed
     ensures { λ r. ⌜ r ≡ speedFrom Brought.packet (now (packet .entry)) train x ⌝ }
 {
@@ -62,7 +65,7 @@ fn from_packet(packet: &[u8], train: Train, x: u32) -> Speed
     }
 }
 
-// From a sheet: its own speeds.
+// Judges `sheet`, then `train` and the place `x` (in cm), and answers with the speed. A sheet's speeds are in km/h.
 fn from_sheet(sheet: &[u8], train: Train, x: u32) -> Speed
     ensures { λ r. ⌜ r ≡ speedFrom Brought.sheet (now (sheet .entry)) train x ⌝ }
 {
@@ -79,7 +82,8 @@ fn from_sheet(sheet: &[u8], train: Train, x: u32) -> Speed
     }
 }
 
-// The permitted speed at x for a train, in a segment that is brought as a packet or as a sheet.
+// Answers the permitted speed of `train` at `x` cm from the start of `segment`, or a refusal.
+// `medium` says what `segment` is: 0 a packet, 1 a sheet. Any other is refused with 15.
 pub fn permitted_speed(medium: u32, segment: &[u8], train: Train, x: u32) -> Speed
     ensures { λ r. ⌜ r ≡ permittedSpeed medium (now (segment .entry)) train x ⌝ }
 {

@@ -1,4 +1,4 @@
--- An accepted packet's sheet: its bytes, its numbers, and how many changes its speed profile has.
+-- The sheet of an accepted packet: its bytes, its numbers, and the count of changes of its speed profile.
 use mathlib.Core.Path.{_≡_, refl, ap, _∙_}
 use mathlib.Core.List.{List, _∷_, _++_}
 use Prim.Native.Nat.{ℕ, zero, suc, _≤_}
@@ -37,7 +37,7 @@ count-most (also {i = i} g c) =
     let h : i .packet ≤ 31 = leb-true (i .packet) 31 (and-right (leb 0 (i .packet)) (leb (i .packet) 31) (g .allowed)) in
     omega (arith, g .raised)
 
--- a field's value in front
+-- values that conform to a field: the field's value, and the values after it
 pub opened : {C : Type 0} {k : Kind} {next : ℕ → Format} {l : List Item} → Conforming InPacket (field k next) l
     → ((i : Item) (t : List Item) → l ≡ i ∷ t → InPacket k i → Conforming InPacket (next (i .packet)) t → C) → C
 opened (also {i = i} {l = l} g c) f = f i l refl g c
@@ -71,7 +71,7 @@ module _ (s : List ℕ) (l : List Item) (ok : Bytes s) (e : fromPacket wireChang
       let r = framed-only segmentNumber (fields wireChanges) s l ok e in
       rw (r .all) (also {i = numberItem 6} (record { allowed = refl; fits = lit< tt; raised = refl }) (r .good))
 
-  -- its sheet is the same on the link
+  -- the sheet of an accepted segment is the sheet that the conversion of both packets writes
   linked : toEitherSheet l ≡ toSheet wireChanges l
   unfolding fromPacket
   linked =

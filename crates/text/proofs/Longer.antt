@@ -1,4 +1,4 @@
--- "no longer input can pass rule 3": what is past 8,208 bytes changes nothing.
+-- "no longer input can pass rule 3": the bytes after the first 8,208 change nothing.
 use mathlib.Core.Path.{_≡_, refl, ap, _∙_}
 use mathlib.Core.Bool.{cond}
 use mathlib.Core.List.{List, [], _∷_}
@@ -17,7 +17,7 @@ use Rattle.grammar.specs.segment.Frame.{packetNumber, bodyBits}
 use Rattle.grammar.specs.segment.Judgement.{fromPacket}
 use Rattle.text.specs.Listing.{listed, listingOf}
 
--- "bytes are not 15 + L_PACKET_ATO / 8, rounded up", whatever L_PACKET_ATO is
+-- "bytes are not 15 + L_PACKET_ATO / 8, rounded up", whatever L_PACKET_ATO is: a packet of 8,208 bytes or more is refused with 2 or 3
 long-refused : (s : List ℕ) → 8208 ≤ length s → fromPacket wireChanges s ≡ cond (eqb (packetNumber s) 6) (refused 3 0) (refused 2 0)
 unfolding fromPacket
 long-refused s h =
@@ -25,7 +25,7 @@ long-refused s h =
     (λ e. rw (le-ltb (length s) 15 (omega arith), e, ne-eqb (length s) (15 + (bodyBits s + 7) / 8) (λ d. omega (arith, field-small s 8 16 16 (lit≤ tt)))))
     (λ e. rw (le-ltb (length s) 15 (omega arith), e))
 
--- the packet number is the first byte's
+-- the packet number is the first byte
 number-first : (b : ℕ) (s : List ℕ) → packetNumber (b ∷ s) ≡ number (bitsOf 8 b)
 unfolding fieldAt
 number-first b s = refl

@@ -18,7 +18,7 @@ use Rattle.text.specs.Listing.{listed, listingOf}
 use Rattle.text.specs.Names.{ElementNamed, ChangesNamed, over, change, ProfileNamed, Named}
 use Rattle.text.proofs.Accepted.{opened, good}
 
--- n entries in front, and the values that follow them
+-- the values l begin with n entries
 record Skipped (n : ℕ) (f : Format) (l : List Item) : Type 0 where
   pub values : List Item
   pub rest : List Item
@@ -42,7 +42,7 @@ skipped (suc n) f c =
       numbers = r .numbers;
     })
 
--- an element in front, and the values that follow it
+-- the values l begin with an element
 record First (start : ℕ) (f : Format) (l : List Item) : Type 0 where
   pub rest : List Item
   pub named : ElementNamed f l rest start (elementLine (elementOf start (sheetNumbers l)))
@@ -96,7 +96,7 @@ module _ (lsp : ℕ) (f : Format) where
       let e = element 0 (field (nIter 31) λ n. changes profile lsp 0 n f) c in
       counted (e .good) (e .named) (afterElement (sheetNumbers l)) (e .numbers)
 
--- for any values that conform to the tree
+-- the listing of values that conform to the tree has their numbers
 pub listing-names : (l : List Item) → Conforming InPacket (sheetFields wireChanges) l → Named l (listed (accepted l))
 unfolding lists body fields sheetFields
 listing-names l c =
@@ -125,7 +125,7 @@ listing-names l c =
       whole = refl;
     })
 
--- so for a packet that is accepted
+-- the listing of an accepted packet has the numbers of its values
 pub packet-names : (s : List ℕ) (l : List Item) → Bytes s → fromPacket wireChanges s ≡ accepted l → Named l (listingOf s)
 unfolding listingOf
 packet-names s l ok e = rw e (listing-names l (good s l ok e))

@@ -1,4 +1,4 @@
--- The whole listing: by the altitude's answer, and never longer than 1,669 bytes.
+-- The whole listing: it follows from the altitude's answer, and has at most 1,669 bytes.
 use mathlib.Core.Path.{_≡_, refl, sym, ap, _∙_}
 use mathlib.Core.List.{List, _++_}
 use Prim.Native.Nat.{ℕ, zero, suc, _+_, _*_, _≤_}
@@ -23,7 +23,7 @@ use Rattle.text.proofs.words.Putting.{decimal-short}
 use Rattle.text.proofs.lines.Laying.{element-short, segment-short}
 use Rattle.text.proofs.Accepted.{few-changes}
 
--- ---- by the altitude's answer
+-- ---- the listing from the altitude's answer
 
 module _ (s : List ℕ) (a : Altitude) (e : a ≡ altitudeOf s) where
   by-read : (r : Read) → fromPacket wireChanges s ≡ r → a ≡ altitudeOfRead r
@@ -71,7 +71,7 @@ lines-short z ns h =
     rw (length-append (segmentLine z ns) (elementLine first ++ elementLines others), length-append (elementLine first) (elementLines others))
     (omega (arith, segment-short z ns, element-short first, changes-short (changesOf ns) (drop 1 (afterElement (profileOf ns)))))
 
--- the longest listing has 1,669 bytes at most: a segment's line of at most 69, and 32 elements' of at most 50
+-- a listing has at most 1,669 bytes: a segment's line of at most 69, and at most 32 elements' lines of at most 50
 pub listing-short : (s : List ℕ) → Bytes s → length (listingOf s) ≤ 1669
 unfolding listingOf
 listing-short s ok = go (fromPacket wireChanges s) refl
@@ -89,14 +89,14 @@ listing-laid s room t {r} {cells} ok h e d =
     let b : cells ≡ listingOf s ++ drop (length (listingOf s)) room = e .bytes ∙ ap (sets room 0) d ∙ sets-eq (listingOf s) room 0 (omega (arith, listing-short s ok)) ∙ rw z in
     λ j. record { length = n j; room = b j }
 
--- what was returned is inside the room
+-- the length that is returned is at most the room's
 pub listing-inside : (s room : List ℕ) {r : ℕ} {cells : List ℕ} → record { length = r; room = cells } ≡ listingIn s room → r ≤ length cells
 unfolding listingIn
 listing-inside s room e =
     let t = listingOf s in
     omega (arith, ap (λ (x : Listed). x .length) e, ap (λ (x : Listed). length (x .room)) e ∙ length-append t (drop (length t) room))
 
--- and what the program writes of it is the listing
+-- the bytes of the room up to the length that is returned are the listing
 pub listing-written : (s room : List ℕ) {r : ℕ} {cells : List ℕ} → record { length = r; room = cells } ≡ listingIn s room → take r cells ≡ listingOf s
 unfolding listingIn
 listing-written s room e =

@@ -1,4 +1,4 @@
--- Samples of the listing: the document's, and one with a different number in every field.
+-- Samples of the listing: the document's sample, and one with a different number in every field.
 use mathlib.Core.List.{List, [], _∷_, _++_}
 use Prim.Native.Nat.{ℕ}
 use Rattle.text.specs.words.Words.{ascii}

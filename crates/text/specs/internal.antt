@@ -1,4 +1,4 @@
--- What the code needs and no promise names.
+-- Used by contracts of the code; no promise names these.
 pub mod Writers
 pub mod lines
 pub mod sheet

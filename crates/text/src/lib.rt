@@ -1,4 +1,4 @@
-// The listing of a packet as text, in a room of the caller's.
+// The listing of a packet as text, written into a room that the caller lends.
 pub mod lines;
 pub mod sheet;
 pub mod words;
@@ -14,13 +14,13 @@ ghost use Rattle.text.specs.lines.Lines.{lines};
 ghost use Rattle.text.specs.Listing.{refusedLine, listingIn};
 ghost use Rattle.text.specs.internal.Writers.{PacketAccepted};
 
-// The bytes of a room that holds any listing.
+// Bytes of a room that holds any listing.
 pub const ROOM: usize = 2048;
 
-// The most bytes of a sheet.
+// Bytes of a segment's largest sheet.
 const SHEET: usize = 5728;
 
-// Writes the line of a refusal and its place at the front of the room.
+// Writes the line of a refusal and its place, a bit of the packet, at the start of the room. Returns the line's length.
 fn put_refusal(refusal: u32, place: u32, room: &mut [u8]) -> usize
     requires { ⌜ 33 ≤ length (now room) ⌝ }
     ensures { λ r. ⌜ Laid (now (room .entry)) 0 (refusedLine refusal place) r (now (room .exit)) ⌝ }
@@ -30,7 +30,7 @@ fn put_refusal(refusal: u32, place: u32, room: &mut [u8]) -> usize
     crate::words::put_word(room, at, b"\n")
 }
 
-// Writes the lines of an accepted packet at the front of the room, by way of its sheet.
+// Writes the lines of an accepted packet at the start of the room, from its sheet and its `altitude` in cm. Returns the length of the text.
 fn put_accepted(packet: &[u8], altitude: i32, room: &mut [u8]) -> usize
     requires { ⌜ PacketAccepted (now packet) × (1669 ≤ length (now room)) ⌝ }
     ensures { λ r. ⌜ Laid (now (room .entry)) 0 (lines altitude (sheetNumbers (valuesOf (fromPacket wireChanges (now (packet .entry)))))) r (now (room .exit)) ⌝ }
@@ -41,7 +41,7 @@ fn put_accepted(packet: &[u8], altitude: i32, room: &mut [u8]) -> usize
     crate::lines::put_lines(&sheet[..length], altitude, room)
 }
 
-// The listing of a packet, at the front of a room that holds any listing; the length is returned.
+// Writes the listing of a packet at the start of the room: its lines, or the line of its refusal. Returns the length of the text.
 pub fn listing(packet: &[u8], room: &mut [u8; ROOM]) -> usize
     ensures { λ r. ⌜ record { length = r; room = now (room .exit) } ≡ listingIn (now (packet .entry)) (now (room .entry)) ⌝ }
 {

@@ -1,4 +1,4 @@
-// The lines of a listing, from an accepted packet's sheet.
+// The lines of a listing, written from the sheet of an accepted packet.
 ghost use Prim.Native.Nat.{_+_, _*_, _≤_};
 ghost use lib.ListN.{length, drop};
 ghost use Rattle.speed.specs.Speed.{elementOf, afterElement, changesFrom};
@@ -12,16 +12,19 @@ use crate::words::put_labelled;
 use crate::words::put_signed;
 use crate::words::put_word;
 
-// How many numbers stand before these in a sheet.
+// Place of NID_C among a sheet's numbers, counted from 0.
 const NID_C: usize = 6;
 
+// Place of NID_SP among a sheet's numbers, counted from 0.
 const NID_SP: usize = 7;
 
+// Place of L_SP among a sheet's numbers, counted from 0.
 const L_SP: usize = 10;
 
+// Place of the speed profile's first number among a sheet's numbers, counted from 0.
 const PROFILE: usize = 14;
 
-// Writes the front of the segment's line, up to NID_SP, at the front of the room.
+// Writes the segment's line up to NID_SP at the start of the room. Returns the place after it.
 fn put_names(sheet: &[u8], room: &mut [u8]) -> usize
     requires { ⌜ 29 ≤ length (now room) ⌝ }
     ensures { λ r. ⌜ Laid (now (room .entry)) 0 (namesText (numbersIn (now (sheet .entry)))) r (now (room .exit)) ⌝ }
@@ -32,7 +35,7 @@ fn put_names(sheet: &[u8], room: &mut [u8]) -> usize
     put_labelled(room, at, b" ", nid_sp)
 }
 
-// Writes the rest of the segment's line.
+// Writes the rest of the segment's line, L_SP and `altitude` in cm, at the byte `at` of the room. Returns the place after it.
 fn put_measures(sheet: &[u8], altitude: i32, room: &mut [u8], at: usize) -> usize
     requires { ⌜ at + 40 ≤ length (now room) ⌝ }
     ensures { λ r. ⌜ Laid (now (room .entry)) at (measures altitude (numbersIn (now (sheet .entry)))) r (now (room .exit)) ⌝ }
@@ -44,7 +47,7 @@ fn put_measures(sheet: &[u8], altitude: i32, room: &mut [u8], at: usize) -> usiz
     put_word(room, next, b"\n")
 }
 
-// Writes the segment's line at the front of the room.
+// Writes the segment's line, with its `altitude` in cm, at the start of the room. Returns the place after it.
 fn put_segment(sheet: &[u8], altitude: i32, room: &mut [u8]) -> usize
     requires { ⌜ 69 ≤ length (now room) ⌝ }
     ensures { λ r. ⌜ Laid (now (room .entry)) 0 (segmentLine altitude (numbersIn (now (sheet .entry)))) r (now (room .exit)) ⌝ }
@@ -53,7 +56,8 @@ fn put_segment(sheet: &[u8], altitude: i32, room: &mut [u8]) -> usize
     put_measures(sheet, altitude, room, at)
 }
 
-// Writes the line of the element that stands at the byte from of the sheet.
+// Writes the line of an element at the byte `at` of the room and returns the place after it.
+// The element's numbers begin at the byte `from` of the sheet; it starts at `start` cm.
 fn put_element(sheet: &[u8], from: usize, start: u32, room: &mut [u8], at: usize) -> usize
     requires { ⌜ (from ≤ length (now sheet)) × (at + 50 ≤ length (now room)) ⌝ }
     ensures { λ r. ⌜ Laid (now (room .entry)) at (elementLine (elementOf start (numbersIn (drop from (now (sheet .entry)))))) r (now (room .exit)) ⌝ }
@@ -66,7 +70,7 @@ fn put_element(sheet: &[u8], from: usize, start: u32, room: &mut [u8], at: usize
     put_word(room, next, b"\n")
 }
 
-// The place after the element that stands at the byte from: three numbers, and three of each specific entry.
+// Returns the byte of the sheet after an element that begins at the byte `from`: three numbers, and three for each specific entry.
 fn after_element(sheet: &[u8], from: usize) -> usize
     requires { ⌜ from ≤ length (now sheet) ⌝ }
     ensures { λ r. ⌜ NumbersAt (now (sheet .entry)) r (afterElement (numbersIn (drop from (now (sheet .entry))))) ⌝ }
@@ -75,7 +79,8 @@ fn after_element(sheet: &[u8], from: usize) -> usize
     past(sheet, from, 3 + 3 * entries as usize)
 }
 
-// Writes the lines of left changes, the first of which stands at the byte from of the sheet.
+// Writes the lines of `left` changes at the byte `at` of the room and returns the place after them.
+// The first change begins at the byte `from` of the sheet.
 fn put_changes(sheet: &[u8], from: usize, left: u32, room: &mut [u8], at: usize) -> usize
     requires { ⌜ (from ≤ length (now sheet)) × (at + 50 * left ≤ length (now room)) ⌝ }
     ensures { λ r. ⌜ Laid (now (room .entry)) at (elementLines (changesFrom 0 left (numbersIn (drop from (now (sheet .entry)))))) r (now (room .exit)) ⌝ }
@@ -93,7 +98,8 @@ fn put_changes(sheet: &[u8], from: usize, left: u32, room: &mut [u8], at: usize)
     next
 }
 
-// Writes the lines of an accepted packet, by its altitude and its sheet: 69 bytes at most, and 50 for each of 32 elements.
+// Writes all lines of an accepted packet, with its `altitude` in cm, at the start of the room. Returns the length of the text.
+// The segment's line has at most 69 bytes, the line of each of at most 32 elements 50.
 pub fn put_lines(sheet: &[u8], altitude: i32, room: &mut [u8]) -> usize
     requires { ⌜ (changesOf (numbersIn (now sheet)) ≤ 31) × (1669 ≤ length (now room)) ⌝ }
     ensures { λ r. ⌜ Laid (now (room .entry)) 0 (lines altitude (numbersIn (now (sheet .entry)))) r (now (room .exit)) ⌝ }

@@ -1,11 +1,11 @@
-// The numbers of a sheet, one after the other.
+// The numbers of a sheet, read one after the other.
 ghost use mathlib.Core.Path.{_≡_};
 ghost use Prim.Native.Nat.{_≤_};
 ghost use lib.ListN.{length, drop, getD};
 ghost use Rattle.text.specs.internal.sheet.Numbers.{numbersIn, NumbersAt};
 use numbers::Number;
 
-// The number at the byte at, and 0 where there is none.
+// Returns the number at the byte `at` of the sheet, or 0 if there is none.
 pub fn number(sheet: &[u8], at: usize) -> u32
     ensures { λ r. ⌜ r ≡ getD (numbersIn (drop at (now (sheet .entry)))) 0 0 ⌝ }
 {
@@ -15,7 +15,7 @@ pub fn number(sheet: &[u8], at: usize) -> u32
     }
 }
 
-// The place after n numbers from the byte at on.
+// Returns the byte of the sheet after `n` numbers from the byte `at` on; stops where there is no number.
 pub fn past(sheet: &[u8], at: usize, n: usize) -> usize
     requires { ⌜ at ≤ length (now sheet) ⌝ }
     ensures { λ r. ⌜ NumbersAt (now (sheet .entry)) r (drop n (numbersIn (drop at (now (sheet .entry))))) ⌝ }

@@ -1,4 +1,4 @@
-// Words and numbers, put as text at a place of a room.
+// Words and numbers, written as text at a place of a room.
 ghost use mathlib.Core.Path.{_≡_};
 ghost use mathlib.Core.List.{_∷_, []};
 ghost use Prim.Native.Nat.{_+_, _≤_, _<_};
@@ -6,7 +6,7 @@ ghost use lib.IntN.{natAbs};
 ghost use lib.ListN.{length};
 ghost use Rattle.text.specs.words.Words.{digitByte, decimal, signedDecimal, labelled, Laid};
 
-// Puts the word at the byte at, and returns the place after it.
+// Writes the bytes of `word` at the byte `at` of the room and returns the place after them.
 pub fn put_word(room: &mut [u8], at: usize, word: &[u8]) -> usize
     requires { ⌜ at + length (now word) ≤ length (now room) ⌝ }
     ensures { λ r. ⌜ Laid (now (room .entry)) at (now (word .entry)) r (now (room .exit)) ⌝ }
@@ -19,6 +19,7 @@ pub fn put_word(room: &mut [u8], at: usize, word: &[u8]) -> usize
     at + i
 }
 
+// Writes the decimal digit `d` at the byte `at` of the room and returns the place after it.
 fn put_digit(room: &mut [u8], at: usize, d: u32) -> usize
     requires { ⌜ (at < length (now room)) × (d < 10) ⌝ }
     ensures { λ r. ⌜ Laid (now (room .entry)) at (digitByte d ∷ []) r (now (room .exit)) ⌝ }
@@ -27,7 +28,7 @@ fn put_digit(room: &mut [u8], at: usize, d: u32) -> usize
     at + 1
 }
 
-// Puts the decimal digits of v: those above the last come first.
+// Writes the decimal digits of `v`, the highest first, at the byte `at` of the room and returns the place after them.
 pub fn put_decimal(room: &mut [u8], at: usize, v: u32) -> usize
     requires { ⌜ at + length (decimal v) ≤ length (now room) ⌝ }
     ensures { λ r. ⌜ Laid (now (room .entry)) at (decimal v) r (now (room .exit)) ⌝ }
@@ -39,7 +40,7 @@ pub fn put_decimal(room: &mut [u8], at: usize, v: u32) -> usize
     put_digit(room, next, v % 10)
 }
 
-// A number of 64 bits holds the lowest i32, turned.
+// Returns `z` without its sign. The lowest i32 has no positive i32, so the sign is changed in 64 bits.
 fn magnitude(z: i32) -> u32
     ensures { λ r. ⌜ r ≡ natAbs z ⌝ }
 {
@@ -50,7 +51,7 @@ fn magnitude(z: i32) -> u32
     }
 }
 
-// Puts z with its sign, where it has one.
+// Writes `z` in decimal digits, after a minus sign if it is negative, at the byte `at` of the room and returns the place after it.
 pub fn put_signed(room: &mut [u8], at: usize, z: i32) -> usize
     requires { ⌜ at + length (signedDecimal z) ≤ length (now room) ⌝ }
     ensures { λ r. ⌜ Laid (now (room .entry)) at (signedDecimal z) r (now (room .exit)) ⌝ }
@@ -63,7 +64,7 @@ pub fn put_signed(room: &mut [u8], at: usize, z: i32) -> usize
     put_decimal(room, at, v)
 }
 
-// Puts a word, and a number after it.
+// Writes `word` and after it the decimal digits of `v` at the byte `at` of the room, and returns the place after them.
 pub fn put_labelled(room: &mut [u8], at: usize, word: &[u8], v: u32) -> usize
     requires { ⌜ at + length (labelled (now word) v) ≤ length (now room) ⌝ }
     ensures { λ r. ⌜ Laid (now (room .entry)) at (labelled (now (word .entry)) v) r (now (room .exit)) ⌝ }

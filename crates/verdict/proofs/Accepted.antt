@@ -1,4 +1,4 @@
--- What a verdict tells of what was read; and the frame and the fields of an accepted packet.
+-- What follows from a verdict about the values that were read; and the frame and the fields of an accepted packet.
 use mathlib.Core.Path.{_≡_, refl, sym, ap, _∙_}
 use mathlib.Core.List.{List, _∷_}
 use Prim.Native.Nat.{ℕ}

@@ -1,4 +1,4 @@
--- The size of what is written of the values that are read, and the two sorts of a verdict.
+-- The size of what is written of the values that are read; and two equal verdicts have equal sizes, or equal numbers and places.
 use mathlib.Core.Path.{_≡_, refl}
 use mathlib.Core.List.{List, _∷_}
 use Prim.Native.Nat.{ℕ}
@@ -21,11 +21,11 @@ unfolding groupsIn
 number-byte Segment = refl
 number-byte Journey = refl
 
--- a packet's fields are a sheet's after the packet number
+-- the fields of a packet are the fields of a sheet after the packet number
 pub size-first : (t : Tree) (l : List Item) → sizeFrom sheet (treeFields t) 1 l ≡ sizeFrom sheet (treeSheetFields t) 0 (numberItem (treeNumber t) ∷ l)
 size-first t l = rw length-append (omega (arith, number-byte t))
 
--- a verdict is a refusal or not, and tells its number and its place
+-- two equal verdicts have equal sizes, or equal numbers and places, and no acceptance is a refusal
 pub record Sorts {B : Type 0} (accepts : ℕ → B) (refuses : ℕ → ℕ → B) : Type 0 where
   pub size : {m n : ℕ} → accepts m ≡ accepts n → m ≡ n
   pub number : {q r p place : ℕ} → refuses q p ≡ refuses r place → q ≡ r

@@ -1,2 +1,2 @@
--- The laws of the module frame.
+-- Laws of the module `frame`.
 pub mod Framing

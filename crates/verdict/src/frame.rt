@@ -1,4 +1,4 @@
-// The frame of a packet: its refusals, the bit where its fields end, and its padding.
+// The frame of a packet: refusals 1, 2 and 3, the bit where the fields end, and the padding.
 ghost use mathlib.Core.Path.{_≡_};
 ghost use Prim.Native.Nat.{_+_, _*_, _^_, _≤_, _<_};
 ghost use lib.ListN.{length, drop};
@@ -10,12 +10,13 @@ use kinds::refusals::PACKET_LENGTH;
 use kinds::refusals::PACKET_NUMBER;
 use kinds::refusals::SHORT_PACKET;
 
+// `End(bit)`: the bit where a packet's fields end. `Refused(number)`.
 pub enum Frame {
     End(usize),
     Refused(u32),
 }
 
-// The bit where a packet's fields end, or the refusal of its frame, where the packet number is to be this one.
+// Checks refusals 1, 2, 3 and returns the bit where the fields end. `number` is the expected packet number.
 pub fn judge_frame(s: &[u8], number: u32) -> Frame
     ensures { λ r. ⌜ r ≡ frameOf number (now (s .entry)) ⌝ }
 {
@@ -33,7 +34,7 @@ pub fn judge_frame(s: &[u8], number: u32) -> Frame
     }
 }
 
-// The first of the bits from stop on, fewer than eight, that is 1, or the packet's end.
+// Returns the place of the first padding bit that is 1, or the packet's length in bits if all are 0. The padding begins at bit `stop`.
 pub fn first_one(s: &[u8], stop: usize) -> usize
     requires { ⌜ (stop ≤ 8 * length (now s)) × (8 * length (now s) < stop + 8) × (stop < 2 ^ 32) ⌝ }
     ensures { λ r. ⌜ r ≡ oneOrEnd stop (drop stop (bitsOfBytes (now (s .entry)))) ⌝ }

@@ -1,13 +1,13 @@
-// The verdict on a packet and on a sheet: the size of what it converts to, or a refusal with its place.
+// Verdicts on a packet and on a sheet: the size of the conversion's result, or a refusal with its place.
 pub mod frame;
 
-// The bytes of the packet's sheet.
+// `SheetBytes(bytes)`: the bytes of the packet's sheet. `Refused(number, bit)`.
 pub enum PacketVerdict {
     SheetBytes(usize),
     Refused(u32, u32),
 }
 
-// The bits of the sheet's packet, without L_PACKET_ATO and padding.
+// `PacketBits(bits)`: the bits of the sheet's packet, without L_PACKET_ATO and padding. `Refused(number, byte)`.
 pub enum SheetVerdict {
     PacketBits(usize),
     Refused(u32, u32),

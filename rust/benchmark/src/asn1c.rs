@@ -1,13 +1,13 @@
-//! asn1c's codec of the segment: a packet past L_PACKET_ATO read into a structure, and written from it.
+//! asn1c's codec of the segment: it reads a packet after L_PACKET_ATO into a structure, and writes it from the structure.
 
 use std::os::raw::c_void;
 use std::ptr::NonNull;
 use std::time::{Duration, Instant};
 
-/// NID_PACKET_ATO and L_PACKET_ATO, which the codec does not take.
+/// Bytes of NID_PACKET_ATO and L_PACKET_ATO, which the codec does not take.
 const BYTES_BEFORE: usize = 3;
 const LARGEST_PACKET: usize = 2_073;
-/// About as many bytes of packets are held as structures at a time: few enough to stay near the processor.
+/// How many bytes of packets, about, are held as structures at a time: for speed, few enough to stay in the processor's cache.
 const BATCH_BYTES: usize = 2_000;
 
 extern "C" {
@@ -16,7 +16,7 @@ extern "C" {
     fn asn1c_free(segment: NonNull<c_void>);
 }
 
-/// A structure of the codec's own, freed where it ends.
+/// A structure that the codec made; it is freed when dropped.
 pub struct Structure(NonNull<c_void>);
 
 impl Structure {
@@ -36,7 +36,7 @@ impl Drop for Structure {
     }
 }
 
-/// The structure of a packet; stops where the codec does not give the packet's own bytes back.
+/// Returns the structure of a packet; stops the program if the codec does not write the packet's bytes from it.
 pub fn checked(packet: &[u8]) -> Structure {
     let mut room = [0; LARGEST_PACKET];
     let structure = Structure::read(packet);
@@ -45,7 +45,7 @@ pub fn checked(packet: &[u8]) -> Structure {
     structure
 }
 
-/// How long reading all packets takes, and writing them; freeing the structures is not counted.
+/// Measures how long the codec takes to read all packets and to write them; the time to free the structures is not counted.
 pub fn round(packets: &[Vec<u8>]) -> (Duration, Duration) {
     let mut room = [0; LARGEST_PACKET];
     let (mut reading, mut writing) = (Duration::ZERO, Duration::ZERO);

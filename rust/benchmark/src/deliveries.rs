@@ -1,4 +1,4 @@
-//! The times of packets that an intake takes at once and byte by byte, beside plain copies of the same bytes, and of their judgement.
+//! Times of an intake that takes packets at once and byte by byte, beside plain copies of these bytes, and times of its judgement.
 
 use crate::measure::{medians, unknown, Medians, Round};
 use compare::archive::Archive;
@@ -7,10 +7,10 @@ use compare::intakes::gathering;
 use compare::program::Program;
 use std::time::Instant;
 
-/// How often a round goes over the packets: one copy of them is too short a time.
+/// How often a round goes over the packets: the time of one copy is too short to measure.
 const TIMES: usize = 50;
 
-/// Three rows: both ways of taking the packets, and their completion.
+/// Prints three rows: packets taken at once, packets taken byte by byte, and their completion.
 pub fn rows(name: &str, packets: &[Vec<u8>]) {
     let bytes = packets.concat().len();
     println!("\n{name}: {} packets taken in, on average {} bytes", packets.len(), bytes / packets.len());
@@ -23,7 +23,7 @@ pub fn rows(name: &str, packets: &[Vec<u8>]) {
     row("completion", &medians(&mut [completions(packets)]), packets.len(), bytes);
 }
 
-/// A round of deliveries of so many bytes each, every packet from a fresh state on.
+/// Makes a round of deliveries of `size` bytes each; every packet starts from a fresh state.
 fn round<'a, S: Copy + 'a>(packets: &'a [Vec<u8>], size: usize, fresh: S, deliver: fn(S, &[u8], &mut [u8]) -> S) -> Round<'a> {
     let mut room = [0; LARGEST_PACKET];
     Box::new(move || {
@@ -38,7 +38,7 @@ fn round<'a, S: Copy + 'a>(packets: &'a [Vec<u8>], size: usize, fresh: S, delive
     })
 }
 
-/// A plain copy behind what is there; a call each, as a delivery is.
+/// Copies a delivery after the bytes that are in the room. It is not inlined, so that it costs a call as a delivery does.
 #[inline(never)]
 fn copied(begin: usize, delivery: &[u8], room: &mut [u8]) -> usize {
     let end = begin + delivery.len();
@@ -46,7 +46,7 @@ fn copied(begin: usize, delivery: &[u8], room: &mut [u8]) -> usize {
     end
 }
 
-/// A round of completions, each in the packet's own bytes.
+/// Makes a round of completions; the room of each is the packet itself.
 fn completions(packets: &[Vec<u8>]) -> Round<'_> {
     Box::new(move || {
         let began = Instant::now();
@@ -58,7 +58,7 @@ fn completions(packets: &[Vec<u8>]) -> Round<'_> {
     })
 }
 
-/// A row: the archive's time a packet and a byte, and the copy's with its ratio, or dashes where nothing is copied.
+/// Prints a row: the archive's time for a packet and for a byte, and the copy's with its ratio, or dashes if nothing is copied.
 fn row(title: &str, programs: &[Medians], packets: usize, bytes: usize) {
     print!("{title:18}");
     for Medians { time, .. } in programs {

@@ -1,8 +1,8 @@
-//! What the times were taken on.
+//! The processor on which the times were measured.
 
 use std::arch::x86_64::__cpuid;
 
-/// The processor's own name, by its identification leaves 80000002 to 80000004.
+/// Returns the name that the processor gives in its identification leaves 80000002 to 80000004.
 pub fn processor() -> String {
     let name: Vec<u8> = (0x8000_0002..=0x8000_0004).flat_map(leaf).filter(|byte| *byte > 0).collect();
     String::from_utf8_lossy(&name).trim().to_string()
@@ -15,7 +15,7 @@ fn leaf(number: u32) -> Vec<u8> {
     [words.eax, words.ebx, words.ecx, words.edx].iter().flat_map(|word| word.to_le_bytes()).collect()
 }
 
-/// Whether the processor is Debian's emulator, which names itself.
+/// Returns whether the processor is Debian's emulator, which names itself.
 pub fn is_emulated() -> bool {
     processor().contains("QEMU")
 }

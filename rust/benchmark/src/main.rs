@@ -1,6 +1,6 @@
-//! The archive's times beside the second program's and asn1c's: conversions and speeds, on small, middle and the largest segments;
-//! beside the second program's, conversions of small and the largest journeys and of those full of temporary constraints; and beside
-//! plain copies, the largest packets taken in deliveries.
+//! Times of the archive beside the second program and asn1c: conversions and speeds of small, middle and the largest segments; beside the
+//! second program: conversions of small and the largest journeys and of journeys full of temporary constraints; and beside plain copies:
+//! the largest packets taken in deliveries.
 
 mod asn1c;
 mod deliveries;
@@ -18,11 +18,11 @@ use measure::{Medians, Round};
 use std::time::Instant;
 
 const MIDDLE: Sizes = Sizes { changes: 10, entries: (0, 6), voltages: 3, currents: 3 };
-/// How many segments of each size: so many fields that a processor cannot learn them.
+/// How many segments of each size are measured: enough that the processor cannot predict their fields.
 const SIZES: [(&str, usize, Sizes); 3] = [("small", 4_000, SMALLEST), ("middle", 600, MIDDLE), ("largest", 30, LARGEST)];
-/// As many segments with 31 constraints each as a packet holds.
+/// A journey with as many segments of 31 constraints each as a packet holds.
 const CONSTRAINED: Size = (28, 0, 28 * 31);
-/// The same of journeys: a size is the segments, the timing points and the constraints on them.
+/// How many journeys of each size are measured; a size is the counts of segments, timing points and constraints.
 const JOURNEYS: [(&str, usize, Size); 3] = [
     ("small", 1_500, (2, 3, 0)),
     ("largest without constraints", 12, LONGEST_UNCONSTRAINED),
@@ -34,7 +34,7 @@ const TAKEN_JOURNEYS: usize = 12;
 const LARGEST_RESULT: usize = 15_226;
 const TRAIN: Train = Train { length: 20_000, cant: 150, freight_p: false, freight_g: true, passenger: false };
 
-/// The conversions first, which journeys have too.
+/// The operations that are measured. The conversions come first: journeys have only these.
 const OPERATIONS: [(Operation, &str); 4] = [
     (Operation::PacketToSheet, "packet to sheet"),
     (Operation::SheetToPacket, "sheet to packet"),
@@ -79,10 +79,10 @@ fn any_journey(random: &mut Random, size: Size) -> Draft {
     journey(random, &counts)
 }
 
-/// A size's four rows; a journey's are two, without asn1c.
+/// Prints the four rows of a size of segments, or the two rows of a size of journeys, without asn1c.
 fn rows(name: &str, drafts: &[Draft], segments: bool) {
     let (packets, sheets): (Vec<_>, Vec<_>) = drafts.iter().map(|draft| (draft.packet(), draft.sheet())).unzip();
-    // kept, so that they fill the holes in the heap: asn1c is faster where it allocates beyond them
+    // these structures fill the holes in the heap: asn1c is faster if it allocates beyond them
     let _kept = packets.iter().filter(|_| segments).map(|packet| asn1c::checked(packet)).collect::<Vec<_>>();
     let fields = drafts.iter().map(|draft| draft.fields.len()).sum::<usize>();
     let bytes = |of: &[Vec<u8>]| of.concat().len() / of.len();
@@ -112,7 +112,7 @@ fn question<'a>(operation: Operation, draft: &Draft, input: &'a [u8]) -> Questio
     Question { operation, input, train: TRAIN, x: last }
 }
 
-/// A round of a program's calls, which must all be accepted.
+/// Makes a round of a program's calls, which must all be accepted.
 fn round<'a, P: Program>(questions: &'a [Question<'a>]) -> Round<'a> {
     let mut room = [0; LARGEST_RESULT];
     Box::new(move || {
@@ -125,7 +125,7 @@ fn round<'a, P: Program>(questions: &'a [Question<'a>]) -> Round<'a> {
     })
 }
 
-/// A row: of each program the time a call and a field, and of all but the archive the ratio; a dash where asn1c has no such operation.
+/// Prints a row: each program's time for a call and for a field, with its ratio to the archive; a dash if asn1c has no such operation.
 fn row(title: &str, programs: &[Medians], calls: usize, fields: usize) {
     print!("{title:18}");
     for (place, Medians { time, ratio }) in programs.iter().enumerate() {

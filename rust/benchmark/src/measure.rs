@@ -1,4 +1,4 @@
-//! Times of programs in one run: rounds in turn, and the medians of them.
+//! Measures programs in one run: their rounds take turns, and the medians are kept.
 
 use std::time::Duration;
 
@@ -7,13 +7,13 @@ const ROUNDS: usize = 11;
 /// One round of a program, and how long it took.
 pub type Round<'a> = Box<dyn FnMut() -> Duration + 'a>;
 
-/// The median of a program's times in nanoseconds a round, and that of its time by the first program's in the same round.
+/// Median of a program's times in nanoseconds a round, and median of the ratios of its time to the first program's time in that round.
 pub struct Medians {
     pub time: f64,
     pub ratio: f64,
 }
 
-/// The medians of each program.
+/// Runs the rounds of all programs in turn and returns the medians of each.
 pub fn medians(programs: &mut [Round]) -> Vec<Medians> {
     let mut times = vec![Vec::new(); programs.len()];
     for _ in 0..ROUNDS {
@@ -30,7 +30,7 @@ fn median(mut times: Vec<f64>) -> f64 {
     times[times.len() / 2]
 }
 
-/// The same value, of which the compiler knows nothing more: so no call is left out or done once for all.
+/// Returns `value` so that the compiler knows nothing about it: otherwise it could leave out calls or make one for all.
 pub fn unknown<T: Copy>(value: T) -> T {
     unsafe { std::ptr::read_volatile(&value) }
 }

@@ -53,7 +53,7 @@ extern "C" {
 
 pub struct Archive;
 
-// Every call hands over slices of its own, as pointer and length; the operations take any bytes and any room.
+// Each call hands over its slices as pointer and length; the operations take any bytes and any room.
 impl Program for Archive {
     fn packet_to_sheet(packet: &[u8], room: &mut [u8]) -> Answer {
         converted(unsafe { seglink_packet_to_sheet(packet.as_ptr(), packet.len(), room.as_mut_ptr(), room.len()) })
@@ -106,7 +106,7 @@ fn state(Intake { phase, length, refusal, place }: Intake) -> State {
     State { phase, length, refusal, place }
 }
 
-/// The state after a call.
+/// Turns the state that a call returned into the common type.
 fn after(State { phase, length, refusal, place }: State) -> Intake {
     Intake { phase, length, refusal, place }
 }

@@ -11,20 +11,20 @@ pub struct Case {
     pub name: &'static str,
     pub packet: Vec<u8>,
     pub sheet: Vec<u8>,
-    /// What both carry where both are accepted, and the packet is the sheet's.
+    /// The segment or journey of both, if both are accepted and the packet is the sheet's.
     pub whole: Option<Draft>,
-    /// L_SP first, then the locations of changes and 0: speed questions are asked about them. A journey has 0 alone.
+    /// L_SP first, then the locations of changes and 0, in cm: speed questions are asked about them. A journey has 0 alone.
     pub marks: Vec<u32>,
-    /// The places of the cant deficiencies that entries name: trains are drawn about them.
+    /// Places in the table of the cant deficiencies that entries name: trains are drawn near them.
     pub named: Vec<u32>,
-    /// Where the fields of temporary constraints were put: a bit of the packet, a byte of the sheet.
+    /// Where the fields of temporary constraints begin: a bit of the packet, a byte of the sheet.
     pub constrained: Vec<(u32, u32)>,
-    /// Where the counts of wire changes were put: a byte of the sheet.
+    /// Where the counts of wire changes begin: a byte of the sheet.
     pub counted: Vec<u32>,
 }
 
 impl Case {
-    /// The case of a seed's generator.
+    /// Makes the case of a seed's generator.
     pub fn random(random: &mut Random) -> Case {
         match random.between(0, 63) {
             0..=23 => whole(random),
@@ -44,7 +44,7 @@ impl Case {
     }
 }
 
-/// A segment, or one time in three a journey.
+/// Draws a segment, or one time in three a journey.
 fn any_draft(random: &mut Random) -> Draft {
     if random.one_in(3) {
         let counts = any_counts(random);
@@ -83,7 +83,7 @@ fn with_spoilt_bytes(random: &mut Random) -> Case {
     case
 }
 
-/// More changes, entries, segments, timing points or constraints than allowed, all of them there.
+/// Makes a case with more changes, entries, segments, timing points or constraints than allowed, all of them there.
 fn with_a_count_past_its_limit(random: &mut Random) -> Case {
     let mut sizes = Sizes { entries: (0, 1), ..any_sizes(random) };
     let mut counts = None;
@@ -103,7 +103,7 @@ fn with_a_count_past_its_limit(random: &mut Random) -> Case {
     Case::of("with a count past its limit", &draft, false)
 }
 
-/// A journey of one timing point or constraint more than a packet holds, or some more; its sheet whole, or one time in three spoilt.
+/// Makes a journey of one or some more timing points or constraints than a packet holds; its sheet is whole, or one time in three spoilt.
 fn with_a_body_too_long(random: &mut Random) -> Case {
     let more = random.pick(&[1, 1, 2, 31, 400]);
     let counts = about_the_longest(random, more);
@@ -118,7 +118,7 @@ fn with_a_body_too_long(random: &mut Random) -> Case {
     case
 }
 
-/// Random bytes, half of them behind a right start.
+/// Makes a case of random bytes; half of the cases begin with a right start.
 fn noise(random: &mut Random) -> Case {
     let size = if random.one_in(4) { 2_100 } else { 80 };
     let (packet_size, sheet_size) = (random.place(size), random.place(size));
@@ -136,12 +136,12 @@ fn noise(random: &mut Random) -> Case {
     Case { name: "noise", packet, sheet, whole: None, marks, named, constrained, counted }
 }
 
-/// Writes bytes over the first ones, as far as there are any.
+/// Writes `start` over the first bytes, as far as there are any.
 fn overwrite(bytes: &mut [u8], start: &[u8]) {
     bytes.iter_mut().zip(start).for_each(|(byte, other)| *byte = *other);
 }
 
-/// A train, one time in eight one that is not allowed.
+/// Draws a train, one time in eight a train that is not allowed.
 pub fn any_train(random: &mut Random, named: &[u32]) -> Train {
     let mut train = Train {
         length: if random.one_in(2) { random.with_ends(1, 1_000) } else { random.with_ends(1, 150_000) },
@@ -158,7 +158,7 @@ pub fn any_train(random: &mut Random, named: &[u32]) -> Train {
     train
 }
 
-/// A cant deficiency: one that an entry names or one of the two above it, or any.
+/// Draws a cant deficiency: one that an entry names, one of the two above it, or any.
 fn any_cant(random: &mut Random, named: &[u32]) -> u32 {
     if named.is_empty() || random.one_in(4) {
         return random.pick(&CANTS);
@@ -167,7 +167,7 @@ fn any_cant(random: &mut Random, named: &[u32]) -> u32 {
     CANTS[(place as usize).min(CANTS.len() - 1)]
 }
 
-/// A kind: 0 to 3, or a larger one, whose low bits may be 0 or 1.
+/// Draws a kind: 0 to 3, or a larger one, whose low bits may be 0 or 1.
 pub fn any_kind(random: &mut Random) -> u32 {
     match random.between(0, 5) {
         4 => random.pick(&[255, 256, 257, 65_536, 65_537, 0x8000_0000, 0x8000_0001, u32::MAX]),
@@ -176,7 +176,7 @@ pub fn any_kind(random: &mut Random) -> u32 {
     }
 }
 
-/// A location: about a mark plus the train's length, about a mark, from 0 to L_SP or anywhere.
+/// Draws a location: near a mark plus the train's length, near a mark, from 0 to L_SP or anywhere.
 pub fn any_location(random: &mut Random, marks: &[u32], train: &Train) -> u32 {
     let mark = random.pick(marks);
     let about = random.pick(&[-1, 0, 1]);

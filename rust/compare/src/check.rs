@@ -1,4 +1,4 @@
-//! One case put to both programs, and the customer's demands looked at directly.
+//! Checks one case with both programs, and the customer's demands directly.
 
 use crate::archive::Archive;
 use crate::case::{any_kind, any_location, any_train, Case};
@@ -14,12 +14,12 @@ use crate::sequence;
 use crate::tally::Tally;
 use crate::wild;
 
-/// Speed questions a case.
+/// How many speed questions a case has.
 const SPEEDS: usize = 3;
-/// A journey's, which hold a segment's too.
+/// Bytes that no sheet of a journey or a segment exceeds.
 pub const LARGEST_SHEET: usize = 15_226;
 pub const LARGEST_PACKET: usize = 8_207;
-/// As many changes of voltage, and as many of current, were allowed at first.
+/// How many changes of voltage, and how many of current, were allowed at first.
 const FORMER_WIRES: u32 = 23;
 
 /// Compares the operations on a case, every answer and every byte of the rooms; then the demands; then packets taken in deliveries.
@@ -55,7 +55,7 @@ pub fn compare(random: &mut Random, question: &Question, room: usize, tally: &mu
     Ok(answer)
 }
 
-/// A room of exactly the result's size, one byte short, larger, empty or of any size.
+/// Draws the size of a room: exactly the result's, one byte less, larger, 0 or any.
 pub fn room_for(random: &mut Random, question: &Question) -> usize {
     let result = Archive::answer(question, &mut [0; LARGEST_SHEET]).value.max(0) as usize;
     match (question.operation, random.between(0, 5)) {
@@ -67,7 +67,7 @@ pub fn room_for(random: &mut Random, question: &Question) -> usize {
     }
 }
 
-/// Packet to sheet to packet is the same packet; an accepted sheet's packet comes back too, and is handed on.
+/// Checks that a packet's sheet makes the packet again, and a sheet's packet too. Returns the packet of an accepted sheet.
 fn round_trips(case: &Case) -> Result<Option<Vec<u8>>, String> {
     let sheet = converted(Archive::packet_to_sheet, &case.packet, LARGEST_SHEET);
     if let Some(sheet) = &sheet {
@@ -89,7 +89,7 @@ fn round_trips(case: &Case) -> Result<Option<Vec<u8>>, String> {
     Ok(packet)
 }
 
-/// A conversion into the largest room that any result needs.
+/// Returns the result of a conversion into a room of `size` bytes, if it is accepted.
 fn converted(convert: fn(&[u8], &mut [u8]) -> Answer, input: &[u8], size: usize) -> Option<Vec<u8>> {
     let mut room = vec![0; size];
     let answer = convert(input, &mut room);
@@ -97,8 +97,8 @@ fn converted(convert: fn(&[u8], &mut [u8]) -> Answer, input: &[u8], size: usize)
     (answer.refusal == 0).then_some(room)
 }
 
-/// The speeds at one location; from the packet of a sheet, the greatest multiple of 5 not above the sheet's. Then the packet or the sheet
-/// as any kind: an unknown one is refused first of all.
+/// Compares the speeds at one location, and checks that the packet of a sheet gives the greatest multiple of 5 not above the sheet's speed.
+/// Then asks about the packet or the sheet as any kind: an unknown kind is refused first of all.
 fn speeds(
     random: &mut Random,
     case: &Case,
@@ -129,7 +129,7 @@ fn speeds(
     Ok(())
 }
 
-/// A conversion of a whole segment, by how many wire changes it has where it is accepted; and a sheet refused at a count of them.
+/// Counts an accepted conversion of a whole segment by its wire changes, and a sheet that is refused at a count of wire changes.
 fn count_wires(operation: Operation, case: &Case, answer: &Answer, tally: &mut Tally) {
     let [voltages, currents] = match operation {
         Operation::PacketToSheet => [Event::PacketVoltages, Event::PacketCurrents],
@@ -150,7 +150,7 @@ fn count_wires(operation: Operation, case: &Case, answer: &Answer, tally: &mut T
     }
 }
 
-/// A question of an unknown kind, by what the own kind of its bytes answers.
+/// Counts a question of an unknown kind by the answer that the right kind of its bytes gives.
 fn count_unknown(kind: u32, own: &Answer, tally: &mut Tally) {
     tally.count_events(&[
         (Event::UnknownSmall, kind <= 3),

@@ -1,9 +1,9 @@
-//! Damage: fields at and past their limits, numbers in a wrong form, packets and sheets with wrong bits and of a wrong size.
+//! Damages segments and journeys: fields at and past their limits, numbers in a wrong form, wrong bits and wrong sizes.
 
 use crate::draft::{Draft, Kind, CANTS};
 use crate::random::Random;
 
-/// The values and the numbers at which a kind's range or set ends, from both sides.
+/// Returns the values and the numbers on both sides of each end of a kind's range or set.
 fn edges(kind: Kind) -> (&'static [u32], &'static [u32]) {
     match kind {
         Kind::PacketNumber => (&[0, 4, 5, 6, 7, 255], &[0, 4, 5, 6, 7, 256, 260, 262]),
@@ -32,7 +32,7 @@ fn edges(kind: Kind) -> (&'static [u32], &'static [u32]) {
         Kind::Adhesion => (&[0, 5, 6, 7], &[0, 5, 6, 8]),
         Kind::Unused => (&[1, 2, u32::MAX], &[1, 2, 3, 4, 5, 604, 16_777_215]),
         Kind::UnusedCurrent => (&[0, 1, 1_000, 1_022, 1_023], &[0, 1, 1_022, 1_023, 10_010]),
-        // by the field's width, and by the locations about it
+        // these limits follow from the field's width and from the locations near it
         Kind::Plain | Kind::Location | Kind::End => (&[], &[]),
     }
 }
@@ -70,7 +70,7 @@ const CONSTRAINED: [Kind; 9] = [
     Kind::UnusedCurrent,
 ];
 
-/// A kind that the draft has: more often locations, constraints and their ends, which have most ways of being wrong, and plain fields,
+/// Draws a kind that the draft has: more often locations, constraints and their ends, which can be wrong in most ways, and plain fields,
 /// which are many.
 fn kind_of(random: &mut Random, draft: &Draft) -> Kind {
     let mut kinds = vec![Kind::Plain];
@@ -95,7 +95,7 @@ fn kind_of(random: &mut Random, draft: &Draft) -> Kind {
     }
 }
 
-/// A location about the one before it, or about an end of the segment, or past all that a packet holds.
+/// Draws a location near the one before it, near an end of the segment, or past all that a packet holds.
 fn location(random: &mut Random, draft: &Draft, place: usize) -> (u32, u64) {
     let fields = &draft.fields;
     let before = fields[..place].iter().rev().find(|field| field.kind == Kind::Location).map_or(0, |field| field.value);
@@ -105,7 +105,7 @@ fn location(random: &mut Random, draft: &Draft, place: usize) -> (u32, u64) {
     (random.pick(&near), number.into())
 }
 
-/// An end about the constraint's start, which stands before it, or past all that a packet holds.
+/// Draws an end near the constraint's start, which stands before it, or past all that a packet holds.
 fn end(random: &mut Random, draft: &Draft, place: usize) -> (u32, u64) {
     let start = draft.fields[place - 1].value;
     let near = [0, start.saturating_sub(1), start, start.wrapping_add(1), 16_777_215];
@@ -113,18 +113,18 @@ fn end(random: &mut Random, draft: &Draft, place: usize) -> (u32, u64) {
     (random.pick(&near), number.into())
 }
 
-/// The highest number that the packet's field holds, and the next, which it does not.
+/// Draws the highest number that the packet's field holds, or the next, which the field does not hold.
 fn about_width(random: &mut Random, width: u32) -> (u32, u64) {
     (u32::MAX, (1 << width) - 1 + u64::from(random.between(0, 1)))
 }
 
-/// A figure beside one of the list, with a place of the list or past it.
+/// Draws a figure beside one of the table, with a place in the table or past it.
 fn other_cant(random: &mut Random) -> (u32, u64) {
     let figure = random.pick(&CANTS);
     (random.between(0, 15), random.pick(&[figure - 1, figure, figure + 1]).into())
 }
 
-/// One digit of NID_OPERATIONAL from A to E.
+/// Replaces one digit of NID_OPERATIONAL by A to E.
 fn wrong_digit(random: &mut Random, number: u32) -> (u32, u64) {
     let shift = 4 * random.between(0, 7);
     let wrong = number & !(15 << shift) | random.between(10, 14) << shift;
@@ -182,7 +182,7 @@ fn length_field(packet: &[u8]) -> usize {
     usize::from(packet[1]) << 8 | usize::from(packet[2])
 }
 
-/// Sets padding bits, where there are any.
+/// Sets padding bits, if there are any.
 fn set_padding(random: &mut Random, packet: &mut [u8]) {
     let used = (length_field(packet) + 7) % 8 + 1;
     let padding = (0xFFu16 >> used) as u8;
@@ -190,7 +190,7 @@ fn set_padding(random: &mut Random, packet: &mut [u8]) {
     *last |= padding & random.any() as u8;
 }
 
-/// Another L_PACKET_ATO, with as many bytes as it asks for: fields that do not fit, or bits left.
+/// Changes L_PACKET_ATO and makes the packet as long as it asks for: then fields do not fit, or bits are left.
 fn refit(random: &mut Random, packet: &mut Vec<u8>) {
     let length = length_field(packet);
     let other = match random.between(0, 3) {

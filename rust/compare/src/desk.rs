@@ -8,7 +8,7 @@ use crate::desk_wires;
 use crate::draft::{Draft, Kind};
 use crate::program::{Answer, Operation, Question, Train, KIND_PACKET, KIND_SHEET};
 
-/// An operation's question, the size of its room, and its answer.
+/// A question to an operation, the size of its room, and its answer.
 #[derive(Clone)]
 pub struct Desk {
     pub name: &'static str,
@@ -26,16 +26,16 @@ impl Desk {
     }
 }
 
-/// The figures in which the desk cases differ from the document's packet.
+/// Figures in which the desk cases differ from the document's packet.
 #[derive(Clone, Copy)]
 pub struct Plan {
     pub seconds: u32,
     pub length: u32,
     pub speed: u32,
     pub front: u32,
-    /// Of the start: Q_DIFF, the class in the packet, km/h.
+    /// Entries of the first element: Q_DIFF, the class in the packet, km/h.
     pub entries: &'static [(u32, u32, u32)],
-    /// A change to 140 km/h.
+    /// Location in cm of a change to 140 km/h.
     pub change: Option<u32>,
     /// How many changes of voltage and of current there are, from the location 1 on.
     pub voltages: u32,
@@ -101,7 +101,7 @@ fn start(draft: &mut Draft, plan: Plan) {
     }
 }
 
-/// The largest segment in both media: every list full, and every number of as many groups as its range has.
+/// Makes the largest segment in both media: every list is full, and every number has as many groups as its range allows.
 fn largest() -> Draft {
     let mut draft = Draft::default();
     let highest = |width: u32| u32::MAX >> (32 - width);
@@ -124,7 +124,7 @@ fn largest() -> Draft {
     draft
 }
 
-/// What stands at the start, and 31 changes up to the segment's last centimetre.
+/// Adds a list: `item` at the segment's start, and 31 changes up to the segment's last centimetre.
 fn full_list(draft: &mut Draft, kind: Kind, item: fn(&mut Draft)) {
     item(draft);
     draft.same(kind, 5, 31);
@@ -144,7 +144,7 @@ fn full_element(draft: &mut Draft) {
     }
 }
 
-/// All desk cases.
+/// Returns all desk cases.
 pub fn cases() -> Vec<Desk> {
     let mut cases = Vec::new();
     conversions(&mut cases);
@@ -183,7 +183,7 @@ pub fn speed(name: &'static str, kind: u32, input: Vec<u8>, (train, x): (&Train,
     Desk { name, operation: Operation::PermittedSpeed(kind), input, room: 0, train: train.clone(), x, answer }
 }
 
-/// A draft's packet and sheet, each of which makes the other.
+/// Adds cases in which a draft's packet and sheet make each other.
 pub fn accepted(cases: &mut Vec<Desk>, name: &'static str, draft: &Draft) {
     let (bytes, numbers) = (draft.packet(), draft.sheet());
     let (to_sheet, to_packet) = (Answer::success(numbers.len() as i64), Answer::success(bytes.len() as i64));
@@ -191,13 +191,13 @@ pub fn accepted(cases: &mut Vec<Desk>, name: &'static str, draft: &Draft) {
     cases.push(sheet(name, numbers, to_packet));
 }
 
-/// A draft's packet and sheet, both refused: the packet at a bit, the sheet at a byte.
+/// Adds cases in which a draft's packet is refused at a bit and its sheet at a byte.
 pub fn refused(cases: &mut Vec<Desk>, name: &'static str, draft: &Draft, refusal: u32, (bit, byte): (u32, u32)) {
     cases.push(packet(name, draft.packet(), Answer::refused(refusal, bit)));
     cases.push(sheet(name, draft.sheet(), Answer::refused(refusal, byte)));
 }
 
-/// Rooms of the result's size, and of one byte less.
+/// Adds cases with rooms of the result's size and of one byte less.
 pub fn rooms(cases: &mut Vec<Desk>, draft: &Draft) {
     let mut whole = Vec::new();
     accepted(&mut whole, "a room of the result's size, or one byte less", draft);
@@ -224,7 +224,8 @@ fn conversions(cases: &mut Vec<Desk>) {
     cases.push(sheet("the largest sheet", largest().sheet(), Answer::success(2_073)));
 }
 
-/// The fields of the document's packet end with the bit 304, the last of them begins at 300; the numbers of its sheet end with the byte 24.
+/// Adds refusals. The fields of the document's packet end with the bit 304, the last of them begins at 300; the numbers of its sheet end with
+/// the byte 24.
 fn refusals(cases: &mut Vec<Desk>) {
     let document = draft(DOCUMENT).packet();
     let with_byte = |place: usize, byte: u8| {
@@ -274,7 +275,8 @@ fn limits(cases: &mut Vec<Desk>) {
     refused(cases, "a length of 0", &draft(Plan { length: 0, ..DOCUMENT }), 4, (178, 12));
 }
 
-/// What a conversion of a segment refuses, but for the room, the questions refuse alike: before the train, which is not allowed here.
+/// Adds questions: they refuse what a conversion of a segment refuses, except a short room, before they judge the train, which is not
+/// allowed here.
 fn questions(cases: &mut Vec<Desk>) {
     let train = Train { length: 0, ..TRAIN };
     let mut asked = Vec::new();
@@ -291,7 +293,7 @@ fn questions(cases: &mut Vec<Desk>) {
     cases.extend(asked);
 }
 
-/// A packet that an intake takes has the verdict and the sheet of the conversion; the verdict does not look at the sheet's room.
+/// Adds packets that an intake takes: they have the verdict and the sheet of the conversion; the verdict does not depend on the sheet's room.
 fn taken(cases: &mut Vec<Desk>) {
     let packets: Vec<Desk> = cases.iter().filter(|case| case.operation == Operation::PacketToSheet).cloned().collect();
     for case in packets {
@@ -316,7 +318,7 @@ fn speeds(cases: &mut Vec<Desk>) {
     }
 }
 
-/// The answer from the sheet, and lowered to a multiple of 5 that from the packet.
+/// Adds a speed question about a sheet, and one about its packet, whose speed is lowered to a multiple of 5.
 pub fn both_speeds(cases: &mut Vec<Desk>, name: &'static str, plan: Plan, (train, x): (&Train, u32), answer: Answer) {
     let draft = draft(plan);
     let lowered = Answer { value: answer.value / 5 * 5, ..answer };

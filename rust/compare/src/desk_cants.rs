@@ -1,14 +1,14 @@
-//! Desk cases on entries by cant deficiency: the train's own, else the next lower that is named; each speed is worked out by hand.
+//! Desk cases on entries by cant deficiency: the train's own, or else the next lower that an entry names; each speed is worked out by hand.
 
 use crate::desk::{both_speeds, Desk, Plan, CHANGED, TRAIN};
 use crate::program::{Answer, Train};
 
-/// Q_DIFF, the class in the packet, km/h.
+/// Entries: Q_DIFF, the class in the packet, km/h.
 type Entries = &'static [(u32, u32, u32)];
-/// The train's cant deficiency in millimetres, and its speed.
+/// Speeds: the train's cant deficiency in millimetres, and its speed in km/h.
 type Speeds = &'static [(u32, i64)];
 
-/// Places of cant deficiencies.
+/// Places of cant deficiencies in the table.
 const MM_80: u32 = 0;
 const MM_100: u32 = 1;
 const MM_130: u32 = 2;
@@ -17,7 +17,7 @@ const MM_165: u32 = 4;
 const MM_275: u32 = 9;
 const MM_300: u32 = 10;
 
-/// Beside a V_STATIC of 100 km/h: the entries, and the speeds at the start that they give trains of no category.
+/// Entries beside a V_STATIC of 100 km/h, and the speeds at the start that they give trains of no category.
 const FIGURES: [(&str, Entries, Speeds); 14] = [
     (
         "entries for 100 and 165",
@@ -43,7 +43,7 @@ const FIGURES: [(&str, Entries, Speeds); 14] = [
     ("the least figure and the next to the greatest", &[(0, MM_80, 90), (0, MM_275, 110)], &[(300, 110), (275, 110), (245, 90)]),
 ];
 
-/// A lower figure's entry beside those of categories: whether a 150 mm train is freight P, freight G, passenger, and its speed.
+/// An entry for a lower figure beside entries for categories: whether a 150 mm train is freight P, freight G, passenger, and its speed.
 const BESIDE: Entries = &[(0, MM_100, 112), (1, 1, 140), (2, 2, 104), (1, 1, 135), (0, MM_165, 20), (2, 0, 300)];
 const CATEGORIES: [([bool; 3], i64); 6] = [
     ([false, false, false], 112),
@@ -64,14 +64,14 @@ pub fn speeds(cases: &mut Vec<Desk>) {
         (train, 0, speed)
     });
     give(cases, "a lower figure beside categories", Plan { entries: BESIDE, ..CHANGED }, beside);
-    // the tail holds the 100 entry's speed past 500, where 140 km/h begin
+    // the speed of the 100 entry holds for the train's length past 500 cm, where 140 km/h begin
     let delayed = Plan { entries: &[(0, MM_100, 121), (0, MM_165, 60)], ..CHANGED };
     let name = "a lower figure before a change at 500";
     give(cases, name, delayed, [(499, 121), (699, 121), (700, 140)].map(|(x, speed)| (TRAIN, x, speed)));
     give(cases, name, Plan { front: 1, ..delayed }, [(499, 121), (500, 140)].map(|(x, speed)| (TRAIN, x, speed)));
 }
 
-/// The speeds that a plan gives trains at locations.
+/// Adds the speeds that a plan gives trains at locations.
 fn give(cases: &mut Vec<Desk>, name: &'static str, plan: Plan, speeds: impl IntoIterator<Item = (Train, u32, i64)>) {
     for (train, x, speed) in speeds {
         both_speeds(cases, name, plan, (&train, x), Answer::success(speed));

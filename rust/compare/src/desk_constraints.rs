@@ -1,4 +1,4 @@
-//! Desk cases on temporary constraints: every field at its ends, past them and not used; every place is counted by hand.
+//! Desk cases on temporary constraints: every field at the ends of its range, past them and not used; every place is counted by hand.
 
 use crate::desk::{accepted, packet, refused, sheet, Desk};
 use crate::desk_journeys::{journey, with};
@@ -6,7 +6,7 @@ use crate::draft::{Constraint, Draft};
 use crate::program::Answer;
 
 const LAST: u32 = 16_777_215;
-/// The fields of a constraint that are edited.
+/// Places of the fields of a constraint that cases change.
 const TYPE: usize = 0;
 const RANGE: usize = 1;
 const START: usize = 2;
@@ -16,7 +16,7 @@ const SPEED: usize = 5;
 const ADHESION: usize = 6;
 const CURRENT: usize = 7;
 
-/// One of each range; in the sheet 1,000 and 2,500 have two bytes each, every other number has one.
+/// One constraint of each range; in the sheet 1,000 and 2,500 have two bytes each, every other number has one.
 const RESTRICTION: Constraint = [0, 2, 1_000, 2_500, 1, 40, 0, 0];
 const STARTS: Constraint = [0, 0, 1_000, 0, 0, 40, 0, 0];
 const SLIPPERY: Constraint = [1, 1, 0, 2_500, 0, 0, 5, 0];
@@ -25,7 +25,7 @@ const MODES: Constraint = [2, 3, 0, 0, 0, 0, 0, 0];
 /// Constraints with one number replaced; the refusal, and where it is given: a bit of the packet and a byte of the sheet.
 type Wrong = (&'static str, Constraint, usize, u32, u32, (u32, u32));
 
-/// The first constraint begins at the bit 329 and the byte 64; its fields at the bits 331, 333, 357, 381, 382, 389 and 392.
+/// Wrong fields. The first constraint begins at the bit 329 and the byte 64; its other fields at the bits 331, 333, 357, 381, 382, 389 and 392.
 const WRONG: [Wrong; 29] = [
     ("a speed from a start, with an end", STARTS, END, 1, 4, (357, 68)),
     ("a speed from a start, with the last end", STARTS, END, LAST, 4, (357, 68)),
@@ -58,7 +58,7 @@ const WRONG: [Wrong; 29] = [
     ("the driving mode GoA1 with a speed", [3, 3, 0, 0, 0, 0, 0, 0], SPEED, 5, 4, (382, 69)),
 ];
 
-/// Numbers that no field of a packet holds, or that a speed loses on its way there: 4, at a byte of the sheet.
+/// Numbers that no field of a packet holds, or that the lowering of a speed loses: refused with 4 at a byte of the sheet.
 const WRONG_NUMBERS: [(&str, Constraint, usize, u32, u32); 17] = [
     ("the fifth type", STARTS, TYPE, 4, 64),
     ("a type past all", RESTRICTION, TYPE, u32::MAX, 64),
@@ -79,7 +79,7 @@ const WRONG_NUMBERS: [(&str, Constraint, usize, u32, u32); 17] = [
     ("the current of a packet", MODES, CURRENT, 1_023, 71),
 ];
 
-/// The journey with one timing point and these constraints.
+/// Makes the journey with one timing point and these constraints.
 fn constrained(constraints: &[Constraint]) -> Draft {
     let mut draft = journey((1, 1, 0));
     let count = draft.fields.len() - 1;
@@ -93,7 +93,7 @@ fn edited(mut constraint: Constraint, field: usize, number: u32) -> Constraint {
     constraint
 }
 
-/// All constraints of the desk.
+/// Returns all desk cases on constraints.
 pub fn cases() -> Vec<Desk> {
     let mut cases = Vec::new();
     ends(&mut cases);
@@ -109,7 +109,7 @@ pub fn cases() -> Vec<Desk> {
     cases
 }
 
-/// Every type with every range, what each uses at its smallest and at its largest.
+/// Adds every type with every range; the fields that they use are at their smallest, and at their largest.
 fn ends(cases: &mut Vec<Desk>) {
     let locations = [[(0, 0), (LAST, 0)], [(0, 0), (0, LAST)], [(0, 1), (LAST - 1, LAST)], [(0, 0); 2]];
     let contents = [[(0, 0, 0), (1, 600, 0)], [(0, 0, 0), (0, 0, 5)], [(0, 0, 0); 2], [(0, 0, 0); 2]];
@@ -126,7 +126,7 @@ fn ends(cases: &mut Vec<Desk>) {
     cases.push(sheet("32 constraints", more, Answer::refused(4, 63)));
 }
 
-/// The packet has 51 bytes whatever the speed; the sheet that comes back has a byte less where the speed falls below 128.
+/// Adds lowered speeds. The packet has 51 bytes whatever the speed; the sheet that comes back has a byte less if the speed falls below 128.
 fn lowered(cases: &mut Vec<Desk>) {
     for (speed, bytes) in [(4, 74), (43, 74), (44, 74), (129, 74), (130, 75), (604, 75)] {
         let draft = constrained(&[edited(RESTRICTION, SPEED, speed)]);
@@ -135,7 +135,7 @@ fn lowered(cases: &mut Vec<Desk>) {
     }
 }
 
-/// A constraint has 73 bits, and the restriction's ten bytes.
+/// Adds journeys with several constraints: a constraint has 73 bits, and the restriction ten bytes.
 fn several(cases: &mut Vec<Desk>) {
     let late = edited(RESTRICTION, END, 1_000);
     refused(cases, "the second of three constraints", &constrained(&[RESTRICTION, late, late]), 5, (430, 78));

@@ -1,4 +1,4 @@
-//! Desk cases of the intake: calls one after the other, each with the state or the answer that the request gives, and the room after them.
+//! Desk cases of the intake: calls that follow one another, each with the state or the answer that the request gives, and the room after them.
 
 use self::Call::{Ask, Complete, Deliver};
 use crate::check::require;
@@ -9,21 +9,21 @@ use crate::program::{Answer, Intake};
 use crate::random::Random;
 use crate::rooms::Rooms;
 
-/// What a room is filled with before it is lent.
+/// Byte that fills a room before it is lent.
 const FILL: u8 = 0xA5;
 const FRESH: Intake = gathering(0);
 const LONG: Intake = judged(0, 8, 0);
 const EARLY: Answer = Answer { refusal: 14, place: 0, value: 0 };
 
-/// A call, and what it must give.
+/// A call, and the state or the answer that it must give.
 enum Call {
     Deliver(Vec<u8>, Intake),
     Complete(Intake),
-    /// With so many bytes of the room that took the packet, and a room of so many for the sheet.
+    /// A question for the sheet: the bytes handed over of the room that took the packet, and the bytes of the room for the sheet.
     Ask(usize, usize, Answer),
 }
 
-/// Calls from a state on, and what the room holds before and after them.
+/// Calls from a state on, and the bytes of the room before and after them.
 pub struct IntakeDesk {
     pub name: &'static str,
     start: Intake,
@@ -33,7 +33,7 @@ pub struct IntakeDesk {
 }
 
 impl IntakeDesk {
-    /// Puts the calls to both programs.
+    /// Makes the calls in both programs and checks what they give.
     pub fn check(&self, random: &mut Random) -> Result<(), String> {
         let mut intakes = Intakes::new(random, self.start, &self.room);
         for (nth, call) in self.calls.iter().enumerate() {
@@ -52,30 +52,30 @@ impl IntakeDesk {
     }
 }
 
-/// The document's packet: 39 bytes, and its sheet has 25.
+/// Returns the document's packet, of 39 bytes; its sheet has 25.
 fn document() -> Vec<u8> {
     draft(DOCUMENT).packet()
 }
 
-/// Bytes and what a room of this size was filled with behind them.
+/// Returns a room of `size` bytes that begins with `bytes`, with the fill behind them.
 fn filled(bytes: &[u8], size: usize) -> Vec<u8> {
     let mut room = bytes.to_vec();
     room.resize(size, FILL);
     room
 }
 
-/// Calls to a fresh intake with a room of so many bytes.
+/// Makes a case of calls to a fresh intake with a room of `size` bytes.
 fn fresh(name: &'static str, size: usize, calls: Vec<Call>, held: &[u8]) -> IntakeDesk {
     IntakeDesk { name, start: FRESH, room: filled(&[], size), calls, held: filled(held, size) }
 }
 
-/// The calls that take a packet of so many bytes at once in a room that holds it, and accept it.
+/// Returns the calls that deliver a packet at once into a room that holds it, and accept it.
 fn accepted(packet: Vec<u8>) -> [Call; 2] {
     let length = packet.len() as u32;
     [Deliver(packet, gathering(length)), Complete(judged(length, 0, 0))]
 }
 
-/// All intakes of the desk.
+/// Returns all desk cases of the intake.
 pub fn cases() -> Vec<IntakeDesk> {
     let mut cases = vec![in_parts(), byte_by_byte(), in_a_row(), damaged(), long(), long_and_damaged()];
     cases.extend([nothing(), asked_early(), asked_late(), completed_twice(), cut_short()]);
@@ -197,7 +197,7 @@ fn cut_short() -> IntakeDesk {
     fresh("the room cut short, the packet's or the sheet's", 44, calls, &document())
 }
 
-/// States that no call returned, each with one call, in a room that begins with the document's packet and stays as it is.
+/// Returns cases of states that no call returned, each with one call, in a room that begins with the document's packet and stays as it is.
 fn wild() -> Vec<IntakeDesk> {
     let room = filled(&document(), 45);
     let one = |(start, call)| IntakeDesk {
@@ -239,7 +239,7 @@ fn wild_calls() -> Vec<(Intake, Call)> {
     ]
 }
 
-/// The same, where the delivery is written.
+/// Returns cases of states that no call returned, each with a delivery that is written into the room.
 fn wild_and_written() -> Vec<IntakeDesk> {
     let cases = [(0, 43, 43), (3, 43, 43), (u32::MAX, 0, 0), (2, 43, 0), (2, u32::MAX, 0)];
     let one = |(phase, length, begin): (u32, u32, usize)| {

@@ -5,9 +5,9 @@ use crate::draft::{Constraint, Draft, Kind};
 use crate::journeys::{Size, LONGEST, LONGEST_UNCONSTRAINED};
 use crate::program::{Answer, Operation, Train, KIND_PACKET, KIND_SHEET};
 
-/// The last eight fields of a timing point: their widths, and their largest values where the train does not pass.
+/// The last eight fields of a timing point: their widths in bits, and their largest values if the train does not pass.
 const HALT: [(u32, u32); 8] = [(2, 3), (1, 1), (1, 1), (1, 1), (15, 32_767), (17, 86_399), (10, 1_023), (1, 1)];
-/// Where the fields of a journey's first segment stand, and those of its first timing point.
+/// Places of the fields of a journey's first segment and of its first timing point.
 const NUMBER: usize = 0;
 const STATUS: usize = 6;
 const SEGMENTS: usize = 7;
@@ -20,12 +20,12 @@ const DOOR_SIDE: usize = POINT + 8;
 const DEPARTURE_SECONDS: usize = POINT + 13;
 const CONSTRAINTS: usize = POINT + 16;
 
-/// A restriction to 600 km/h, every number of it of as many groups as its range has.
+/// A restriction to 600 km/h; every number has as many groups as its range allows.
 const RESTRICTION: Constraint = [0, 2, 16_777_214, 16_777_215, 1, 600, 0, 0];
-/// The largest sheets: two timing points more, or four constraints.
+/// Sizes of the largest sheets: one has two timing points more, the other four constraints more.
 const LARGEST_SHEETS: [Size; 2] = [(17, 498, 1), (17, 496, 5)];
 
-/// So many segments, timing points and constraints, 31 a segment as long as there are any; every number at its largest.
+/// Makes a journey of this size: 31 timing points and 31 constraints a segment as long as any are left; every number is at its largest.
 pub fn journey((segments, points, constraints): Size) -> Draft {
     let mut draft = Draft::default();
     for (width, value) in
@@ -45,7 +45,7 @@ pub fn journey((segments, points, constraints): Size) -> Draft {
     draft
 }
 
-/// A count and as many items, of those that are left.
+/// Adds a count, at most 31, and as many of the items that are left.
 fn at_most_31(draft: &mut Draft, left: &mut u32, item: fn(&mut Draft)) {
     let here = (*left).min(31);
     *left -= here;
@@ -60,20 +60,20 @@ fn timing_point(draft: &mut Draft) {
     HALT.iter().for_each(|(width, value)| draft.same(Kind::Plain, *width, *value));
 }
 
-/// A journey with one field changed, in both media.
+/// Returns a journey with one field changed in both media.
 pub fn with(mut draft: Draft, index: usize, value: u32) -> Draft {
     draft.fields[index].value = value;
     draft.fields[index].number = value.into();
     draft
 }
 
-/// A journey that passes its one timing point.
+/// Makes a journey that passes its one timing point.
 fn passing() -> Draft {
     let eight = DOOR_SIDE..DOOR_SIDE + HALT.len();
     eight.fold(with(journey((1, 1, 0)), STOP, 2), |draft, index| with(draft, index, 0))
 }
 
-/// All journeys of the desk.
+/// Returns all desk cases on journeys.
 pub fn cases() -> Vec<Desk> {
     let mut cases = Vec::new();
     ends(&mut cases);
@@ -103,7 +103,8 @@ fn ends(cases: &mut Vec<Desk>) {
     }
 }
 
-/// The bits and the bytes of the journey's fields: its status at 120 and 18, its timing point at 195 and 33, its constraints at 324 and 63.
+/// Adds fields at and past their limits. In the packet and the sheet the status begins at 120 and 18, the timing point at 195 and 33, the
+/// count of constraints at 324 and 63.
 fn limits(cases: &mut Vec<Desk>) {
     let one = || journey((1, 1, 0));
     accepted(cases, "every field at its largest", &one());
@@ -118,7 +119,7 @@ fn limits(cases: &mut Vec<Desk>) {
         refused(cases, "a field past its largest", &with(one(), index, past), 4, place);
     }
     refused(cases, "a passing point with a door side", &with(one(), STOP, 2), 4, (276, 50));
-    // where the train passes, each of the eight numbers has one byte
+    // if the train passes, each of the eight numbers has one byte
     for (nth, bit) in [276, 278, 279, 280, 281, 296, 313, 323].into_iter().enumerate() {
         let draft = with(passing(), DOOR_SIDE + nth, 1);
         refused(cases, "a field that is not 0 at a passing point", &draft, 4, (bit, 50 + nth as u32));
@@ -129,13 +130,13 @@ fn numbers(cases: &mut Vec<Desk>) {
     for number in [5, 7] {
         refused(cases, "another packet number", &with(journey((1, 1, 0)), NUMBER, number), 2, (0, 0));
     }
-    // its status and its count are NID_C and part of NID_SP in the packet, NID_C and NID_SP in the sheet
+    // the journey's status and count are read as NID_C and part of NID_SP in the packet, as NID_C and NID_SP in the sheet
     let as_segment = with(journey((0, 0, 0)), NUMBER, 6);
     cases.push(packet("a journey that calls itself a segment", as_segment.packet(), Answer::refused(6, 130)));
     cases.push(sheet("a journey that calls itself a segment", as_segment.sheet(), Answer::refused(9, 20)));
 }
 
-/// The fields of the journey with one timing point end with the bit 328, its numbers with the byte 63.
+/// Adds damaged journeys. The fields of the journey with one timing point end with the bit 328, its numbers with the byte 63.
 fn damaged(cases: &mut Vec<Desk>) {
     let one = journey((1, 1, 0));
     let (bytes, numbers) = (one.packet(), one.sheet());
@@ -167,7 +168,7 @@ fn damaged(cases: &mut Vec<Desk>) {
     }
 }
 
-/// The next body after the longest, of 65,536 bits; a segment, a timing point and a constraint more; the most that the counts allow.
+/// Adds bodies that are too long: 65,536 bits; a segment, a timing point or a constraint more than the longest; the most that the counts allow.
 fn too_long(cases: &mut Vec<Desk>) {
     for size in [(62, 0, 839), (42, 486, 0), (41, 487, 0), (41, 486, 1), (20, 186, 551), (255, 31 * 255, 31 * 255)] {
         let long = journey(size).sheet();
@@ -182,7 +183,7 @@ fn too_long(cases: &mut Vec<Desk>) {
     }
 }
 
-/// A segment is needed, before the train and all that follows the packet number are judged.
+/// Adds questions about journeys: they need a segment, and refuse before they judge the train and the fields after the packet number.
 fn questions(cases: &mut Vec<Desk>) {
     let train = Train { length: 0, cant: 0, freight_p: false, freight_g: false, passenger: false };
     let (bytes, numbers) = (passing().packet(), passing().sheet());

@@ -1,6 +1,6 @@
-//! A segment or a journey as a list of fields, each with its value in the packet and its number in the sheet: right ones, or any others.
+//! A segment or a journey as a list of fields, each with its value in the packet and its number in the sheet, which may be right or wrong.
 
-/// The kinds of fields, as far as their ranges and sets differ.
+/// Kinds of fields that differ in their ranges or sets.
 #[derive(Clone, Copy, Debug, PartialEq, Eq)]
 pub enum Kind {
     PacketNumber,
@@ -12,7 +12,7 @@ pub enum Kind {
     UtcOffset,
     Speed,
     Front,
-    /// Of changes of speed, of entries, of timing points, of temporary constraints: 0 to 31.
+    /// A count of changes of speed, of entries, of timing points or of temporary constraints: 0 to 31.
     Count,
     QDiff,
     Cant,
@@ -20,7 +20,7 @@ pub enum Kind {
     Location,
     Voltage,
     Traction,
-    /// Of changes of voltage, of current: 0 to 31, where 23 was the last at first.
+    /// A count of changes of voltage or of current: 0 to 31; at first 23 was the largest.
     WireCount,
     Current,
     Status,
@@ -34,8 +34,9 @@ pub enum Kind {
     /// The first field of a temporary constraint.
     ConstraintType,
     Range,
-    /// Where a constraint starts, and where it ends: past its start where it has one.
+    /// Where a constraint starts.
     Start,
+    /// Where a constraint ends: past its start if it has one.
     End,
     Adhesion,
     /// A field that a constraint does not use: 0.
@@ -49,9 +50,9 @@ pub struct Field {
     pub kind: Kind,
     pub width: u32,
     pub value: u32,
-    /// May be past what a sheet takes.
+    /// The number in the sheet, which may be larger than a sheet's numbers can be.
     pub number: u64,
-    /// Zero groups after the shortest form.
+    /// How many zero groups follow the shortest form.
     pub zero_groups: u32,
 }
 
@@ -63,7 +64,7 @@ pub struct Draft {
 pub const CANTS: [u32; 11] = [80, 100, 130, 150, 165, 180, 210, 225, 245, 275, 300];
 pub const VOLTAGES: [u32; 6] = [0, 25_000, 15_000, 3_000, 1_500, 750];
 
-/// The header's fields in the sheet; L_PACKET_ATO is worked out when the packet is written.
+/// How many fields of the header the sheet has; L_PACKET_ATO is worked out when the packet is written.
 const HEADER_FIELDS: usize = 6;
 const COUNTED_BITS: u32 = 16;
 const CONSTRAINT_FIELDS: usize = 8;
@@ -72,7 +73,7 @@ const CONSTRAINT_FIELDS: usize = 8;
 pub type Constraint = [u32; CONSTRAINT_FIELDS];
 
 impl Draft {
-    /// A field whose number equals its value.
+    /// Adds a field whose number equals its value.
     pub fn same(&mut self, kind: Kind, width: u32, value: u32) {
         self.field(kind, width, value, value);
     }
@@ -81,7 +82,7 @@ impl Draft {
         self.field(Kind::Speed, 7, speed / 5, speed);
     }
 
-    /// Q_DIFF and the class: with Q_DIFF 0 the place of a cant deficiency, else a category.
+    /// Adds Q_DIFF and the class: with Q_DIFF 0 the place of a cant deficiency in the table, else a category.
     pub fn class(&mut self, q_diff: u32, class: u32) {
         self.same(Kind::QDiff, 2, q_diff);
         match q_diff {
@@ -90,14 +91,14 @@ impl Draft {
         }
     }
 
-    /// Puts another Q_DIFF and class at the place of an entry's Q_DIFF.
+    /// Replaces the Q_DIFF and the class of an entry; `place` is the place of its Q_DIFF.
     pub fn replace_class(&mut self, place: usize, q_diff: u32, class: u32) {
         let mut other = Draft::default();
         other.class(q_diff, class);
         self.fields.splice(place..place + 2, other.fields);
     }
 
-    /// The same segment without the entries by cant deficiency that name less than so many millimetres.
+    /// Returns the segment without the entries by cant deficiency that name less than `cant` millimetres.
     pub fn without_lower(&self, cant: u32) -> Draft {
         let mut kept = Draft::default();
         let mut left = &self.fields[..];
@@ -114,7 +115,7 @@ impl Draft {
         kept
     }
 
-    /// The count that stands last, which is that of the entries after it.
+    /// Lowers the last count, which counts the entries after it, by 1.
     fn count_one_less(&mut self) {
         let count = self.fields.iter_mut().rfind(|field| field.kind == Kind::Count).expect("entries are counted");
         count.value -= 1;
@@ -126,7 +127,7 @@ impl Draft {
         self.same(Kind::Traction, 10, traction);
     }
 
-    /// By the number in the sheet: 0 for no limit, else amperes + 1.
+    /// Adds a current by its number in the sheet: 0 for no limit, else amperes + 1.
     pub fn current(&mut self, number: u32) {
         self.amperes(Kind::Current, number);
     }
@@ -136,7 +137,7 @@ impl Draft {
         self.field(kind, 10, value, number);
     }
 
-    /// A temporary constraint; its type and its range say which of its fields are used.
+    /// Adds a temporary constraint; its type and its range say which of its fields are used.
     pub fn constraint(&mut self, [tc_type, range, start, end, front, speed, adhesion, current]: Constraint) {
         let used = |used: bool, kind| if used { kind } else { Kind::Unused };
         self.same(Kind::ConstraintType, 2, tc_type);
@@ -153,18 +154,18 @@ impl Draft {
         self.fields.push(Field { kind, width, value, number: number.into(), zero_groups: 0 });
     }
 
-    /// The places of a kind's fields.
+    /// Returns the places of a kind's fields.
     pub fn places(&self, kind: Kind) -> Vec<usize> {
         (0..self.fields.len()).filter(|place| self.fields[*place].kind == kind).collect()
     }
 
-    /// The values of a kind's fields.
+    /// Returns the values of a kind's fields.
     pub fn values(&self, kind: Kind) -> Vec<u32> {
         self.places(kind).into_iter().map(|place| self.fields[place].value).collect()
     }
 
-    /// Of each field its kind, its first bit in the packet, where L_PACKET_ATO follows the first field, and its number's first byte in the
-    /// sheet.
+    /// Returns the kind of each field, its first bit in the packet, where L_PACKET_ATO follows the first field, and its number's first byte in
+    /// the sheet.
     fn begins(&self) -> Vec<(Kind, u32, u32)> {
         let (mut bit, mut sheet, mut begins) = (0, Vec::new(), Vec::new());
         for field in &self.fields {
@@ -175,7 +176,7 @@ impl Draft {
         begins
     }
 
-    /// The bit and the byte of each field of a temporary constraint.
+    /// Returns the first bit and the first byte of each field of a temporary constraint.
     pub fn constraint_places(&self) -> Vec<(u32, u32)> {
         let (mut places, mut left) = (Vec::new(), 0);
         for (kind, bit, byte) in self.begins() {
@@ -187,7 +188,7 @@ impl Draft {
         places
     }
 
-    /// The bytes of the counts of wire changes, which are two in a segment and none in a journey.
+    /// Returns the bytes of the counts of wire changes: a segment has two, a journey none.
     pub fn wire_count_bytes(&self) -> Vec<u32> {
         self.begins().into_iter().filter(|(kind, ..)| *kind == Kind::WireCount).map(|(_, _, byte)| byte).collect()
     }
@@ -209,7 +210,7 @@ impl Draft {
     }
 }
 
-/// Fields, each of a width and a value, one after the other and padded with zero bits.
+/// Returns the bytes of fields, each a width and a value, one after the other and padded with zero bits.
 fn packed(fields: &[(u32, u32)]) -> Vec<u8> {
     let mut bytes = Vec::new();
     let (mut held, mut count) = (0u64, 0);

@@ -1,5 +1,5 @@
-//! What can happen to an intake in the random sequences and states, to a random speed question of an unknown kind, and to random counts of
-//! wire changes: each is counted, and must happen.
+//! Events of an intake in the random sequences and states, of a random speed question of an unknown kind, and of random counts of wire
+//! changes: each is counted, and must happen.
 
 #[derive(Clone, Copy)]
 pub enum Event {
@@ -54,7 +54,7 @@ pub enum Event {
     PastCurrents,
 }
 
-/// Each with its words, in the order of the type.
+/// Each event with its words, in the order of the type.
 pub const EVENTS: [(Event, &str); 49] = [
     (Event::InParts, "packets accepted in several deliveries"),
     (Event::ByteByByte, "packets accepted byte by byte"),

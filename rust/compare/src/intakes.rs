@@ -1,4 +1,4 @@
-//! An intake of each program, both in one state and called alike: the states, the answers and every byte of the rooms must be the same.
+//! An intake of each program, both in one state and called alike: their states, their answers and every byte of their rooms must be equal.
 
 use crate::archive::Archive;
 use crate::program::{Answer, Intake, Program};
@@ -11,20 +11,20 @@ pub struct Intakes {
     rooms: Rooms,
 }
 
-/// The state after a delivery that the room holds.
+/// Makes the state after deliveries of `length` bytes that the room holds.
 pub const fn gathering(length: u32) -> Intake {
     Intake { phase: 0, length, refusal: 0, place: 0 }
 }
 
 pub const PASSED: Intake = Intake { phase: 1, length: 0, refusal: 0, place: 0 };
 
-/// The state after a completion.
+/// Makes the state after a completion.
 pub const fn judged(length: u32, refusal: u32, place: u32) -> Intake {
     Intake { phase: 2, length, refusal, place }
 }
 
 impl Intakes {
-    /// Both in one state, with rooms that hold these bytes.
+    /// Makes both intakes in one state, with rooms that hold these bytes.
     pub fn new(random: &mut Random, state: Intake, room: &[u8]) -> Intakes {
         Intakes { state, rooms: Rooms::holding(random, room) }
     }
@@ -45,7 +45,7 @@ impl Intakes {
         self.next("a completion", next)
     }
 
-    /// Asks for the sheet with the first so many bytes of the room that took the packet.
+    /// Asks for the sheet with the first `taken` bytes of the room that took the packet.
     pub fn sheet(&self, taken: usize, lent: &mut Rooms) -> Result<Answer, String> {
         let (state, taken) = (self.state, &self.room()[..taken]);
         let answer = lent.lend(|room| Archive::sheet(state, taken, room), |room| Second::sheet(state, taken, room));

@@ -1,20 +1,20 @@
-//! Random journeys of any size, within every rule; and those whose body is about as long as a packet can hold.
+//! Random journeys of any size that keep every rule, and journeys whose body is about as long as a packet can hold.
 
 use crate::draft::{Constraint, Draft, Kind};
 use crate::random::Random;
 use crate::segments::{header, identity, plain};
 
-/// The most timing points of a segment, and the most temporary constraints.
+/// Most timing points, and most temporary constraints, of a segment.
 const MOST: u32 = 31;
-/// The most bits of a body.
+/// Most bits of a body.
 const MOST_BITS: u32 = 65_535;
-/// The bits of a body without segments, of a segment without timing points and constraints, of a timing point, and of a constraint.
+/// Bits of a body without segments, of a segment without timing points and constraints, of a timing point, and of a constraint.
 const EMPTY_BITS: u32 = 11;
 const SEGMENT_BITS: u32 = 69;
 const POINT_BITS: u32 = 129;
 const CONSTRAINT_BITS: u32 = 73;
 
-/// The segments of a journey, its timing points and its temporary constraints.
+/// Counts of a journey's segments, timing points and temporary constraints.
 pub type Size = (u32, u32, u32);
 /// The longest body without constraints has 65,534 bits, the longest of all 65,535.
 pub const LONGEST_UNCONSTRAINED: Size = (41, 486, 0);
@@ -23,7 +23,7 @@ pub const LONGEST: Size = (20, 186, 550);
 /// How many timing points and how many temporary constraints each segment has.
 pub type Counts = Vec<(u32, u32)>;
 
-/// Sizes of every order, mostly small.
+/// Draws counts of every order, mostly small.
 pub fn any_counts(random: &mut Random) -> Counts {
     match random.between(0, 39) {
         0..=3 => Vec::new(),
@@ -35,13 +35,13 @@ pub fn any_counts(random: &mut Random) -> Counts {
     }
 }
 
-/// So many segments at most, each with so many timing points and so many constraints at most.
+/// Draws at most `segments` segments, each with at most `most` timing points and at most `most` constraints.
 fn each(random: &mut Random, segments: u32, most: u32) -> Counts {
     (0..random.with_ends(0, segments)).map(|_| (random.with_ends(0, most), random.with_ends(0, most))).collect()
 }
 
-/// As many timing points as a packet holds in some segments beside some constraints, or the other way round; or some more, as far as the
-/// counts allow.
+/// Draws as many timing points as a packet holds in some segments beside some constraints, or as many constraints beside some timing
+/// points; or some more, as far as the counts allow.
 pub fn about_the_longest(random: &mut Random, more: u32) -> Counts {
     let segments = random.with_ends(30, 255);
     let others = random.between(0, 200) * random.between(0, 1);
@@ -54,7 +54,7 @@ pub fn about_the_longest(random: &mut Random, more: u32) -> Counts {
     spread(random, (segments, points.min(segments * MOST), constraints.min(segments * MOST)))
 }
 
-/// Timing points and constraints spread at random over segments.
+/// Spreads timing points and constraints at random over segments.
 pub fn spread(random: &mut Random, (segments, points, constraints): Size) -> Counts {
     let points = spread_over(random, segments, points);
     points.into_iter().zip(spread_over(random, segments, constraints)).collect()
@@ -72,7 +72,7 @@ fn spread_over(random: &mut Random, segments: u32, items: u32) -> Vec<u32> {
     counts
 }
 
-/// A random journey. A count past its limit is taken as it is; everything else keeps the rules.
+/// Draws a journey. A count past its limit is taken as it is; everything else keeps the rules.
 pub fn journey(random: &mut Random, counts: &[(u32, u32)]) -> Draft {
     let mut draft = Draft::default();
     header(random, &mut draft, 4);
@@ -89,7 +89,7 @@ pub fn journey(random: &mut Random, counts: &[(u32, u32)]) -> Draft {
     draft
 }
 
-/// A constraint of any type and range, at locations near the segment's start or anywhere; the number of an unused field is 0.
+/// Draws a constraint of any type and range, at locations near the segment's start or anywhere; the number of an unused field is 0.
 fn constraint(random: &mut Random) -> Constraint {
     let (tc_type, range) = (random.between(0, 3), random.between(0, 3));
     let last = random.pick(&[1, 2, 3_000, 16_777_215, 16_777_215]);

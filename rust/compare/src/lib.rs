@@ -1,4 +1,4 @@
-//! The archive and the second program under one interface, and the segments and journeys, whole and damaged, that both are asked about.
+//! The archive and the second program under one interface, and the segments and journeys, whole and damaged, about which both are asked.
 
 pub mod archive;
 pub mod case;

@@ -2,15 +2,15 @@
 
 use crate::draft::write_number;
 
-/// Where the count of segments stands among the numbers.
+/// Place of the count of segments among the numbers.
 const SEGMENTS: usize = 7;
-/// How many numbers a segment has before its timing points, a timing point, and a constraint; and the place of a constraint's speed.
+/// How many numbers a segment has before its timing points, how many a timing point and a constraint have; the place of a constraint's speed.
 const IDENTITY: usize = 5;
 const POINT: usize = 16;
 const CONSTRAINT: usize = 8;
 const SPEED: usize = 5;
 
-/// The sheet with each constraint's speed lowered to a multiple of 5.
+/// Returns the sheet with each constraint's speed lowered to a multiple of 5 km/h.
 pub fn lowered(sheet: &[u8]) -> Vec<u8> {
     let mut numbers = numbers_of(sheet);
     let mut at = SEGMENTS + 1;

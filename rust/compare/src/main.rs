@@ -12,7 +12,7 @@ use std::time::Instant;
 
 const CASES: u64 = 40_000;
 const FIRST_SEED: u64 = 1;
-/// Failures that are shown whole; the others are counted.
+/// How many failures are shown whole; later ones are only counted.
 const SHOWN: u64 = 5;
 
 #[derive(Default)]
@@ -100,7 +100,7 @@ impl Run {
     }
 }
 
-/// A case with its bytes.
+/// Returns the text of a failed case, with its bytes.
 fn told(case: &Case, why: &str) -> String {
     format!("{}: {why}\n  packet {}\n  sheet {}", case.name, hex(&case.packet), hex(&case.sheet))
 }

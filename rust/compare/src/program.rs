@@ -1,11 +1,11 @@
-//! What both programs answer: the operations, and a question that is handed to either.
+//! The common interface of both programs: the operations, and a question that either answers.
 
 pub use second::{Intake, Train, KIND_PACKET, KIND_SHEET};
 
 /// The packet number of a journey.
 pub const JOURNEY: u8 = 4;
 
-/// A refusal with its place, or 0 with a length, a speed or an altitude.
+/// An answer: a refusal with its place, or 0 with a length, a speed or an altitude.
 #[derive(Clone, Copy, Debug, PartialEq, Eq)]
 pub struct Answer {
     pub refusal: u32,
@@ -23,7 +23,7 @@ impl Answer {
     }
 }
 
-/// The refusals are 1 to 15; this number and those past it are none.
+/// The first number after the refusals, which are 1 to 15.
 pub const NO_REFUSAL: u32 = 16;
 
 /// The refusals that are given at a bit or a byte; the place of every other is 0.
@@ -33,19 +33,19 @@ pub const PLACED: [u32; 6] = [4, 5, 6, 7, 9, 13];
 pub enum Operation {
     PacketToSheet,
     SheetToPacket,
-    /// About a segment of this kind.
+    /// A speed question about a segment of this kind.
     PermittedSpeed(u32),
     AltitudeOfPacket,
     /// The verdict on a packet that an intake took.
     Completion,
-    /// The sheet that is asked for after it.
+    /// The sheet of a packet that an intake took and judged.
     TakenSheet,
 }
 
 /// The least kind that is neither a packet nor a sheet.
 pub const UNKNOWN_KIND: u32 = 2;
 
-/// The operations that are told apart: a speed by its kind, of which every unknown one is the same.
+/// The operations that are counted apart: a speed question by its kind, where all unknown kinds count as one.
 pub const OPERATIONS: [Operation; 8] = [
     Operation::PacketToSheet,
     Operation::SheetToPacket,
@@ -58,7 +58,7 @@ pub const OPERATIONS: [Operation; 8] = [
 ];
 
 impl Operation {
-    /// The place among those that are told apart.
+    /// Returns the place among the operations that are counted apart.
     pub fn row(self) -> usize {
         let told = match self {
             Operation::PermittedSpeed(kind) => Operation::PermittedSpeed(kind.min(UNKNOWN_KIND)),
@@ -67,7 +67,7 @@ impl Operation {
         OPERATIONS.iter().position(|operation| *operation == told).expect("each operation has its row")
     }
 
-    /// The refusals that the operation can give, and 0: of a journey's bytes, or of all others.
+    /// Returns the refusals that the operation can give, and 0: about a journey's bytes, or about all other bytes.
     pub fn refusals(self, journey: bool) -> &'static [u32] {
         match (self, journey) {
             (Operation::PacketToSheet | Operation::Completion, false) => &[0, 1, 2, 3, 4, 5, 6, 7, 8, 13],
@@ -95,12 +95,12 @@ pub struct Question<'a> {
 }
 
 impl<'a> Question<'a> {
-    /// Whether the bytes begin with a journey's packet number.
+    /// Returns whether the bytes begin with a journey's packet number.
     pub fn is_journey(&self) -> bool {
         self.input.first() == Some(&JOURNEY)
     }
 
-    /// A question to an operation that looks at no train.
+    /// Makes a question to an operation that needs no train.
     pub fn without_train(operation: Operation, input: &'a [u8]) -> Question<'a> {
         let train = Train { length: 0, cant: 0, freight_p: false, freight_g: false, passenger: false };
         Question { operation, input, train, x: 0 }
@@ -117,7 +117,7 @@ pub trait Program {
     fn complete(intake: Intake, room: &[u8]) -> Intake;
     fn sheet(intake: Intake, taken: &[u8], room: &mut [u8]) -> Answer;
 
-    /// The answer to a question; the room matters to a conversion and to the sheet of a packet that was taken.
+    /// Answers a question; the room matters to a conversion and to the sheet of a packet that was taken.
     fn answer(question: &Question, room: &mut [u8]) -> Answer {
         let Question { operation, input, train, x } = question;
         match operation {
@@ -134,14 +134,14 @@ pub trait Program {
         }
     }
 
-    /// The state after a packet was delivered at once, and completed.
+    /// Returns the state after a packet was delivered at once, and completed.
     fn taken(packet: &[u8], room: &mut [u8]) -> Intake {
         let gathered = Self::deliver(Self::fresh(), packet, room);
         Self::complete(gathered, room)
     }
 }
 
-/// The verdict in a state: a packet's length, or its refusal.
+/// Returns the verdict in a state: a packet's length, or its refusal.
 pub fn verdict(Intake { length, refusal, place, .. }: Intake) -> Answer {
     match refusal {
         0 => Answer { refusal, place, value: length.into() },

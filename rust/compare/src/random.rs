@@ -1,4 +1,4 @@
-//! A small random generator (splitmix64): the same numbers for the same seed, on every machine.
+//! A small random generator (splitmix64): a seed gives the same numbers on every machine.
 
 pub struct Random {
     state: u64,
@@ -17,13 +17,13 @@ impl Random {
         mixed ^ mixed >> 31
     }
 
-    /// A number from `low` to `high`, both among them.
+    /// Draws a number from `low` to `high`, both included.
     pub fn between(&mut self, low: u32, high: u32) -> u32 {
         let span = u64::from(high - low) + 1;
         low + (self.any() % span) as u32
     }
 
-    /// As between, but one time in four an end.
+    /// Draws a number from `low` to `high`, one time in four one of these two.
     pub fn with_ends(&mut self, low: u32, high: u32) -> u32 {
         match self.between(0, 7) {
             0 => low,
@@ -32,18 +32,18 @@ impl Random {
         }
     }
 
-    /// A number of any size below 4,294,967,296: each number of bits is as likely as any other.
+    /// Draws a number of any size below 4,294,967,296: each count of bits is as likely as any other.
     pub fn of_any_size(&mut self) -> u32 {
         let width = self.between(1, 32);
         self.any() as u32 >> (32 - width)
     }
 
-    /// True one time in `times`.
+    /// Returns true one time in `times`.
     pub fn one_in(&mut self, times: u32) -> bool {
         self.between(1, times) == 1
     }
 
-    /// A place in a list of so many items; there is at least one.
+    /// Draws a place in a list of `items` items, at least one.
     pub fn place(&mut self, items: usize) -> usize {
         self.between(0, items as u32 - 1) as usize
     }

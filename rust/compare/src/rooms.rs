@@ -1,9 +1,9 @@
-//! Two rooms that hold the same bytes, one for each program, with bytes about them that no program may touch.
+//! Two rooms with equal bytes, one for each program, with guard bytes about them that no program may change.
 
 use crate::random::Random;
 use std::fmt::Debug;
 
-/// Bytes before and after a room.
+/// How many guard bytes stand before and after a room.
 const GUARD: usize = 16;
 
 pub struct Rooms {
@@ -12,12 +12,12 @@ pub struct Rooms {
 }
 
 impl Rooms {
-    /// Rooms of so many random bytes.
+    /// Makes rooms of `size` random bytes.
     pub fn random(random: &mut Random, size: usize) -> Rooms {
         Rooms::with_guards(random.bytes(GUARD + size + GUARD))
     }
 
-    /// Rooms that hold these bytes.
+    /// Makes rooms that hold these bytes.
     pub fn holding(random: &mut Random, bytes: &[u8]) -> Rooms {
         Rooms::with_guards([&random.bytes(GUARD), bytes, &random.bytes(GUARD)].concat())
     }
@@ -26,12 +26,12 @@ impl Rooms {
         Rooms { archive: bytes.clone(), second: bytes }
     }
 
-    /// The bytes that both hold.
+    /// Returns the bytes that both rooms hold.
     pub fn bytes(&self) -> &[u8] {
         &self.archive[GUARD..self.archive.len() - GUARD]
     }
 
-    /// Lends each program its room: what they answer and every byte must be the same.
+    /// Lends each program its room, and checks that the answers and every byte are equal.
     pub fn lend<T: Debug + PartialEq>(
         &mut self,
         archive: impl FnOnce(&mut [u8]) -> T,

@@ -42,7 +42,7 @@ impl Program for Second {
     }
 }
 
-/// A refusal comes with length, speed or altitude 0, success with the place 0.
+/// Makes an answer of a result: a refusal has length, speed or altitude 0, success has place 0.
 fn answer(result: Result<impl Into<i64>, Refused>) -> Answer {
     match result {
         Ok(value) => Answer::success(value.into()),

@@ -1,10 +1,10 @@
-//! Random segments of any size, within every rule.
+//! Random segments of any size that keep every rule.
 
 use crate::draft::{Draft, Kind, CANTS, VOLTAGES};
 use crate::random::Random;
 use std::collections::BTreeSet;
 
-/// How many changes a segment has, and how many entries, from the one number to the other, each element.
+/// How many changes a segment has, and between which numbers the count of entries of each element is drawn.
 #[derive(Clone, Copy)]
 pub struct Sizes {
     pub changes: u32,
@@ -16,10 +16,10 @@ pub struct Sizes {
 pub const SMALLEST: Sizes = Sizes { changes: 0, entries: (0, 0), voltages: 0, currents: 0 };
 pub const LARGEST: Sizes = Sizes { changes: 31, entries: (31, 31), voltages: 31, currents: 31 };
 
-/// The largest length of a segment in centimetres.
+/// Largest length of a segment in centimetres.
 const LONGEST: u32 = 16_777_215;
 
-/// Sizes of every order, the ends among them.
+/// Draws sizes of every order, the smallest and the largest included.
 pub fn any_sizes(random: &mut Random) -> Sizes {
     let most = match random.between(0, 19) {
         0..=3 => return SMALLEST,
@@ -35,7 +35,7 @@ pub fn any_sizes(random: &mut Random) -> Sizes {
     }
 }
 
-/// A random segment. Counts past the limits are taken as they are; everything else keeps the rules.
+/// Draws a segment. Counts past the limits are taken as they are; everything else keeps the rules.
 pub fn segment(random: &mut Random, sizes: Sizes) -> Draft {
     let mut draft = Draft::default();
     let least = 1 + sizes.changes.max(sizes.voltages).max(sizes.currents);
@@ -54,8 +54,8 @@ pub fn segment(random: &mut Random, sizes: Sizes) -> Draft {
     draft
 }
 
-/// A random segment with entries in every element; three of four name one of a few cant deficiencies that stand next to one another, so
-/// that trains fall from one to the next.
+/// Draws a segment with entries in every element; three of four entries name one of a few neighbouring cant deficiencies, so that trains
+/// fall from one to the next.
 pub fn gathered(random: &mut Random, sizes: Sizes) -> Draft {
     let (least, most) = sizes.entries;
     let mut draft = segment(random, Sizes { entries: (least.max(1), most.max(1)), ..sizes });
@@ -98,7 +98,7 @@ pub fn plain(random: &mut Random, draft: &mut Draft, width: u32) {
     draft.same(Kind::Plain, width, value);
 }
 
-/// What stands at the start, the count, and changes at rising locations, near one another or far apart.
+/// Adds a list: `item` at the start, the count, and changes at rising locations, near one another or far apart.
 fn list(random: &mut Random, draft: &mut Draft, length: u32, (kind, count): (Kind, u32), item: impl Fn(&mut Random, &mut Draft)) {
     item(random, draft);
     draft.same(kind, 5, count);

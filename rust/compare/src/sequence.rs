@@ -1,5 +1,5 @@
 //! Random sequences of calls to an intake: packets in any deliveries, one after the other in one room, and questions at any time. Both
-//! programs must do the same, and that must be what the joined bytes come to that are given at once.
+//! programs must agree, and must give what the joined bytes give at once.
 
 use crate::archive::Archive;
 use crate::case::Case;
@@ -12,30 +12,30 @@ use crate::rooms::Rooms;
 use crate::second_program::Second;
 use crate::tally::Tally;
 
-/// About the most deliveries of a packet.
+/// Most deliveries of a packet, about.
 const DELIVERIES: usize = 60;
 
-/// What a question about the sheet must come to.
+/// The answer that a question about the sheet must get.
 enum Sheet {
     Early,
     Refused(Answer),
-    /// That of the packet judged last.
+    /// The sheet of the packet judged last.
     Judged,
 }
 
-/// What came since the last verdict.
+/// Deliveries since the last verdict.
 #[derive(Default)]
 struct Since {
-    /// The deliveries that have bytes.
+    /// How many deliveries have bytes.
     deliveries: usize,
-    /// Whether one had none.
+    /// Whether a delivery had no bytes.
     nothing: bool,
     questions: usize,
 }
 
 struct Sequence {
     intakes: Intakes,
-    /// What the room must hold.
+    /// The bytes that the room must hold.
     held: Vec<u8>,
     /// The bytes delivered since the last verdict.
     joined: Vec<u8>,
@@ -53,7 +53,7 @@ pub fn check(random: &mut Random, case: &Case, tally: &mut Tally) -> Result<(), 
     packets.iter().try_for_each(|packet| sequence.take(random, packet, tally))
 }
 
-/// The case's packet and up to three more: none, the one before again, or another.
+/// Draws the case's packet and up to three more: an empty one, the one before again, or another.
 fn packets(random: &mut Random, case: &Case) -> Vec<Vec<u8>> {
     let mut packets = vec![case.packet.clone()];
     for _ in 0..random.between(0, 3) {
@@ -66,7 +66,7 @@ fn packets(random: &mut Random, case: &Case) -> Vec<Vec<u8>> {
     packets
 }
 
-/// A room of the size of one of the packets, a byte less or more, of any size below it, none, or one that holds any packet.
+/// Draws the size of a room: the size of one of the packets, a byte less or more, any size below it, 0, or enough for any packet.
 fn size_for(random: &mut Random, packets: &[Vec<u8>]) -> usize {
     let size = packets[random.place(packets.len())].len();
     match random.between(0, 11) {
@@ -79,7 +79,7 @@ fn size_for(random: &mut Random, packets: &[Vec<u8>]) -> usize {
     }
 }
 
-/// Fresh, or one time in four after a verdict that no call gave.
+/// Draws the first state: fresh, or one time in four after a verdict that no call gave.
 fn start(random: &mut Random) -> Result<(Intake, Sheet), String> {
     if random.one_in(4) {
         let (refusal, place) = (random.of_any_size().max(NO_REFUSAL), random.of_any_size());
@@ -91,7 +91,7 @@ fn start(random: &mut Random) -> Result<(Intake, Sheet), String> {
     Ok((fresh, Sheet::Early))
 }
 
-/// A packet in deliveries: at once, byte by byte, or in parts of any sizes.
+/// Cuts a packet into deliveries: at once, byte by byte, or in parts of any sizes.
 fn cut<'a>(random: &mut Random, packet: &'a [u8]) -> Vec<&'a [u8]> {
     let most = match random.between(0, 7) {
         0 => packet.len(),
@@ -120,7 +120,7 @@ impl Sequence {
         Ok(Sequence { intakes, held, joined: Vec::new(), judged: Vec::new(), last: None, sheet, since: Since::default() })
     }
 
-    /// A packet to its end, then questions, and sometimes a completion with no bytes.
+    /// Delivers a packet and completes it, then asks questions, and sometimes completes with no bytes.
     fn take(&mut self, random: &mut Random, packet: &[u8], tally: &mut Tally) -> Result<(), String> {
         for delivery in cut(random, packet) {
             self.meanwhile(random, tally)?;
@@ -138,7 +138,7 @@ impl Sequence {
         Ok(())
     }
 
-    /// Now and then a delivery of no bytes or a question.
+    /// Now and then makes a delivery of no bytes or a question.
     fn meanwhile(&mut self, random: &mut Random, tally: &mut Tally) -> Result<(), String> {
         match random.between(0, 11) {
             0 => self.deliver(&[], tally),
@@ -168,7 +168,7 @@ impl Sequence {
         )
     }
 
-    /// The state that a delivery must lead to; what it must write is noted.
+    /// Returns the state that a delivery must lead to, and notes the bytes that it must write.
     fn delivered(&mut self, delivery: &[u8]) -> Intake {
         if delivery.is_empty() {
             self.since.nothing = true;
@@ -202,7 +202,7 @@ impl Sequence {
         Ok(())
     }
 
-    /// Counts a verdict on bytes that at once are accepted, or not.
+    /// Counts a verdict; `whole` says whether the joined bytes are accepted when they are given at once.
     fn count_verdict(&self, state: Intake, whole: bool, tally: &mut Tally) {
         let (length, room, deliveries) = (self.joined.len(), self.held.len(), self.since.deliveries);
         let accepted = state.refusal == 0;
@@ -237,7 +237,7 @@ impl Sequence {
         Ok(())
     }
 
-    /// How much is handed over of the room that took the packet: all, the packet, a byte less, or any part.
+    /// Draws how many bytes of the room that took the packet are handed over: all, the packet's, a byte less, or any count.
     fn taken(&self, random: &mut Random) -> usize {
         let room = self.held.len();
         match random.between(0, 5) {
@@ -248,7 +248,7 @@ impl Sequence {
         }
     }
 
-    /// The answer that a question must get, and what it must write.
+    /// Returns the answer that a question must get, and writes the bytes that it must write.
     fn asked(&self, taken: usize, room: &mut [u8]) -> Answer {
         match self.sheet {
             Sheet::Refused(refused) => refused,
@@ -286,7 +286,7 @@ impl Sequence {
         tally.count_events(&events);
     }
 
-    /// When a question came too early.
+    /// Returns the events of a question that comes too early.
     fn early(&self) -> Vec<(Event, bool)> {
         let gathering = self.since.deliveries > 0 && !self.passed();
         vec![

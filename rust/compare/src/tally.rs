@@ -1,26 +1,26 @@
-//! How often each operation gave each refusal and each success, and at how many places, for journeys apart from all else; how many
-//! speeds came by a lower cant deficiency than the train's; what the conversions answered about journeys with temporary constraints; and
-//! what happened to intakes, to speed questions of an unknown kind and to counts of wire changes.
+//! Counts how often each operation gave each refusal and each success, and at how many places, apart for journeys and for all else; how many
+//! speeds came from a lower cant deficiency than the train's; the answers of conversions of journeys with temporary constraints; and the
+//! events of intakes, of speed questions of an unknown kind and of counts of wire changes.
 
 use crate::event::{Event, EVENTS};
 use crate::program::{Answer, Operation, Question, KIND_PACKET, KIND_SHEET, NO_REFUSAL, OPERATIONS, PLACED, UNKNOWN_KIND};
 use std::collections::BTreeSet;
 use std::fmt;
 
-/// 0, and the refusals.
+/// How many answers are counted: 0, and the refusals.
 const ANSWERS: usize = NO_REFUSAL as usize;
 
-/// What one operation answered, about journeys or about all else.
+/// Counts of the answers of one operation, about journeys or about all else.
 #[derive(Default)]
 struct Row {
     counts: [u64; ANSWERS],
     /// The places other than 0 of each refusal.
     places: [BTreeSet<u32>; ANSWERS],
-    /// Speeds of random whole segments.
+    /// How many speeds of random whole segments were asked.
     whole: u64,
-    /// Those that would be others without the entries of lower cant deficiencies than the train's.
+    /// How many of these speeds would be others without the entries of lower cant deficiencies than the train's.
     fallen: u64,
-    /// Random journeys with temporary constraints; those accepted, and those refused with 4 and with 5 at a field of a constraint.
+    /// How many random journeys had temporary constraints; how many were accepted, refused with 4 and refused with 5 at a constraint's field.
     constrained: u64,
     constrained_answers: [u64; 3],
 }
@@ -49,14 +49,14 @@ impl Tally {
         }
     }
 
-    /// A speed of a random whole segment, and whether it would be another without the entries of lower cant deficiencies than the train's.
+    /// Counts a speed of a random whole segment; `fallen` if it would be another without the entries of lower cant deficiencies than the train's.
     pub fn count_fall(&mut self, kind: u32, fallen: bool) {
         let row = &mut self.rows[0][Operation::PermittedSpeed(kind).row()];
         row.whole += 1;
         row.fallen += u64::from(fallen);
     }
 
-    /// An answer about a random journey whose constraints' fields begin at these bits of its packet and bytes of its sheet.
+    /// Counts an answer about a random journey; the fields of its constraints begin at these bits of its packet and bytes of its sheet.
     pub fn count_constraints(&mut self, operation: Operation, places: &[(u32, u32)], answer: &Answer) {
         let at = |(bit, byte): &(u32, u32)| answer.place == if operation == Operation::SheetToPacket { *byte } else { *bit };
         let row = &mut self.rows[1][operation.row()];
@@ -66,14 +66,13 @@ impl Tally {
         }
     }
 
-    /// Events that happened or not.
+    /// Counts the events that happened.
     pub fn count_events(&mut self, events: &[(Event, bool)]) {
         events.iter().for_each(|(event, happened)| self.events[*event as usize] += u64::from(*happened));
     }
 
-    /// The answers that an operation can give and that were never met, or never at a place other than 0, each with its row; the speed
-    /// questions of which no random one came by a lower cant deficiency; the conversions that never gave an answer about a constraint; what
-    /// never happened to an intake, to a question of an unknown kind or to a count of wire changes.
+    /// Returns what was never met: answers that an operation can give, or their places other than 0; speeds from a lower cant deficiency; answers
+    /// of conversions about a constraint; events of an intake, of a question of an unknown kind or of a count of wire changes.
     pub fn missing(&self) -> Vec<String> {
         let mut missing = Vec::new();
         for (operation, journey) in rows() {
@@ -108,7 +107,7 @@ impl Tally {
 const CONVERSIONS: [Operation; 2] = [Operation::PacketToSheet, Operation::SheetToPacket];
 const SPEED_OPERATIONS: [Operation; 2] = [Operation::PermittedSpeed(KIND_PACKET), Operation::PermittedSpeed(KIND_SHEET)];
 
-/// Each operation, asked about a journey or not.
+/// Yields each operation, about a journey and about all else.
 fn rows() -> impl Iterator<Item = (Operation, bool)> {
     [false, true].into_iter().flat_map(|journey| OPERATIONS.map(|operation| (operation, journey)))
 }

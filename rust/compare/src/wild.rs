@@ -1,4 +1,4 @@
-//! Calls to an intake in states that no call need have returned: any phase, length, refusal and place.
+//! Calls to an intake in any state, also in states that no call returns: any phase, length, refusal and place.
 
 use crate::check::LARGEST_SHEET;
 use crate::event::Event;
@@ -8,10 +8,10 @@ use crate::random::Random;
 use crate::rooms::Rooms;
 use crate::tally::Tally;
 
-/// The highest phase.
+/// The highest phase that a call returns.
 const JUDGED: u32 = 2;
 
-/// One call of each kind, all in one state, with a room that begins with the packet as far as it reaches.
+/// Makes one call of each kind, all in one state, with a room that begins with as much of the packet as it holds.
 pub fn check(random: &mut Random, packet: &[u8], tally: &mut Tally) -> Result<(), String> {
     let room = room_with(random, packet);
     let size = random.pick(&[0, 1, 2, 9, 64]);
@@ -25,7 +25,7 @@ pub fn check(random: &mut Random, packet: &[u8], tally: &mut Tally) -> Result<()
     asked(&Intakes::new(random, state, &room), taken, lent, tally)
 }
 
-/// The packet cut, as it is, or with random bytes behind it.
+/// Draws a room's bytes: the packet cut, as it is, or with random bytes behind it.
 fn room_with(random: &mut Random, packet: &[u8]) -> Vec<u8> {
     let behind = random.pick(&[0, 0, 1, 40]);
     let mut room = [packet, &random.bytes(behind)].concat();
@@ -35,7 +35,7 @@ fn room_with(random: &mut Random, packet: &[u8]) -> Vec<u8> {
     room
 }
 
-/// Any state, its length mostly about one of these or 0.
+/// Draws any state; its length is mostly near one of `lengths` or 0.
 fn any_state(random: &mut Random, lengths: &[usize]) -> Intake {
     let near = if random.one_in(4) { 0 } else { random.pick(lengths) as u32 };
     let length = near.wrapping_add(random.pick(&[0, 0, 0, 1, u32::MAX]));
@@ -47,7 +47,7 @@ fn any_state(random: &mut Random, lengths: &[usize]) -> Intake {
     }
 }
 
-/// Whether a state gathers a packet of more bytes than the room has.
+/// Returns whether a state gathers a packet of more bytes than the room has.
 fn gathers_past(state: Intake, room: &[u8]) -> bool {
     (state.phase == 0 || state.phase > JUDGED) && state.length as usize > room.len()
 }

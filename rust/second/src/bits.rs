@@ -1,6 +1,6 @@
 //! Bits as a growing list of truth values, the top bit of each byte first.
 
-/// The bits of bytes.
+/// Returns the bits of bytes.
 pub fn bits_of(bytes: &[u8]) -> Vec<bool> {
     let mut bits = Vec::new();
     for byte in bytes {
@@ -9,7 +9,7 @@ pub fn bits_of(bytes: &[u8]) -> Vec<bool> {
     bits
 }
 
-/// The bytes of bits; zero bits fill the last byte.
+/// Returns the bytes of bits; zero bits fill the last byte.
 pub fn bytes_of(bits: &[bool]) -> Vec<u8> {
     bits.chunks(8).map(byte_of).collect()
 }
@@ -38,17 +38,17 @@ pub struct Reader {
 }
 
 impl Reader {
-    /// A reader of the bits from `at` on.
+    /// Makes a reader of the bits from `at` on.
     pub fn new(bits: Vec<bool>, at: usize) -> Reader {
         Reader { bits, at }
     }
 
-    /// The first bit that is not yet read.
+    /// Returns the first bit that is not yet read.
     pub fn place(&self) -> usize {
         self.at
     }
 
-    /// The next field, or nothing where it does not fit in the bits that are left.
+    /// Reads the next field, or nothing if it does not fit in the bits that are left.
     pub fn take(&mut self, width: usize) -> Option<u32> {
         let field = self.bits.get(self.at..self.at + width)?;
         self.at += width;

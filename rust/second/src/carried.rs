@@ -1,4 +1,4 @@
-//! What a packet or a sheet carries.
+//! The content of a packet or a sheet: a segment or a journey.
 
 use crate::journey::Journey;
 use crate::segment::Segment;

@@ -4,7 +4,7 @@ use crate::bits::{bits_of, bytes_of, push};
 use crate::numbers;
 use crate::*;
 
-/// The numbers of the document's sheet; its places are named below.
+/// The numbers of the document's sheet; constants name some of their places.
 pub const SHEET: [u32; 23] = [6, 0x12345, 1, 0, 0, 7, 0, 0, 0, 0, 1, 0, 0, 0, 80, 0, 0, 0, 0, 0, 0, 0, 0];
 const SECONDS: usize = 4;
 pub const LENGTH: usize = 10;
@@ -15,7 +15,7 @@ pub const VOLTAGE_CHANGES: usize = 20;
 const CURRENT: usize = 21;
 pub const CURRENT_CHANGES: usize = 22;
 
-/// Where fields of the document's packet begin, and their widths.
+/// First bits of fields of the document's packet, and their widths in bits.
 const SECONDS_BITS: (usize, u32) = (95, 17);
 pub const VOLTAGE_COUNT_BITS: (usize, u32) = (120 + 165, 5);
 pub const CURRENT_COUNT_BITS: (usize, u32) = (120 + 180, 5);
@@ -28,14 +28,14 @@ pub fn sheet(numbers: &[u32]) -> Vec<u8> {
     sheet
 }
 
-/// The document's sheet with one number replaced.
+/// Returns the document's sheet with one number replaced.
 pub fn sheet_with(place: usize, number: u32) -> Vec<u8> {
     let mut numbers = SHEET;
     numbers[place] = number;
     sheet(&numbers)
 }
 
-/// The document's packet, byte by byte.
+/// Returns the document's packet, byte by byte.
 pub fn sample() -> Vec<u8> {
     let mut packet = vec![0x06, 0x00, 0xB9, 0x00, 0x01, 0x23, 0x45, 0x00, 0x00, 0x01, 0x00, 0x00, 0x00, 0x00, 0x07];
     packet.extend([0; 10]);
@@ -47,7 +47,7 @@ pub fn sample() -> Vec<u8> {
     packet
 }
 
-/// A packet with one field replaced.
+/// Returns a packet with one field replaced.
 pub fn packet_with(packet: &[u8], (place, width): (usize, u32), value: u32) -> Vec<u8> {
     let mut bits = bits_of(packet);
     let mut field = Vec::new();

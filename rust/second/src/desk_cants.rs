@@ -1,4 +1,4 @@
-//! Which cant deficiency's entries count for a train: every speed worked out by hand, and asked of the sheet and of its packet.
+//! Tests which cant deficiency's entries count for a train: every speed is worked out by hand, and asked of the sheet and of its packet.
 
 use crate::bits::bits_of;
 use crate::desk::{packet_of, packet_with, sheet, FRONT, LENGTH, SHEET, SPEED, SPEED_CHANGES, TRAIN};
@@ -7,17 +7,17 @@ use crate::*;
 /// An entry: Q_DIFF, the millimetres or the category, km/h.
 type Entry = (u32, u32, u32);
 
-/// V_STATIC, higher than some entries and lower than others.
+/// V_STATIC in km/h, higher than some entries and lower than others.
 const STATIC: u32 = 90;
 
-/// The numbers of entries, with their count before them.
+/// Returns the numbers of entries, with their count before them.
 fn counted(entries: &[Entry]) -> Vec<u32> {
     let mut numbers = vec![entries.len() as u32];
     numbers.extend(entries.iter().flat_map(|(q_diff, class, speed)| [*q_diff, *class, *speed]));
     numbers
 }
 
-/// The document's sheet with another V_STATIC and entries of the only element.
+/// Returns the document's sheet with another V_STATIC and entries of its only element.
 fn sheet_of_entries(entries: &[Entry]) -> Vec<u8> {
     let mut numbers = SHEET.to_vec();
     numbers[SPEED] = STATIC;
@@ -25,7 +25,7 @@ fn sheet_of_entries(entries: &[Entry]) -> Vec<u8> {
     sheet(&numbers)
 }
 
-/// The sheet gives a train the speed, and its packet the speed without what is past a multiple of 5.
+/// Checks that the sheet gives a train the speed, and its packet the speed lowered to a multiple of 5.
 fn gives(entries: &[Entry], train: &Train, speed: u32) {
     let sheet = sheet_of_entries(entries);
     let packet = packet_of(&sheet).unwrap();
@@ -33,7 +33,7 @@ fn gives(entries: &[Entry], train: &Train, speed: u32) {
     assert_eq!(permitted_speed(KIND_PACKET, &packet, train, 0), Ok(speed - speed % 5), "{entries:?}, {train:?}");
 }
 
-/// Trains of no category get these speeds, by cant deficiency; the order of the entries is all one.
+/// Checks that trains of no category get these speeds, by cant deficiency, whatever the order of the entries.
 fn give(entries: &[Entry], speeds: &[(u32, u32)]) {
     let backwards: Vec<Entry> = entries.iter().rev().copied().collect();
     for (cant, speed) in speeds {
@@ -104,7 +104,7 @@ fn v_static_is_no_bound_on_a_lower_figure_s_speed() {
 
 #[test]
 fn categories_replace_and_lower_as_they_did() {
-    // a lower figure's entry beside freight G instead and passenger lower; a category's number says nothing of millimetres
+    // an entry for a lower figure, entries that replace the speed for freight G and lower it for passenger; a category is not a cant deficiency
     let entries = [(0, 100, 112), (1, 1, 140), (1, 1, 135), (2, 2, 104), (0, 165, 20)];
     let train = Train { cant: 150, ..TRAIN };
     gives(&entries, &train, 112);
@@ -114,7 +114,7 @@ fn categories_replace_and_lower_as_they_did() {
     gives(&entries, &Train { freight_g: true, passenger: true, ..train }, 104);
     gives(&entries, &Train { cant: 80, passenger: true, ..train }, 90);
     gives(&entries, &Train { cant: 165, passenger: true, ..train }, 20);
-    // no category falls to another
+    // entries for one category do not count for another
     let above = [(1, 1, 30), (2, 1, 20), (0, 100, 112)];
     gives(&above, &Train { passenger: true, ..train }, 112);
     gives(&above, &Train { freight_p: true, ..train }, 112);
@@ -122,7 +122,7 @@ fn categories_replace_and_lower_as_they_did() {
 
 #[test]
 fn the_packet_has_the_figure_s_place() {
-    // its first class begins at the bit 268; 100 is the place 1, 165 the place 4
+    // the first entry's class begins at the bit 268; 100 has the place 1 in the table, 165 the place 4
     let packet = packet_of(&sheet_of_entries(&[(0, 100, 110), (0, 165, 130)])).unwrap();
     let bits: String = bits_of(&packet)[266..292].iter().map(|bit| if *bit { '1' } else { '0' }).collect();
     assert_eq!(bits, "00_0001_0010110_00_0100_0011010".replace('_', ""));
@@ -134,7 +134,7 @@ fn the_packet_has_the_figure_s_place() {
 
 #[test]
 fn each_element_falls_for_itself() {
-    // from 0 the 130 entry, from 500 the 80 one, from 800 V_STATIC
+    // from 0 the entry for 130 counts, from 500 the entry for 80, from 800 V_STATIC
     let mut numbers = SHEET.to_vec();
     numbers[LENGTH] = 1_000;
     numbers[SPEED] = STATIC;

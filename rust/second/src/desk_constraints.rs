@@ -1,4 +1,4 @@
-//! Temporary constraints of a journey: every field at its ends and past them, used and not used, with the refusal and its place.
+//! Tests of a journey's temporary constraints: every field at the ends of its range and past them, used and not used, with refusal and place.
 
 use crate::bits::{bits_of, bytes_of, push};
 use crate::desk::{packet_of, packet_with, sheet, sheet_of};
@@ -18,7 +18,7 @@ const ADHESION: usize = 6;
 const CURRENT: usize = 7;
 
 const WIDTHS: [u32; 8] = [2, 2, 24, 24, 1, 7, 3, 10];
-/// The first bits of a constraint's fields, from the constraint's first.
+/// First bits of a constraint's fields, counted from the constraint's first bit.
 const BITS: [usize; 8] = [0, 2, 4, 28, 52, 53, 60, 63];
 const CONSTRAINT_BITS: usize = 73;
 
@@ -30,12 +30,12 @@ const FIRST: usize = 329;
 
 const LAST: u32 = 16_777_215;
 
-/// Each type's greatest Q_FRONT, V_Speed_Level in km/h and adhesion.
+/// Greatest Q_FRONT, V_Speed_Level in km/h and adhesion of each type.
 const TYPES: [[u32; 3]; 4] = [[1, 604, 0], [0, 0, 5], [0; 3], [0; 3]];
-/// Each range's greatest start and end, but that the start of both is below its end.
+/// Greatest start and end of each range; a range with both has its start below its end.
 const RANGES: [[u32; 2]; 4] = [[LAST, 0], [0, LAST], [LAST - 1, LAST], [0; 2]];
 
-/// Types and ranges in every pair, each with all that it uses at its greatest.
+/// Yields a constraint for every pair of a type and a range, with all fields that they use at their greatest.
 fn greatest() -> impl Iterator<Item = Constraint> {
     let of = |kind: usize, range: usize| {
         let ([start, end], [front, speed, adhesion]) = (RANGES[range], TYPES[kind]);
@@ -47,7 +47,7 @@ fn greatest() -> impl Iterator<Item = Constraint> {
 /// A restriction to 43 km/h from 1,000 to 2,500 cm.
 const RESTRICTION: Constraint = [0, 2, 1_000, 2_500, 1, 43, 0, 0];
 
-/// A constraint with one number replaced.
+/// Returns a constraint with one number replaced.
 fn with(mut constraint: Constraint, field: usize, number: u32) -> Constraint {
     constraint[field] = number;
     constraint
@@ -57,7 +57,7 @@ fn lowered(constraint: Constraint) -> Constraint {
     with(constraint, SPEED, constraint[SPEED] / 5 * 5)
 }
 
-/// The sheet of the journey with one timing point and these constraints.
+/// Returns the sheet of the journey with one timing point and these constraints.
 fn constrained_sheet(constraints: &[Constraint]) -> Vec<u8> {
     let mut numbers = JOURNEY.to_vec();
     numbers[30] = constraints.len() as u32;
@@ -65,7 +65,7 @@ fn constrained_sheet(constraints: &[Constraint]) -> Vec<u8> {
     sheet(&numbers)
 }
 
-/// Its packet: the speed by 5, and 1,023 for no limit of current.
+/// Returns the packet of the journey with one timing point and these constraints: speeds divided by 5, and 1,023 for no limit of current.
 fn constrained_packet(constraints: &[Constraint]) -> Vec<u8> {
     let mut bits = bits_of(&PACKET);
     bits.truncate(COUNT.0);
@@ -78,21 +78,21 @@ fn constrained_packet(constraints: &[Constraint]) -> Vec<u8> {
     packet_with(&bytes_of(&bits), (8, 16), body)
 }
 
-/// The sheet makes the packet, and the packet the sheet with its speeds lowered.
+/// Checks that the sheet makes the packet, and the packet the sheet with its speeds lowered.
 fn accepted(constraints: &[Constraint]) {
     let (packet, back) = (constrained_packet(constraints), constraints.iter().copied().map(lowered).collect::<Vec<_>>());
     assert_eq!(packet_of(&constrained_sheet(constraints)).as_ref(), Ok(&packet), "{constraints:?}");
     assert_eq!(sheet_of(&packet), Ok(constrained_sheet(&back)), "{constraints:?}");
 }
 
-/// With a number replaced the sheet is refused at that number.
+/// Checks that the sheet with one number replaced is refused at that number.
 fn sheet_refused(constraint: Constraint, field: usize, number: u32, refusal: Refusal) {
     let wrong = with(constraint, field, number);
     let place = COUNT_BYTE + 1 + sheet(&wrong[..field]).len();
     assert_eq!(packet_of(&constrained_sheet(&[wrong])), Err(refusal.at(place)), "{wrong:?}");
 }
 
-/// With a field replaced the packet is refused at that field.
+/// Checks that the packet with one field replaced is refused at that field.
 fn packet_refused(constraint: Constraint, field: usize, value: u32, refusal: Refusal) {
     let place = FIRST + BITS[field];
     let wrong = packet_with(&constrained_packet(&[constraint]), (place, WIDTHS[field]), value);
@@ -200,18 +200,18 @@ fn adhesion_is_0_to_5() {
 
 #[test]
 fn the_first_field_at_fault_is_told() {
-    // all wrong from a field on: the bytes of a type and a range, then of locations of four, a flag and a speed of two
+    // all numbers are wrong from a field on: the first of them is refused
     let wrong = [4, 4, LAST + 1, LAST + 1, 2, 605, 6, 1];
     for (field, place) in [52, 53, 54, 56, 58, 59, 60, 61].into_iter().enumerate() {
         let mut constraint = RESTRICTION;
         constraint[field..].copy_from_slice(&wrong[field..]);
         assert_eq!(packet_of(&constrained_sheet(&[constraint])), Err(Field.at(place)));
     }
-    // an end before its start, and a speed that is none: 5 comes first
+    // an end before its start, and a speed that is not allowed: 5 comes first
     let late = with(with(RESTRICTION, END, 999), SPEED, 605);
     assert_eq!(packet_of(&constrained_sheet(&[late])), Err(Location.at(56)));
     assert_eq!(sheet_of(&constrained_packet(&[late])), Err(Location.at(357)));
-    // in the second of three
+    // the second of three constraints is wrong
     assert_eq!(packet_of(&constrained_sheet(&[RESTRICTION, late, late])), Err(Location.at(66)));
     assert_eq!(sheet_of(&constrained_packet(&[RESTRICTION, late, late])), Err(Location.at(357 + CONSTRAINT_BITS)));
 }
@@ -242,7 +242,7 @@ fn a_count_brings_as_many_as_it_says() {
 fn a_constraint_that_ends_too_soon_is_refused_at_its_field() {
     let (packet, numbers) = (constrained_packet(&[RESTRICTION]), constrained_sheet(&[RESTRICTION]));
     for (field, first) in BITS.into_iter().enumerate() {
-        // the field's first bit is not there, and its last
+        // the packet ends before the field's first bit, and before its last
         for bits in [first, first + WIDTHS[field] as usize - 1] {
             let mut cut = packet_with(&packet, (8, 16), (FIRST + bits - 120) as u32);
             cut.truncate((FIRST + bits + 7) / 8);
@@ -256,7 +256,7 @@ fn a_constraint_that_ends_too_soon_is_refused_at_its_field() {
 
 #[test]
 fn each_segment_has_its_own() {
-    // 1 constraint, 0 and 2, with no timing points, in the order of the segments
+    // three segments with no timing points, with 1, 0 and 2 constraints
     let segment = |number: u32, constraints: &[Constraint]| {
         let mut numbers = vec![1, number, 0, 0, 1, 0, constraints.len() as u32];
         numbers.extend(constraints.iter().flatten());

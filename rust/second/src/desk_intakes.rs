@@ -1,10 +1,10 @@
-//! Packets taken in deliveries: every sentence of the request, with its states, its answers and the bytes of the room.
+//! Tests of packets taken in deliveries: every sentence of the request, with its states, its answers and the bytes of the room.
 
 use crate::desk::{packet_with, sample, sheet, SHEET};
 use crate::desk_journeys::{JOURNEY, PACKET};
 use crate::*;
 
-/// What a room is filled with before it is lent.
+/// Byte that fills a room before it is lent.
 const FILL: u8 = 0xA5;
 const FRESH: Intake = gathering(0);
 const PASSED: Intake = Intake { phase: 1, ..FRESH };
@@ -40,7 +40,7 @@ impl Taking {
         self.state
     }
 
-    /// The sheet, or the refusal, which leaves the room as it was.
+    /// Asks for the sheet, and checks that a refusal leaves the room as it was.
     fn sheet(&self) -> Result<Vec<u8>, Told> {
         let mut room = vec![FILL; 100];
         let answer = self.state.sheet(&self.room, &mut room);
@@ -53,7 +53,7 @@ impl Taking {
     }
 }
 
-/// A packet and what was in the room behind it.
+/// Returns a room of `size` bytes that begins with the packet, with the fill behind it.
 fn before_fill(packet: &[u8], size: usize) -> Vec<u8> {
     let mut room = packet.to_vec();
     room.resize(size, FILL);
@@ -113,7 +113,7 @@ fn a_delivery_past_the_room_s_end_and_each_after_it_write_nothing() {
         assert_eq!(taking.refused(), Some((14, 0)));
         assert_eq!(taking.room, before_fill(&sample()[..30], 38));
     }
-    // 8 before the packet's own refusal
+    // 8 comes before the packet's own refusal
     assert_eq!(taking.complete(), LONG);
     assert_eq!(taking.refused(), Some((8, 0)));
     assert_eq!(taking.room, before_fill(&sample()[..30], 38));
@@ -186,7 +186,7 @@ fn every_state_has_its_outcome() {
 
 #[test]
 fn a_state_counts_4_294_967_295_bytes() {
-    // of the room the system gives the pages that are written alone
+    // the system gives memory only for the pages of the room that are written
     let mut room = vec![0; 1 << 32];
     let last = gathering(u32::MAX - 1).deliver(&[9], &mut room);
     assert_eq!(last, gathering(u32::MAX));

@@ -1,9 +1,9 @@
-//! Journeys like the desk cases: their bytes by hand, their limits, and the order of their refusals.
+//! Tests of journeys like the desk cases: bytes written by hand, limits, and the order of refusals.
 
 use crate::desk::{packet_of, packet_with, sheet, sheet_of, TRAIN};
 use crate::*;
 
-/// A journey over one segment with one timing point, as numbers; the places of some are named below.
+/// Numbers of a journey over one segment with one timing point; constants name some of their places.
 pub const JOURNEY: [u32; 31] = [
     4, 0x12345, 1, 0, 0, 7, 1, 1, 345, 0x89ABCDEF, 17, 130, 1, 1, 0x76543210, 12_345, 86_400, 601, 1, 0, 1, 1, 2, 1, 0, 1,
     23_456, 86_399, 777, 1, 0,
@@ -15,7 +15,7 @@ const POINT: usize = 14;
 const HALT: usize = 22;
 const CONSTRAINTS: usize = 30;
 
-/// The widths of those numbers in the packet, where L_PACKET_ATO follows the first.
+/// Widths in bits of the journey's numbers in the packet, where L_PACKET_ATO follows the first field.
 const WIDTHS: [u32; 31] =
     [8, 32, 24, 15, 17, 8, 3, 8, 10, 32, 8, 8, 1, 5, 32, 15, 17, 10, 2, 2, 2, 1, 2, 1, 1, 1, 15, 17, 10, 1, 5];
 
@@ -25,7 +25,7 @@ pub const PACKET: [u8; 42] = [
     0xA0, 0xA8, 0xBF, 0xE1, 0x30, 0x00,
 ];
 
-/// A journey in both media, and where a number of it begins in each.
+/// A journey in both media, and where one of its numbers begins in each.
 struct Journey {
     sheet: Vec<u8>,
     byte: usize,
@@ -33,7 +33,7 @@ struct Journey {
     bit: usize,
 }
 
-/// The journey with one number replaced.
+/// Returns the journey with one number replaced.
 fn with(index: usize, value: u32) -> Journey {
     edited(&JOURNEY, index, value)
 }
@@ -58,13 +58,13 @@ fn accepted(journey: Journey) {
     assert_eq!(sheet_of(&journey.packet), Ok(journey.sheet));
 }
 
-/// Both media are refused, at the number.
+/// Checks that the packet and the sheet are refused at the number.
 fn refused(journey: Journey, refusal: Refusal) {
     assert_eq!(packet_of(&journey.sheet), Err(refusal.at(journey.byte)));
     assert_eq!(sheet_of(&journey.packet), Err(refusal.at(journey.bit)));
 }
 
-/// The greatest number of a field is accepted, and the next refused: in the packet too, where the field holds it.
+/// Checks that the greatest number of a field is accepted and the next refused, also in the packet if the field holds it.
 fn ends_with(index: usize, most: u32) {
     accepted(with(index, most));
     let past = with(index, most + 1);
@@ -74,7 +74,7 @@ fn ends_with(index: usize, most: u32) {
     }
 }
 
-/// The sheet of a journey with so many segments, timing points and constraints, at most 31 a segment of each, all numbers else 0.
+/// Returns the sheet of a journey with at most 31 timing points and 31 constraints a segment; all other numbers are 0.
 pub fn long(legs: u32, points: u32, constraints: u32) -> Vec<u8> {
     let mut numbers = vec![4, 0, 0, 0, 0, 0, 0, legs];
     let mut left = [points, constraints];
@@ -105,7 +105,7 @@ fn the_packet_number_says_what_follows() {
     for number in [0, 5, 7] {
         refused(with(0, number), Refusal::Number);
     }
-    // of a segment, NID_C and NID_SP are there in the sheet and NID_C alone in the packet
+    // read as a segment, the sheet has NID_C and NID_SP, the packet NID_C alone
     let shortest = |number| {
         let packet = [&[number as u8, 0, 11][..], &[0; 14]].concat();
         Journey { sheet: sheet(&[number, 0, 0, 0, 0, 0, 0, 0]), byte: 8, packet, bit: 130 }
@@ -157,7 +157,7 @@ fn a_passing_point_says_nothing_of_a_halt() {
         refused(edited(&passing, index, 1), Refusal::Field);
     }
     accepted(with(POINT + 5, 1));
-    // the door side is the first of the eight that is not 0
+    // the door side is the first of the last eight fields that is not 0
     refused(Journey { byte: 38, bit: 276, ..with(POINT + 5, 2) }, Refusal::Field);
 }
 

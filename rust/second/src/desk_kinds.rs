@@ -1,10 +1,10 @@
-//! The kind of a segment: how its bytes are read, and what is refused first of all.
+//! Tests of the kind of a segment: how its bytes are read, and that an unknown kind is refused first of all.
 
 use crate::desk::{sample, sheet, SHEET, TRAIN};
 use crate::desk_journeys::{JOURNEY, PACKET};
 use crate::*;
 
-/// A packet of 81,924 cm and 105 km/h, and a sheet of 100 cm and 84 km/h with five entries for freight P.
+/// Bytes that are a packet of 81,924 cm and 105 km/h, and also a sheet of 100 cm and 84 km/h with five entries for freight P.
 const BOTH: [u8; 39] = [
     0x06, 0x00, 0xB9, 0x01, 0x00, 0x00, 0x07, 0x00, 0x00, 0x00, 0x00, 0x64, 0x00, 0x00,
     0x00, // the sheet up to its altitude

@@ -1,14 +1,14 @@
-//! Where packets and sheets are refused: every place counted by hand, from the widths of the fields and the groups of the numbers.
+//! Tests of the places of refusals: every place is counted by hand, from the widths of the fields and the groups of the numbers.
 
 use crate::desk::{packet_of, packet_with, sample, sheet, sheet_of, LENGTH, SHEET, SPEED_CHANGES, TRAIN};
 use crate::desk_journeys::{long, JOURNEY, PACKET};
 use crate::Refusal::{Bits, Body, Field, Left, Location, Number, Padding, Room, Sheet, Short, Size};
 use crate::*;
 
-/// L_PACKET_ATO.
+/// First bit and width of L_PACKET_ATO.
 const COUNTED: (usize, u32) = (8, 16);
 
-/// A packet is refused at a bit, a segment's by the questions too: before the train is looked at.
+/// Checks that a packet is refused at a bit; the questions refuse a segment's packet too, before they judge the train.
 fn packet_refused(packet: &[u8], refused: Refused) {
     let train = Train { length: 0, ..TRAIN };
     assert_eq!(sheet_of(packet), Err(refused), "{packet:02X?}");
@@ -18,7 +18,7 @@ fn packet_refused(packet: &[u8], refused: Refused) {
     }
 }
 
-/// A sheet is refused at a byte, a segment's by the question too.
+/// Checks that a sheet is refused at a byte; the speed question refuses a segment's sheet too.
 fn sheet_refused(sheet: &[u8], refused: Refused) {
     let train = Train { length: 0, ..TRAIN };
     assert_eq!(packet_of(sheet), Err(refused), "{sheet:02X?}");
@@ -27,7 +27,7 @@ fn sheet_refused(sheet: &[u8], refused: Refused) {
     }
 }
 
-/// A packet with another L_PACKET_ATO, of as many bytes as that asks for; those that it has not are 0.
+/// Returns a packet with L_PACKET_ATO `bits`, as long as `bits` asks for; bytes past the end of the given packet are 0.
 fn counted(packet: &[u8], bits: u32) -> Vec<u8> {
     let mut counted = packet_with(packet, COUNTED, bits);
     counted.resize(15 + (bits as usize + 7) / 8, 0);
@@ -38,17 +38,17 @@ fn with_last(packet: &[u8], byte: u8) -> Vec<u8> {
     [&packet[..packet.len() - 1], &[byte]].concat()
 }
 
-/// Packets are refused, each at its bit.
+/// Checks that packets are refused, each at its bit.
 fn packets_refused(refusal: Refusal, packets: impl IntoIterator<Item = (Vec<u8>, usize)>) {
     packets.into_iter().for_each(|(packet, place)| packet_refused(&packet, refusal.at(place)));
 }
 
-/// A packet with one field replaced is refused at that field.
+/// Checks that a packet with one field replaced is refused at that field.
 fn fields_refused(packet: &[u8], refusal: Refusal, fields: &[((usize, u32), u32)]) {
     packets_refused(refusal, fields.iter().map(|(field, value)| (packet_with(packet, *field, *value), field.0)));
 }
 
-/// Numbers with one replaced are refused at a byte.
+/// Checks that a sheet with one number replaced is refused at a byte.
 fn numbers_refused(whole: &[u32], refusal: Refusal, numbers: &[(usize, u32, usize)]) {
     for (index, number, place) in numbers {
         let mut replaced = whole.to_vec();
@@ -57,7 +57,8 @@ fn numbers_refused(whole: &[u32], refusal: Refusal, numbers: &[(usize, u32, usiz
     }
 }
 
-/// The document's numbers with a length of 1,000 and two changes of speed: in the packet their locations begin at the bits 271 and 308.
+/// Returns the document's numbers with a length of 1,000 cm and two changes of speed: in the packet their locations begin at the bits 271
+/// and 308.
 fn changed() -> Vec<u32> {
     let mut numbers = SHEET.to_vec();
     numbers[LENGTH] = 1_000;
@@ -108,7 +109,7 @@ fn a_location_is_refused_at_its_first_bit() {
     let packet = packet_of(&sheet(&changed())).unwrap();
     let locations = [(271, 0), (271, 1_000), (271, 16_777_215), (308, 0), (308, 500), (308, 499), (308, 1_000)];
     fields_refused(&packet, Location, &locations.map(|(place, location)| ((place, 24), location)));
-    // the first of two that are wrong
+    // both locations are wrong: the first is refused
     let both = packet_with(&packet_with(&packet, (271, 24), 0), (308, 24), 0);
     packet_refused(&both, Location.at(271));
 }
@@ -118,7 +119,7 @@ fn a_field_that_does_not_fit_is_refused_at_its_first_bit() {
     // NID_C has 10 bits, NID_SP 32; V_STATIC begins 133 bits into the body, Q_FRONT 140, the last count 180
     let bodies = [(0, 120), (9, 120), (10, 130), (41, 130), (139, 253), (140, 260), (180, 300), (184, 300)];
     packets_refused(Bits, bodies.map(|(bits, place)| (counted(&sample(), bits), place)));
-    // judged before its value: V_STATIC as far as it is there
+    // a field that does not fit is refused before its value is judged: V_STATIC lacks a bit
     packet_refused(&counted(&packet_with(&sample(), (253, 7), 127), 139), Bits.at(253));
 }
 
@@ -127,7 +128,7 @@ fn bits_left_are_refused_at_the_first() {
     for bits in [186, 192, 193, 65_535] {
         packet_refused(&counted(&sample(), bits), Left.at(305));
     }
-    // before the padding, and whatever they are
+    // bits that are left are refused before the padding, whatever they are
     packet_refused(&with_last(&counted(&sample(), 186), 0x01), Left.at(305));
     packet_refused(&with_last(&counted(&sample(), 186), 0x7F), Left.at(305));
 }
@@ -169,7 +170,7 @@ fn a_number_of_a_segment_is_refused_at_its_first_byte() {
 
 #[test]
 fn a_location_in_a_sheet_is_refused_at_its_first_byte() {
-    // the length has two bytes, so the first location begins at 21; it has two too, and the second begins at 26
+    // the length has two bytes, so the first location begins at 21; this location has two bytes too, and the second begins at 26
     numbers_refused(&changed(), Location, &[(18, 0, 21), (18, 1_000, 21), (22, 500, 26), (22, u32::MAX, 26)]);
 }
 
@@ -210,8 +211,8 @@ fn a_field_of_a_journey_is_refused_at_its_first_bit() {
     fields_refused(&PACKET, Field, &fields);
     // at a passing point the door side is the first field that is not 0
     packet_refused(&packet_with(&PACKET, (271, 2), 2), Field.at(276));
-    // without timing points the constraints follow at 195: 01110 of NID_TP are 14 of them, 11 and 00 the first's type and range, 24 bits
-    // its start, and its end at 228 is not 0
+    // without timing points the constraints follow at 195: 01110 of NID_TP count 14 of them, 11 and 00 are the type and the range of the first,
+    // 24 bits its start, and its end at 228 is not 0
     packet_refused(&packet_with(&PACKET, (190, 5), 0), Field.at(228));
 }
 
@@ -219,7 +220,7 @@ fn a_field_of_a_journey_is_refused_at_its_first_bit() {
 fn the_body_of_a_journey_ends_too_soon_or_too_late() {
     let bodies = [(0, 120), (2, 120), (3, 123), (10, 123), (11, 131), (100, 195), (203, 323), (204, 324), (208, 324)];
     packets_refused(Bits, bodies.map(|(bits, place)| (counted(&PACKET, bits), place)));
-    // a second segment, which is not there
+    // a count of two segments, of which the second is not there
     packet_refused(&packet_with(&PACKET, (123, 8), 2), Bits.at(329));
     packet_refused(&packet_with(&PACKET, (123, 8), 0), Left.at(131));
     for bits in [210, 216, 217] {

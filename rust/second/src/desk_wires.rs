@@ -1,10 +1,10 @@
-//! Changes of voltage and of current: up to 31 of each, where 23 were allowed at first.
+//! Tests of changes of voltage and of current: up to 31 of each; at first 23 were allowed.
 
 use crate::desk::*;
 use crate::Refusal::{Bits, Field, Location, Sheet};
 use crate::*;
 
-/// The document's numbers with a length of 1,000 and so many changes of voltage and of current, each with figures of its own.
+/// Returns the document's numbers with a length of 1,000 cm and changes of voltage and of current, each with other figures.
 fn wired(voltages: u32, currents: u32) -> Vec<u32> {
     let mut numbers = SHEET.to_vec();
     numbers[LENGTH] = 1_000;
@@ -41,16 +41,16 @@ fn more_than_31_are_refused_in_a_sheet_at_their_count() {
 #[test]
 fn a_count_without_its_changes_is_not_at_fault_itself() {
     for count in [23, 24, 31] {
-        // 15 bits follow the voltages' count in the packet, none the currents'
+        // 15 bits follow the count of voltages in the packet, no bits follow the count of currents
         assert_eq!(sheet_of(&packet_with(&sample(), VOLTAGE_COUNT_BITS, count)), Err(Bits.at(290)));
         assert_eq!(sheet_of(&packet_with(&sample(), CURRENT_COUNT_BITS, count)), Err(Bits.at(305)));
-        // in the sheet a 0 follows the voltages', which is no location
+        // in the sheet a 0 follows the count of voltages, which is not allowed as a location
         assert_eq!(packet_of(&sheet_with(VOLTAGE_CHANGES, count)), Err(Location.at(23)));
         assert_eq!(packet_of(&sheet_with(CURRENT_CHANGES, count)), Err(Sheet.at(25)));
     }
 }
 
-/// A list of 31 changes from 2,097,152 on, each of the numbers that stand at its start.
+/// Returns a list: `numbers` at the start, and 31 changes from 2,097,152 cm on that repeat them.
 fn full(numbers: &[u32]) -> Vec<u32> {
     let changes = (2_097_152..2_097_152 + 31).flat_map(|location| [&[location], numbers].concat());
     numbers.iter().copied().chain([31]).chain(changes).collect()

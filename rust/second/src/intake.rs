@@ -1,4 +1,4 @@
-//! Packets that arrive in bits of radio traffic: gathered in a lent room, judged when they are complete, and then asked for their sheet.
+//! Packets that arrive in several deliveries: gathered in a lent room, judged when they are complete, and then asked for their sheet.
 
 use crate::packet_reading;
 use crate::packet_to_sheet;
@@ -7,7 +7,7 @@ use crate::refusal::{Refusal, Refused};
 const PASSED: u32 = 1;
 const JUDGED: u32 = 2;
 
-/// The state between two calls, which the caller keeps; any four numbers may be handed over.
+/// State between two calls, which the caller keeps; any four numbers may be handed over.
 #[derive(Clone, Copy, Debug, Default, PartialEq, Eq)]
 pub struct Intake {
     pub phase: u32,
@@ -16,20 +16,20 @@ pub struct Intake {
     pub place: u32,
 }
 
-/// A verdict's number and place, which are any two where the state is one that no call returned.
+/// Number and place of a verdict: any two numbers in a state that no call returned.
 #[derive(Clone, Copy, Debug, PartialEq, Eq)]
 pub struct Told {
     pub refusal: u32,
     pub place: u32,
 }
 
-/// What the four numbers of a state say.
+/// The meaning of a state's four numbers.
 enum Stage {
-    /// So many bytes of a packet are in the room.
+    /// This many bytes of a packet are in the room.
     Gathering(usize),
     /// The deliveries passed the room's end.
     Passed,
-    /// A packet of so many bytes was accepted, or one was refused.
+    /// A packet of this many bytes was accepted, or a packet was refused.
     Judged(Result<usize, Told>),
 }
 
@@ -38,7 +38,7 @@ impl Intake {
         Intake::default()
     }
 
-    /// Takes a delivery behind the bytes that are there, unless it passes the room's end.
+    /// Takes a delivery into the room after the bytes that are there, unless it passes the room's end. Returns the state after it.
     pub fn deliver(self, delivery: &[u8], room: &mut [u8]) -> Intake {
         if delivery.is_empty() {
             return self;
@@ -46,7 +46,7 @@ impl Intake {
         self.gathered().and_then(|begin| take(delivery, room, begin)).unwrap_or(Intake { phase: PASSED, ..Intake::fresh() })
     }
 
-    /// Judges the bytes that were gathered; 8 comes before all that a packet can be refused for.
+    /// Judges the bytes that were gathered and returns the state with the verdict; 8 comes before every refusal of a packet.
     pub fn complete(self, room: &[u8]) -> Intake {
         match self.gathered().and_then(|length| room.get(..length)) {
             Some(packet) => verdict(packet.len(), packet_reading::carried_in(packet).err()),
@@ -54,7 +54,7 @@ impl Intake {
         }
     }
 
-    /// The sheet of the packet that was judged, from the room that took it.
+    /// Writes the sheet of the packet that was judged, from the room `taken` that took it, and returns its length.
     pub fn sheet(self, taken: &[u8], room: &mut [u8]) -> Result<usize, Told> {
         let early = Err(told(Refusal::Early.nowhere()));
         match self.stage() {
@@ -73,7 +73,7 @@ impl Intake {
         }
     }
 
-    /// How many bytes of the next packet are in the room, if it holds all of them; after a verdict there are none.
+    /// Returns how many bytes of the next packet are in the room: 0 after a verdict, nothing after the deliveries passed the room's end.
     fn gathered(self) -> Option<usize> {
         match self.stage() {
             Stage::Gathering(length) => Some(length),
@@ -83,7 +83,7 @@ impl Intake {
     }
 }
 
-/// Copies a delivery to its place, if the room holds it and the state can count it.
+/// Copies a delivery to the byte `begin` of the room, if the room holds it and the state can count it.
 fn take(delivery: &[u8], room: &mut [u8], begin: usize) -> Option<Intake> {
     let length = u32::try_from(begin + delivery.len()).ok()?;
     room.get_mut(begin..length as usize)?.copy_from_slice(delivery);

@@ -2,10 +2,10 @@
 
 use crate::segment::{Header, Identity};
 
-/// A journey's packet number on this link.
+/// Packet number of a journey on this link.
 pub const JOURNEY_NUMBER: u32 = 4;
 
-/// The widths of the last eight fields of a timing point, which a passing point leaves 0.
+/// Widths in bits of the last eight fields of a timing point, which are 0 at a passing point.
 pub const HALT_WIDTHS: [u32; 8] = [2, 1, 1, 1, 15, 17, 10, 1];
 
 pub struct Journey {
@@ -17,7 +17,7 @@ pub struct Journey {
 /// One segment of the journey.
 pub struct Leg {
     pub identity: Identity,
-    /// Q_SP_DIR is 1: it is run in its nominal direction.
+    /// Q_SP_DIR is 1: the segment is run in its nominal direction.
     pub nominal: bool,
     pub points: Vec<TimingPoint>,
     pub constraints: Vec<Constraint>,
@@ -38,7 +38,7 @@ pub struct Moment {
     pub seconds: u32,
 }
 
-/// Q_Stop_Skip_Passes, and what there is to say of a halt: nothing where the train passes.
+/// Q_Stop_Skip_Passes, with the fields of a halt unless the train passes.
 pub enum Stop {
     /// 0: a stopping point.
     Stopping(Halt),
@@ -58,15 +58,15 @@ pub struct Halt {
     pub automatic_closing: bool,
 }
 
-/// A temporary constraint: what it says, and where.
+/// A temporary constraint: its type with its values, and its range.
 pub struct Constraint {
     pub kind: ConstraintType,
     pub range: Range,
 }
 
-/// Q_TC_Type, and what it has to say.
+/// Q_TC_Type, with the values that it uses.
 pub enum ConstraintType {
-    /// 0: a speed in km/h; Q_FRONT is 1 where its end takes no train length delay.
+    /// 0: a speed in km/h; Q_FRONT is 1 if its end takes no train length delay.
     Speed { front: bool, speed: u32 },
     /// 1: a rate of low adhesion.
     Adhesion(u32),
@@ -78,18 +78,18 @@ pub enum ConstraintType {
 
 /// Q_TC_Range, with locations in centimetres.
 pub enum Range {
-    /// 0: it starts here.
+    /// 0: the constraint starts at this location.
     Starts(u32),
-    /// 1: it ends here.
+    /// 1: the constraint ends at this location.
     Ends(u32),
-    /// 2: it starts and ends, the one below the other.
+    /// 2: the constraint starts and ends at these locations, the start below the end.
     Both(u32, u32),
     /// 3: the whole segment.
     Whole,
 }
 
 impl ConstraintType {
-    /// By its number, 0 to 3, and those of the fields that it uses.
+    /// Makes a type of its number, 0 to 3, and the values of the fields that it uses.
     pub fn of(number: u32, front: bool, speed: u32, rate: u32) -> ConstraintType {
         match number {
             0 => ConstraintType::Speed { front, speed },
@@ -108,7 +108,7 @@ impl ConstraintType {
         }
     }
 
-    /// Q_FRONT, the speed in km/h and the adhesion, each 0 where it is not used.
+    /// Returns Q_FRONT, the speed in km/h and the adhesion; a value that is not used is 0.
     pub fn content(&self) -> [u32; 3] {
         match self {
             ConstraintType::Speed { front, speed } => [u32::from(*front), *speed, 0],
@@ -128,7 +128,7 @@ impl Range {
         }
     }
 
-    /// The start and the end, each 0 where it is not used.
+    /// Returns the start and the end in cm; a location that is not used is 0.
     pub fn locations(&self) -> [u32; 2] {
         match self {
             Range::Starts(start) => [*start, 0],
@@ -148,7 +148,7 @@ impl Stop {
         }
     }
 
-    /// The last eight fields.
+    /// Returns the last eight fields of a timing point.
     pub fn halt(&self) -> [u32; 8] {
         match self {
             Stop::Stopping(halt) | Stop::Skipped(halt) => [

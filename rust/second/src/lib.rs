@@ -34,23 +34,23 @@ pub use intake::{Intake, Told};
 pub use refusal::{Refusal, Refused};
 pub use speed::Train;
 
-/// Packet to sheet: the sheet's length, with the sheet at the start of the room.
+/// Writes the sheet of a packet at the start of the room and returns its length.
 pub fn packet_to_sheet(packet: &[u8], room: &mut [u8]) -> Result<usize, Refused> {
     let carried = packet_reading::carried_in(packet)?;
     lay(&sheet_writing::sheet_of(&carried), room)
 }
 
-/// Sheet to packet: the packet's length, with the packet at the start of the room.
+/// Writes the packet of a sheet at the start of the room and returns its length.
 pub fn sheet_to_packet(sheet: &[u8], room: &mut [u8]) -> Result<usize, Refused> {
     let carried = sheet_reading::carried_in(sheet)?;
     lay(&packet_writing::packet_of(&carried)?, room)
 }
 
-/// The kinds of a segment that the speed question takes.
+/// Kinds of a segment that the speed question takes.
 pub const KIND_PACKET: u32 = 0;
 pub const KIND_SHEET: u32 = 1;
 
-/// The permitted speed in km/h at location `x` of a segment of a kind: by a packet's speeds times 5, by a sheet's own.
+/// Returns the permitted speed in km/h at location `x`, in cm, of a segment of a kind: a packet's speeds count 5 km/h, a sheet's 1 km/h.
 pub fn permitted_speed(kind: u32, segment: &[u8], train: &Train, x: u32) -> Result<u32, Refused> {
     let segment = match kind {
         KIND_PACKET => packet_reading::segment_of(segment)?,
@@ -60,7 +60,7 @@ pub fn permitted_speed(kind: u32, segment: &[u8], train: &Train, x: u32) -> Resu
     speed::permitted(&segment, train, x)
 }
 
-/// The altitude of a packet in signed centimetres.
+/// Returns the altitude of a packet in signed centimetres.
 pub fn altitude_of_packet(packet: &[u8]) -> Result<i32, Refused> {
     Ok(packet_reading::segment_of(packet)?.altitude)
 }

@@ -1,4 +1,4 @@
-//! A sheet's numbers: groups of seven bits, lowest group first, the shortest form alone.
+//! A sheet's numbers: groups of seven bits, lowest group first; only the shortest form is allowed.
 
 /// A sheet whose numbers are read in order.
 pub struct Numbers<'a> {
@@ -11,12 +11,12 @@ impl<'a> Numbers<'a> {
         Numbers { sheet, at: 0 }
     }
 
-    /// The first byte that is not yet read.
+    /// Returns the first byte that is not yet read.
     pub fn place(&self) -> usize {
         self.at
     }
 
-    /// The next number, or nothing where it is not there or not well formed.
+    /// Reads the next number, or nothing if it is not there or not well formed.
     pub fn take(&mut self) -> Option<u32> {
         let left = &self.sheet[self.at..];
         let groups = 1 + left.iter().position(|byte| *byte < 128)?;
@@ -29,7 +29,7 @@ impl<'a> Numbers<'a> {
     }
 }
 
-/// The number that groups spell, where they are its shortest form and it is below 4,294,967,296.
+/// Returns the number that groups spell, if they are its shortest form and it is below 4,294,967,296.
 fn number_of(groups: &[u8]) -> Option<u32> {
     if groups.len() > 5 || (groups.len() > 1 && groups.ends_with(&[0])) {
         return None;

@@ -7,10 +7,10 @@ use crate::refusal::{Refusal, Refused};
 use crate::segment::*;
 
 const HEADER_BYTES: usize = 15;
-/// The first bit after the packet number and L_PACKET_ATO.
+/// First bit after the packet number and L_PACKET_ATO.
 const OPERATIONAL: usize = 24;
 
-/// What a packet carries, or the refusal that comes first in the document's order.
+/// Returns the segment or journey in a packet, or the refusal that comes first in the document's order.
 pub fn carried_in(packet: &[u8]) -> Result<Carried, Refused> {
     match number_of(packet)? {
         SEGMENT_NUMBER => Ok(Carried::Segment(read(packet, Fields::segment)?)),
@@ -19,7 +19,7 @@ pub fn carried_in(packet: &[u8]) -> Result<Carried, Refused> {
     }
 }
 
-/// The segment of a packet, where nothing else will do.
+/// Returns the segment in a packet; refuses any other packet number than a segment's.
 pub fn segment_of(packet: &[u8]) -> Result<Segment, Refused> {
     match number_of(packet)? {
         SEGMENT_NUMBER => read(packet, Fields::segment),
@@ -27,7 +27,7 @@ pub fn segment_of(packet: &[u8]) -> Result<Segment, Refused> {
     }
 }
 
-/// The packet number, where there is a header.
+/// Returns the packet number; refuses a packet that is too short for a header.
 fn number_of(packet: &[u8]) -> Result<u32, Refused> {
     if packet.len() < HEADER_BYTES {
         return Err(Refusal::Short.nowhere());
@@ -35,7 +35,7 @@ fn number_of(packet: &[u8]) -> Result<u32, Refused> {
     Ok(packet[0].into())
 }
 
-/// Reads the rest of the header, and the body by its own rules.
+/// Reads the rest of the header, and the body by `rules`.
 fn read<T>(packet: &[u8], rules: fn(&mut Fields, Header) -> Result<T, Refused>) -> Result<T, Refused> {
     let end = HEADER_BYTES * 8 + usize::from(u16::from_be_bytes([packet[1], packet[2]]));
     if packet.len() != end / 8 + usize::from(end % 8 > 0) {
@@ -55,11 +55,11 @@ fn read<T>(packet: &[u8], rules: fn(&mut Fields, Header) -> Result<T, Refused>) 
     }
 }
 
-/// Fields, each refused at its own first bit.
+/// Fields of a packet, read in order, each refused at its first bit.
 struct Fields(Reader);
 
 impl Fields {
-    /// A field that fits in the bits that are left, and then is allowed.
+    /// Reads a field: first it must fit in the bits that are left, then its value must be allowed.
     fn judged(&mut self, width: usize, allowed: impl Fn(u32) -> bool, otherwise: Refusal) -> Result<u32, Refused> {
         let place = self.0.place();
         let value = self.0.take(width).ok_or_else(|| Refusal::Bits.at(place))?;
@@ -78,7 +78,7 @@ impl Fields {
         self.field(width, |value| value <= largest)
     }
 
-    /// A field of which every value is allowed.
+    /// Reads a field of which every value is allowed.
     fn any(&mut self, width: usize) -> Result<u32, Refused> {
         self.field(width, |_| true)
     }
@@ -93,7 +93,7 @@ impl Fields {
         })
     }
 
-    // A structure's fields are read in the order in which they are written here, which is the packet's.
+    // The fields of a structure are read in the order in which they are written here, which is the packet's.
     fn segment(&mut self, header: Header) -> Result<Segment, Refused> {
         let identity = self.identity()?;
         let length = self.field(24, |length| length > 0)?;
@@ -114,7 +114,7 @@ impl Fields {
         Ok(Identity { country: self.any(10)?, number: self.any(32)?, version: [self.any(8)?, self.any(8)?] })
     }
 
-    /// A change's location: past the one before it, and before the segment's end.
+    /// Reads a change's location: past the one before it, and before the segment's end.
     fn location(&mut self, before: u32, end: u32) -> Result<u32, Refused> {
         self.judged(24, |location| before < location && location < end, Refusal::Location)
     }
@@ -271,7 +271,7 @@ impl Fields {
         })
     }
 
-    /// From Q_FRONT to Q_Low_Adhesion_Rate, each 0 where the type does not use it.
+    /// Reads the fields from Q_FRONT to Q_Low_Adhesion_Rate; a field that the type does not use must be 0.
     fn constraint_type(&mut self, number: u32) -> Result<ConstraintType, Refused> {
         let (speed, adhesion) = (number == 0, number == 1);
         let front = self.up_to(1, if speed { 1 } else { 0 })? == 1;
@@ -284,7 +284,7 @@ impl Fields {
         Ok(self.any(1)? == 1)
     }
 
-    /// A field that says nothing.
+    /// Reads a field that is not used: it must be 0.
     fn zero(&mut self, width: usize) -> Result<(), Refused> {
         self.up_to(width, 0).map(|_| ())
     }

@@ -1,4 +1,4 @@
-//! Writing a packet: the body's bits first, as the header counts them.
+//! Writing a packet: the bits of the body come first, because the header counts them.
 
 use crate::bits::{bytes_of, push};
 use crate::carried::Carried;
@@ -6,7 +6,7 @@ use crate::journey::*;
 use crate::refusal::{Refusal, Refused};
 use crate::segment::*;
 
-/// The packet of what is carried; refused where the header cannot count the body's bits.
+/// Returns the packet of a segment or journey; refuses it if the header cannot count the bits of the body.
 pub fn packet_of(carried: &Carried) -> Result<Vec<u8>, Refused> {
     let (number, head, mut body) = match carried {
         Carried::Segment(segment) => (SEGMENT_NUMBER, &segment.header, segment_body(segment)),
@@ -69,7 +69,7 @@ fn measures(body: &mut Vec<bool>, segment: &Segment) {
     push(body, 20, (segment.altitude + ALTITUDE_ADDED) as u32);
 }
 
-/// What stands at the start, the number of changes, and each change with its location.
+/// Writes a list: the item at the start, the count of changes, and each change with its location.
 fn list<T>(body: &mut Vec<bool>, items: &[T], location: fn(&T) -> u32, write: fn(&mut Vec<bool>, &T)) {
     write(body, &items[0]);
     push(body, 5, items.len() as u32 - 1);
@@ -149,7 +149,7 @@ fn temporary_constraint(body: &mut Vec<bool>, constraint: &Constraint) {
     push(body, 10, NO_LIMIT);
 }
 
-/// The place of a figure that is known to stand in the list.
+/// Returns the place of a figure that is known to stand in the list.
 fn place(list: &[u32], figure: u32) -> u32 {
     list.iter().take_while(|other| **other != figure).count() as u32
 }

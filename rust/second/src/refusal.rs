@@ -47,7 +47,7 @@ impl Refusal {
         Refused { refusal: self, place }
     }
 
-    /// Of a refusal that is about no bit and no byte.
+    /// Makes a refusal that has no place: its place is 0.
     pub fn nowhere(self) -> Refused {
         self.at(0)
     }

@@ -1,6 +1,6 @@
 //! A segment as an owned structure, in the units of the railway: centimetres, km/h, millimetres, volts, amperes.
 
-/// A segment's packet number on this link.
+/// Packet number of a segment on this link.
 pub const SEGMENT_NUMBER: u32 = 6;
 
 /// The cant deficiencies in millimetres, rising; NC_CDDIFF is the place in this list.
@@ -9,10 +9,10 @@ pub const CANTS: [u32; 11] = [80, 100, 130, 150, 165, 180, 210, 225, 245, 275, 3
 /// The voltages; M_VOLTAGE is the place in this list.
 pub const VOLTAGES: [u32; 6] = [0, 25_000, 15_000, 3_000, 1_500, 750];
 
-/// M_CURRENT where there is no limit.
+/// M_CURRENT if there is no limit.
 pub const NO_LIMIT: u32 = 1_023;
 
-/// The altitude is sent with this added.
+/// Centimetres that are added to an altitude when it is sent.
 pub const ALTITUDE_ADDED: i32 = 100_000;
 
 pub struct Segment {
@@ -57,14 +57,14 @@ pub struct Entry {
     pub speed: u32,
 }
 
-/// Q_DIFF and the class that it gives the meaning of.
+/// Q_DIFF, with the class whose meaning it decides.
 #[derive(PartialEq, Eq)]
 pub enum Class {
     /// Q_DIFF 0: a cant deficiency in millimetres.
     Cant(u32),
     /// Q_DIFF 1: a category whose speed is taken instead.
     Instead(u32),
-    /// Q_DIFF 2: a category whose speed is taken where it is lower.
+    /// Q_DIFF 2: a category whose speed is taken if it is lower.
     Lower(u32),
 }
 
@@ -80,7 +80,7 @@ pub struct CurrentChange {
     pub amperes: Option<u32>,
 }
 
-/// Whether each four-bit digit of NID_OPERATIONAL is 0 to 9 or F.
+/// Returns whether each four-bit digit of NID_OPERATIONAL is 0 to 9 or F.
 pub fn is_operational(number: u32) -> bool {
     format!("{number:X}").chars().all(|digit| digit.is_ascii_digit() || digit == 'F')
 }

@@ -6,7 +6,7 @@ use crate::numbers::Numbers;
 use crate::refusal::{Refusal, Refused};
 use crate::segment::*;
 
-/// What a sheet carries, or the refusal that comes first in the document's order.
+/// Returns the segment or journey in a sheet, or the refusal that comes first in the document's order.
 pub fn carried_in(sheet: &[u8]) -> Result<Carried, Refused> {
     let mut numbers = Numbers::new(sheet);
     match any(&mut numbers)? {
@@ -16,7 +16,7 @@ pub fn carried_in(sheet: &[u8]) -> Result<Carried, Refused> {
     }
 }
 
-/// The segment of a sheet, where nothing else will do.
+/// Returns the segment in a sheet; refuses any other packet number than a segment's.
 pub fn segment_of(sheet: &[u8]) -> Result<Segment, Refused> {
     let mut numbers = Numbers::new(sheet);
     match any(&mut numbers)? {
@@ -25,7 +25,7 @@ pub fn segment_of(sheet: &[u8]) -> Result<Segment, Refused> {
     }
 }
 
-/// Reads all numbers that are left.
+/// Reads by `read`, and refuses bytes that are left after it.
 fn to_the_end<T>(mut numbers: Numbers, read: fn(&mut Numbers) -> Result<T, Refused>) -> Result<T, Refused> {
     let content = read(&mut numbers)?;
     if numbers.is_empty() {
@@ -35,7 +35,7 @@ fn to_the_end<T>(mut numbers: Numbers, read: fn(&mut Numbers) -> Result<T, Refus
     }
 }
 
-/// The next number, there and well formed, and then allowed; else refused at its first byte.
+/// Reads the next number: first it must be there and well formed, then allowed; it is refused at its first byte.
 fn judged(numbers: &mut Numbers, allowed: impl Fn(u32) -> bool, otherwise: Refusal) -> Result<u32, Refused> {
     let place = numbers.place();
     let number = numbers.take().ok_or_else(|| Refusal::Sheet.at(place))?;
@@ -46,22 +46,22 @@ fn judged(numbers: &mut Numbers, allowed: impl Fn(u32) -> bool, otherwise: Refus
     }
 }
 
-/// The next number, whatever it is.
+/// Reads the next number; every number is allowed.
 fn any(numbers: &mut Numbers) -> Result<u32, Refused> {
     within(numbers, 0, u32::MAX)
 }
 
-/// The next number, from `smallest` to `largest`.
+/// Reads the next number, which must be from `smallest` to `largest`.
 fn within(numbers: &mut Numbers, smallest: u32, largest: u32) -> Result<u32, Refused> {
     judged(numbers, |number| smallest <= number && number <= largest, Refusal::Field)
 }
 
-/// The next number, of a field of so many bits of which every value is allowed.
+/// Reads the next number, which must fit in a field of `width` bits.
 fn fitting(numbers: &mut Numbers, width: u32) -> Result<u32, Refused> {
     within(numbers, 0, (1 << width) - 1)
 }
 
-/// The next number, one of a list.
+/// Reads the next number, which must be in the list.
 fn among(numbers: &mut Numbers, list: &[u32]) -> Result<u32, Refused> {
     judged(numbers, |number| list.contains(&number), Refusal::Field)
 }
@@ -95,10 +95,10 @@ fn identity(numbers: &mut Numbers) -> Result<Identity, Refused> {
     Ok(Identity { country, number, version })
 }
 
-/// Reads what stands at a location.
+/// A function that reads the item at a location.
 type Item<T> = fn(&mut Numbers, u32) -> Result<T, Refused>;
 
-/// What stands at the start, then at most 31 changes whose locations rise and lie before the segment's end.
+/// Reads the item at the start, then at most 31 changes whose locations rise and lie before the segment's end.
 fn list<T>(numbers: &mut Numbers, end: u32, item: Item<T>) -> Result<Vec<T>, Refused> {
     let mut items = vec![item(numbers, 0)?];
     let mut free = 1..end;
@@ -231,7 +231,7 @@ fn range(numbers: &mut Numbers) -> Result<Range, Refused> {
     })
 }
 
-/// A location of 24 bits, and then past the start.
+/// Reads a constraint's end: it must fit in 24 bits, then be past the start.
 fn end_after(numbers: &mut Numbers, start: u32) -> Result<u32, Refused> {
     let place = numbers.place();
     let end = fitting(numbers, 24)?;
@@ -242,7 +242,7 @@ fn end_after(numbers: &mut Numbers, start: u32) -> Result<u32, Refused> {
     }
 }
 
-/// From Q_FRONT to Q_Low_Adhesion_Rate, each 0 where the type does not use it.
+/// Reads the numbers from Q_FRONT to Q_Low_Adhesion_Rate; a number that the type does not use must be 0.
 fn constraint_type(numbers: &mut Numbers, number: u32) -> Result<ConstraintType, Refused> {
     let (speed, adhesion) = (number == 0, number == 1);
     let front = within(numbers, 0, if speed { 1 } else { 0 })? == 1;
@@ -259,7 +259,7 @@ fn flag(numbers: &mut Numbers) -> Result<bool, Refused> {
     Ok(within(numbers, 0, 1)? == 1)
 }
 
-/// A number that says nothing.
+/// Reads a number that is not used: it must be 0.
 fn zero(numbers: &mut Numbers) -> Result<(), Refused> {
     within(numbers, 0, 0).map(|_| ())
 }

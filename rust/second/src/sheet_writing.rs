@@ -5,7 +5,7 @@ use crate::journey::*;
 use crate::numbers::push;
 use crate::segment::*;
 
-/// The sheet of what is carried.
+/// Returns the sheet of a segment or journey.
 pub fn sheet_of(carried: &Carried) -> Vec<u8> {
     let numbers = match carried {
         Carried::Segment(segment) => segment_numbers(segment),
@@ -36,7 +36,7 @@ fn timing_point(numbers: &mut Vec<u32>, point: &TimingPoint) {
     numbers.extend(point.stop.halt());
 }
 
-/// The last number, 0, is no limit of current.
+/// Adds the numbers of a temporary constraint; the last number, 0, stands for no limit of current.
 fn temporary_constraint(numbers: &mut Vec<u32>, constraint: &Constraint) {
     numbers.extend([constraint.kind.number(), constraint.range.number()]);
     numbers.extend(constraint.range.locations());
@@ -88,14 +88,14 @@ fn entry(entry: &Entry) -> [u32; 3] {
     }
 }
 
-/// What stands at the start has no location of its own.
+/// Adds the location of a list's item; the first item, at the start, has none.
 fn place_of(numbers: &mut Vec<u32>, place: usize, location: u32) {
     if place > 0 {
         numbers.push(location);
     }
 }
 
-/// The number of changes follows what stands at the start.
+/// Adds the count of changes after the first item of a list.
 fn count_after_first(numbers: &mut Vec<u32>, place: usize, items: usize) {
     if place == 0 {
         numbers.push(items as u32 - 1);

@@ -17,13 +17,13 @@ impl Train {
         (1..=150_000).contains(&self.length) && CANTS.contains(&self.cant)
     }
 
-    /// Whether the train belongs to a category: 0 freight in P position, 1 freight in G position, 2 passenger.
+    /// Returns whether the train belongs to a category: 0 freight in P position, 1 freight in G position, 2 passenger.
     fn belongs(&self, category: u32) -> bool {
         [self.freight_p, self.freight_g, self.passenger][category as usize]
     }
 }
 
-/// The permitted speed of a train at location `x` of a segment.
+/// Returns the permitted speed in km/h of a train at location `x`, in cm, of a segment.
 pub fn permitted(segment: &Segment, train: &Train, x: u32) -> Result<u32, Refused> {
     if !train.is_allowed() {
         return Err(Refusal::Train.nowhere());
@@ -38,13 +38,13 @@ pub fn permitted(segment: &Segment, train: &Train, x: u32) -> Result<u32, Refuse
     Ok(speed.expect("the elements together cover the segment"))
 }
 
-/// Whether an element holds at x: from its start to its end, with Q_FRONT 0 to its end plus the train's length.
+/// Returns whether an element holds at `x`: from its start to its end, with Q_FRONT 0 to its end plus the train's length.
 fn holds(element: &Element, end: u32, train: &Train, x: u32) -> bool {
     let delay = if element.front { 0 } else { train.length };
     element.start <= x && x < end + delay
 }
 
-/// An element's speed for a train.
+/// Returns an element's speed in km/h for a train.
 fn speed_of(element: &Element, train: &Train) -> u32 {
     let by_cant = figure_for(element, train.cant).and_then(|figure| lowest(element, |class| *class == Class::Cant(figure)));
     let instead = lowest(element, |class| matches!(class, Class::Instead(category) if train.belongs(*category)));
@@ -53,12 +53,12 @@ fn speed_of(element: &Element, train: &Train) -> u32 {
     lower.map_or(speed, |lower| lower.min(speed))
 }
 
-/// The lowest speed of an element's entries of some classes.
+/// Returns the lowest speed of an element's entries of some classes.
 fn lowest(element: &Element, named: impl Fn(&Class) -> bool) -> Option<u32> {
     element.entries.iter().filter(|entry| named(&entry.class)).map(|entry| entry.speed).min()
 }
 
-/// The cant deficiency whose entries count for a train: its own where an entry names it, else the next lower one that is named.
+/// Returns the cant deficiency whose entries count for a train: its own if an entry names it, else the next lower one that an entry names.
 fn figure_for(element: &Element, own: u32) -> Option<u32> {
     let downwards = CANTS.iter().rev().skip_while(|figure| **figure > own);
     downwards.copied().find(|figure| element.entries.iter().any(|entry| entry.class == Class::Cant(*figure)))

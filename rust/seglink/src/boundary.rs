@@ -1,4 +1,4 @@
-//! The static library's functions as C declares them, and one safe call of each: the crate's only unsafe code.
+//! The functions of the static library as C declares them, and a safe function for each: the only unsafe code of the crate.
 #![allow(unsafe_code)]
 
 use crate::Train;
@@ -24,7 +24,7 @@ pub(crate) struct Altitude {
     pub(crate) altitude: i32,
 }
 
-/// The state of an intake, which the library alone makes.
+/// State of an intake; only the library makes one.
 #[derive(Clone, Copy, Debug)]
 #[repr(C)]
 pub(crate) struct State {
@@ -34,7 +34,7 @@ pub(crate) struct State {
     pub(crate) place: u32,
 }
 
-// As in include/seglink.h.
+// Declarations as in include/seglink.h.
 pub(crate) const KIND_PACKET: u32 = 0;
 pub(crate) const KIND_SHEET: u32 = 1;
 

@@ -2,8 +2,8 @@
 use crate::boundary::{self, State};
 use crate::{answer, filled, Refused, Unit, LARGEST_JOURNEY_SHEET};
 
-/// Takes packets that arrive in several deliveries, one packet after the other. However a packet was cut, its verdict and its sheet are those
-/// of its bytes given at once.
+/// Takes packets that arrive in several deliveries, one packet after the other. However a packet was cut, it gets the verdict and the sheet
+/// that its bytes get when they are given at once.
 ///
 /// ```
 /// use seglink::{Intake, Refusal, Refused, LARGEST_JOURNEY_PACKET};
@@ -31,27 +31,27 @@ pub struct Intake {
 }
 
 impl Intake {
-    /// An intake that has taken nothing, for packets of at most so many bytes: [`LARGEST_JOURNEY_PACKET`](crate::LARGEST_JOURNEY_PACKET)
-    /// is enough for any.
+    /// Makes an intake that has taken nothing, for packets of at most `capacity` bytes:
+    /// [`LARGEST_JOURNEY_PACKET`](crate::LARGEST_JOURNEY_PACKET) is enough for any packet.
     pub fn new(capacity: usize) -> Intake {
         Intake { state: boundary::intake_fresh(), room: vec![0; capacity] }
     }
 
-    /// Takes the next bytes of a packet, if there are any; after a verdict they are the next packet's first. Nothing is judged yet.
+    /// Takes the next bytes of a packet, if there are any; after a verdict they are the first bytes of the next packet. Nothing is judged yet.
     pub fn deliver(&mut self, delivery: &[u8]) {
         self.state = boundary::intake_deliver(self.state, delivery, &mut self.room);
     }
 
-    /// Judges the bytes delivered since the last verdict, and answers them where they are a packet. They are refused with
-    /// [`ShortRoom`](crate::Refusal::ShortRoom), before all others, if they exceed the capacity. The next packet starts afresh.
+    /// Judges the bytes delivered since the last verdict, and returns them if they are a packet. They are refused with
+    /// [`ShortRoom`](crate::Refusal::ShortRoom), before all other refusals, if they exceed the capacity. The next packet starts afresh.
     pub fn complete(&mut self) -> Result<&[u8], Refused> {
         self.state = boundary::intake_complete(self.state, &self.room);
         let State { length, refusal, place, .. } = self.state;
         answer(refusal, place, Unit::Bit, &self.room[..length as usize])
     }
 
-    /// The sheet of the packet that was judged, or its refusal again: until the next delivery that has bytes or the next completion. At any
-    /// other time the refusal is [`TooEarly`](crate::Refusal::TooEarly).
+    /// Returns the sheet of the packet that was judged, or its refusal again, until the next delivery that has bytes or the next completion.
+    /// At any other time the refusal is [`TooEarly`](crate::Refusal::TooEarly).
     pub fn sheet(&self) -> Result<Vec<u8>, Refused> {
         filled(LARGEST_JOURNEY_SHEET, |room| {
             let converted = boundary::intake_sheet(self.state, &self.room, room);

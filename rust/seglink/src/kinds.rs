@@ -1,4 +1,4 @@
-//! Kinds that no [`Segment`](crate::Segment) has, by the boundary: the library refuses them first of all.
+//! Tests of kinds that no [`Segment`](crate::Segment) has, handed over at the boundary: the library refuses them first of all.
 use crate::boundary::{permitted_speed, Speed};
 use crate::{answer, packet_of, Refusal, Train, Unit};
 

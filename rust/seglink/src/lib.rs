@@ -1,15 +1,15 @@
-//! The segment link in safe Rust: packets to sheets and back, packets that arrive in deliveries, permitted speeds and the altitude, by the
-//! proved static library.
+//! The segment link in safe Rust, over the proved static library: packets to sheets and back, packets that arrive in deliveries, permitted
+//! speeds and the altitude.
 //!
-//! Packets and sheets are a segment's (packet number 6) or a journey's (4). The conversions and an [`Intake`] take both, the questions a
-//! segment's alone.
+//! A packet or a sheet is of a segment (packet number 6) or of a journey (packet number 4). The conversions and an [`Intake`] take both,
+//! the questions take a segment alone.
 //! A segment has up to 31 changes of speed, 31 of voltage and 31 of current.
-//! A segment of a journey has up to 31 temporary constraints. What one's type and range do not use is 0; its current, which none uses, is
-//! 1,023 in the packet. Speeds, those of constraints too, are lowered to multiples of 5 km/h on their way to the packet.
+//! A segment of a journey has up to 31 temporary constraints. A field that a constraint's type and range do not use is 0; its current, which
+//! no type uses, is 1,023 in the packet. All speeds are lowered to multiples of 5 km/h on their way to the packet.
 //!
-//! An element of the speed profile gives a train the lowest speed of its entries by cant deficiency (Q_DIFF 0): of those that name the
-//! train's own figure, or else the greatest figure below it; V_STATIC where there are none. The lowest entry of the train's categories
-//! with Q_DIFF 1 replaces that speed, those with Q_DIFF 2 lower it. The permitted speed is the lowest of the elements that hold.
+//! An element of the speed profile gives a train the lowest speed of its entries by cant deficiency (Q_DIFF 0) that name the train's own
+//! figure or, if there are none, the greatest figure below it; V_STATIC if there are none either. The lowest entry with Q_DIFF 1 for a category
+//! of the train replaces that speed, entries with Q_DIFF 2 can only lower it. The permitted speed is the lowest of the elements that hold.
 //!
 //! Any bytes may be handed over. An operation answers, or gives the one [`Refusal`] that the build definition names, with its place,
 //! and then a lent room keeps every byte it had.
@@ -52,40 +52,40 @@ pub use refused::{Refused, Unit};
 pub use segment::Segment;
 pub use train::Train;
 
-/// The count of bytes of a segment's smallest packet.
+/// Bytes of a segment's smallest packet.
 pub const SMALLEST_PACKET: usize = 39;
-/// The count of bytes of a segment's largest packet: a room of this size holds any segment's.
+/// Bytes of a segment's largest packet: a room of this size holds the packet of any segment.
 pub const LARGEST_PACKET: usize = 2073;
-/// The count of bytes of a segment's largest sheet: a room of this size holds any segment's.
+/// Bytes of a segment's largest sheet: a room of this size holds the sheet of any segment.
 pub const LARGEST_SHEET: usize = 5728;
-/// The count of bytes of a journey's largest packet: a room of this size holds any packet.
+/// Bytes of a journey's largest packet: a room of this size holds any packet.
 pub const LARGEST_JOURNEY_PACKET: usize = 8207;
-/// A count of bytes that no journey's sheet exceeds: a room of this size holds any sheet.
+/// Bytes that no journey's sheet exceeds: a room of this size holds any sheet.
 pub const LARGEST_JOURNEY_SHEET: usize = 15226;
 
-/// Writes the sheet of a packet to the start of the room and answers its length; the room's bytes past it stay.
+/// Writes the sheet of a packet to the start of the room and returns the sheet's length; the bytes of the room past it stay.
 pub fn packet_to_sheet(packet: &[u8], room: &mut [u8]) -> Result<usize, Refused> {
     let converted = boundary::packet_to_sheet(packet, room);
     answer(converted.refusal, converted.place, Unit::Bit, converted.length as usize)
 }
 
-/// Writes the packet of a sheet to the start of the room and answers its length; the room's bytes past it stay.
+/// Writes the packet of a sheet to the start of the room and returns the packet's length; the bytes of the room past it stay.
 pub fn sheet_to_packet(sheet: &[u8], room: &mut [u8]) -> Result<usize, Refused> {
     let converted = boundary::sheet_to_packet(sheet, room);
     answer(converted.refusal, converted.place, Unit::Byte, converted.length as usize)
 }
 
-/// The sheet of a packet, in a room of its own: never refused with [`Refusal::ShortRoom`].
+/// Returns the sheet of a packet, in a room of its own: never refused with [`Refusal::ShortRoom`].
 pub fn sheet_of(packet: &[u8]) -> Result<Vec<u8>, Refused> {
     filled(LARGEST_JOURNEY_SHEET, |room| packet_to_sheet(packet, room))
 }
 
-/// The packet of a sheet, in a room of its own: never refused with [`Refusal::ShortRoom`].
+/// Returns the packet of a sheet, in a room of its own: never refused with [`Refusal::ShortRoom`].
 pub fn packet_of(sheet: &[u8]) -> Result<Vec<u8>, Refused> {
     filled(LARGEST_JOURNEY_PACKET, |room| sheet_to_packet(sheet, room))
 }
 
-/// The permitted speed in km/h of a train at `x` cm from the segment's start: by a packet's speeds, multiples of 5, or by a sheet's own.
+/// Returns the permitted speed in km/h of a train at `x` cm from the segment's start. A packet's speeds are multiples of 5 km/h.
 pub fn permitted_speed(segment: Segment<'_>, train: Train, x: u32) -> Result<u32, Refused> {
     let (kind, bytes, unit) = match segment {
         Segment::Packet(packet) => (boundary::KIND_PACKET, packet, Unit::Bit),
@@ -95,13 +95,13 @@ pub fn permitted_speed(segment: Segment<'_>, train: Train, x: u32) -> Result<u32
     answer(asked.refusal, asked.place, unit, asked.speed)
 }
 
-/// The altitude of a packet's segment in signed centimetres.
+/// Returns the altitude of a packet's segment in signed centimetres.
 pub fn altitude_of_packet(packet: &[u8]) -> Result<i32, Refused> {
     let asked = boundary::altitude_of_packet(packet);
     answer(asked.refusal, asked.place, Unit::Bit, asked.altitude)
 }
 
-/// What a conversion writes to a room of so many bytes.
+/// Lends a conversion a room of `size` bytes and returns the bytes that it wrote.
 fn filled(size: usize, convert: impl FnOnce(&mut [u8]) -> Result<usize, Refused>) -> Result<Vec<u8>, Refused> {
     let mut room = vec![0; size];
     let length = convert(&mut room)?;
@@ -109,7 +109,7 @@ fn filled(size: usize, convert: impl FnOnce(&mut [u8]) -> Result<usize, Refused>
     Ok(room)
 }
 
-/// Refusal 0 is success; the library is proved to give no number past those of [`Refusal`].
+/// Makes a result of a library's answer. Refusal 0 is success; the library is proved to give no other number that is not a [`Refusal`].
 fn answer<T>(refusal: u32, place: u32, unit: Unit, value: T) -> Result<T, Refused> {
     if refusal == 0 {
         return Ok(value);

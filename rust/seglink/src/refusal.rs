@@ -1,6 +1,6 @@
 //! The refusals of the build definition, each with its number and its ground.
 
-/// Why an operation refused. Where several grounds hold, the build definition's order decides which is given.
+/// Why an operation refused. If several grounds are met, the order of the build definition decides which refusal is given.
 #[derive(Clone, Copy, Debug, PartialEq, Eq, Hash)]
 #[non_exhaustive]
 pub enum Refusal {
@@ -71,22 +71,22 @@ const GROUNDS: [(Refusal, &str); 15] = [
 ];
 
 impl Refusal {
-    /// The build definition's number, 1 to 15.
+    /// Returns the number of the build definition, 1 to 15.
     pub fn number(self) -> u32 {
         self as u32
     }
 
-    /// The ground in words.
+    /// Returns the ground in words.
     pub fn ground(self) -> &'static str {
         GROUNDS[self.number() as usize - 1].1
     }
 
-    /// The refusal of a number, if there is one.
+    /// Returns the refusal with this number, if there is one.
     pub fn from_number(number: u32) -> Option<Refusal> {
         GROUNDS.iter().map(|&(refusal, _)| refusal).find(|refusal| refusal.number() == number)
     }
 
-    /// Whether it is given at a bit or a byte: 4, 5, 6, 7, 9 and 13. The place of every other is 0.
+    /// Returns whether the refusal is given at a bit or a byte: 4, 5, 6, 7, 9 and 13. The place of every other refusal is 0.
     pub fn has_place(self) -> bool {
         use Refusal::*;
         matches!(self, FieldValue | ChangeLocation | BodyBits | PaddingBit | SheetForm | BitsLeft)

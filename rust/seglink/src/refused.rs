@@ -3,20 +3,20 @@ use crate::Refusal;
 use std::error::Error;
 use std::fmt;
 
-/// Why an operation refused, and where. It prints both, as `6 at bit 300: a field does not fit in the body's remaining bits`.
+/// Why an operation refused, and where. Prints as `6 at bit 300: a field does not fit in the body's remaining bits`.
 #[derive(Clone, Copy, Debug, PartialEq, Eq, Hash)]
 #[non_exhaustive]
 pub struct Refused {
-    /// Why.
+    /// Why the operation refused.
     pub refusal: Refusal,
-    /// Where, counted from 0 at the packet's or the sheet's start: the first bit of the field or the first byte of the number at fault;
-    /// the first bit or byte that is left; the first padding bit that is 1. It is 0 for a refusal that [has no place](Refusal::has_place).
+    /// Where the fault is, counted from 0 at the start of the packet or sheet: the first bit of the field or the first byte of the number at
+    /// fault; the first bit or byte that is left; the first padding bit that is 1. 0 for a refusal that [has no place](Refusal::has_place).
     pub place: u32,
-    /// What the place counts.
+    /// Unit of the place.
     pub unit: Unit,
 }
 
-/// What a place counts.
+/// Unit of a place.
 #[derive(Clone, Copy, Debug, PartialEq, Eq, Hash)]
 #[non_exhaustive]
 pub enum Unit {

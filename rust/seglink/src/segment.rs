@@ -1,10 +1,10 @@
-//! The segment of the speed question, as one of its kinds.
+//! The segment of a speed question: a packet or a sheet.
 
-/// A segment, as the speed question takes it: any bytes may be handed over, and those that are not such a segment's are refused.
+/// A segment, as the speed question takes it: any bytes may be handed over, and bytes that are not a segment's packet or sheet are refused.
 #[derive(Clone, Copy, Debug, PartialEq, Eq)]
 pub enum Segment<'a> {
-    /// Its packet, whose speeds are multiples of 5 km/h.
+    /// The segment's packet, whose speeds are multiples of 5 km/h.
     Packet(&'a [u8]),
-    /// Its sheet, with its own speeds.
+    /// The segment's sheet, whose speeds are in km/h.
     Sheet(&'a [u8]),
 }

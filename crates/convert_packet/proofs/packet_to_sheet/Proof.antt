@@ -1,4 +1,4 @@
--- `to_sheet::packet_to_sheet` meets its contract.
+-- `convert_packet::packet_to_sheet` meets its contract.
 use mathlib.Core.Path.{_∙_}
 use denote.Ref.{now}
 use Rattle.convert_packet.proofs.ToSheet.{sheet-by-tree}

@@ -1,4 +1,4 @@
--- `to_sheet::tree_of` meets its contract.
+-- `convert_packet::tree_of` meets its contract.
 use mathlib.Core.Path.{ap, _∙_}
 use denote.Ref.{now}
 use lib.Dec.{lit≤, lit<}

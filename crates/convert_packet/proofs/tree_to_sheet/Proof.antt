@@ -1,4 +1,4 @@
--- `to_sheet::tree_to_sheet` meets its contract.
+-- `convert_packet::tree_to_sheet` meets its contract.
 use Rattle.convert_packet.proofs.ToSheet.{sheet-refused, sheet-too-long, sheet-writable, sheet-short, sheet-done}
 use mathlib.Core.Path.{sym, _∙_}
 use denote.Ref.{now}

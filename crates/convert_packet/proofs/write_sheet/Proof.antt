@@ -1,4 +1,4 @@
--- `to_sheet::write_sheet` meets its contract.
+-- `convert_packet::write_sheet` meets its contract.
 use Rattle.numbers.specs.Numbers.{groupsIn}
 use Rattle.numbers.specs.internal.Groups.{Put}
 use lib.Seq.{length-sets}

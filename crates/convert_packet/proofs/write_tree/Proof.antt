@@ -1,4 +1,4 @@
--- `to_sheet::write_tree` meets its contract.
+-- `convert_packet::write_tree` meets its contract.
 use borrow.Author.Needs.{needs}
 use Rattle.convert_packet.proofs.write_tree.Statement.{statement}
 use Rattle.convert_packet.proofs.write_tree.Tie as tie

@@ -1,4 +1,4 @@
--- `to_packet::counted` meets its contract.
+-- `convert_sheet::counted` meets its contract.
 use mathlib.Core.Path.{sym, _∙_}
 use denote.Ref.{now}
 use Rattle.bits.proofs.Padding.{bytes-of}

@@ -1,4 +1,4 @@
--- `to_packet::sheet_to_packet` meets its contract.
+-- `convert_sheet::sheet_to_packet` meets its contract.
 use mathlib.Core.Path.{_∙_}
 use denote.Ref.{now}
 use Rattle.convert_sheet.proofs.ToPacket.{packet-by-tree}

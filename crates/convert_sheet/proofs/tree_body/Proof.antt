@@ -1,4 +1,4 @@
--- `to_packet::tree_body` meets its contract.
+-- `convert_sheet::tree_body` meets its contract.
 use borrow.Author.Needs.{needs}
 use Rattle.convert_sheet.proofs.tree_body.Statement.{statement}
 use Rattle.convert_sheet.proofs.tree_body.Tie as tie

@@ -1,4 +1,4 @@
--- `to_packet::tree_header` meets its contract.
+-- `convert_sheet::tree_header` meets its contract.
 use borrow.Author.Needs.{needs}
 use Rattle.convert_sheet.proofs.tree_header.Statement.{statement}
 use Rattle.convert_sheet.proofs.tree_header.Tie as tie

@@ -1,4 +1,4 @@
--- `to_packet::tree_of` meets its contract.
+-- `convert_sheet::tree_of` meets its contract.
 use mathlib.Core.Path.{ap, sym, _∙_}
 use Rattle.grammar.specs.internal.link.Trees.{byNumber}
 use borrow.Author.Needs.{needs}

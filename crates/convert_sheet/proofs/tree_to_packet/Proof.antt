@@ -1,4 +1,4 @@
--- `to_packet::tree_to_packet` meets its contract.
+-- `convert_sheet::tree_to_packet` meets its contract.
 use Rattle.convert_sheet.proofs.ToPacket.{packet-refused, packet-accepts, packet-bits, packet-low, packet-high, packet-too-long, body-long, packet-done}
 use Rattle.convert_sheet.proofs.Parts.{room-whole, room-rest}
 use Rattle.bits.proofs.Padding.{bytes-of}

@@ -1,4 +1,4 @@
--- `to_packet::write_body` meets its contract.
+-- `convert_sheet::write_body` meets its contract.
 use mathlib.Core.Path.{sym, ap₂, _∙_}
 use mathlib.Core.List.{List, _++_}
 use Prim.Native.Nat.{ℕ}

@@ -1,4 +1,4 @@
--- `to_packet::write_header` meets its contract.
+-- `convert_sheet::write_header` meets its contract.
 use denote.Ref.{now}
 use lib.Dec.{lit<, lit≤}
 use Rattle.bits.proofs.Padding.{bytes-of}

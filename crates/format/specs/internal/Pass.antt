@@ -1,4 +1,4 @@
--- A pass over a tree: the fields are taken in order, each adds to what was made before it, and the end or a refusal gives the answer. What the code below a promise is held to; no promise names it.
+-- A pass over a tree: it takes the fields in order, adds each value to what it made before, and answers at the end or at a refusal. Used by contracts of the code; no promise names these.
 use mathlib.Core.List.{List, [], _∷_}
 use Prim.Native.Nat.{ℕ, _+_}
 use lib.ListN.{length}
@@ -20,7 +20,7 @@ abbrev pub ofStep : {A B : Type 0} → (ℕ → B) → FieldStep A → (Item →
 ofStep refusal (step i s) go = go i s
 ofStep refusal (stop r) go = refusal r
 
--- the same of a field taken at a place, and of a field's value judged
+-- the answer from a field taken at a place, and from a field's value judged
 abbrev pub ofTaken : {B : Type 0} → (ℕ → B) → Taken → (Item → ℕ → B) → B
 ofTaken refusal (Taken.Is i to) go = go i to
 ofTaken refusal (Taken.Refused r) go = refusal r

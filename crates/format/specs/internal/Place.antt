@@ -1,4 +1,4 @@
--- The tree after a value, and after some values on which nothing depends. What the code below a promise is held to; no promise names it.
+-- The tree after a value, and after some fields on whose values nothing depends. Used by contracts of the code; no promise names these.
 use Prim.Native.Nat.{ℕ, zero, suc}
 use Rattle.format.specs.Format.{Format, end, field}
 

@@ -1,4 +1,4 @@
--- A field taken at a place: a bit of a packet, a byte of a sheet. What the code below a promise is held to; no promise names it.
+-- A field taken at a place: a bit of a packet, a byte of a sheet. Used by contracts of the code; no promise names these.
 use mathlib.Core.Bool.{Bool, cond}
 use mathlib.Core.List.{List}
 use Prim.Native.Nat.{ℕ, _+_, _*_, _-_, _^_, _≤_, _<_}

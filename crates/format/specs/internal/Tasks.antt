@@ -1,4 +1,4 @@
--- Tasks over any tree: to count what another medium writes, and to write it. No promise names them.
+-- Tasks over any tree: to count what another medium writes, and to write it. Used by contracts of the code; no promise names these.
 use mathlib.Core.List.{List, _++_}
 use Prim.Native.Nat.{ℕ, _+_, _%_}
 use lib.ListN.{length}
@@ -19,7 +19,7 @@ Whole (Told.not r at) = ⊥
 abbrev pub counting : {A C : Type 0} → Medium A → (ℕ → C) → (ℕ → ℕ → C) → Task ℕ C
 counting out answer refusal = record { on = λ k i n. n + length (out .put k i); answer = answer; refusal = refusal }
 
--- the same round a number m, as a machine counts
+-- how long what is written of the values is, modulo m
 abbrev pub countingWithin : {A C : Type 0} → ℕ → Medium A → (ℕ → C) → (ℕ → ℕ → C) → Task ℕ C
 countingWithin m out answer refusal = record { on = λ k i n. (n + length (out .put k i)) % m; answer = answer; refusal = refusal }
 

@@ -1,4 +1,4 @@
--- A step over a part of a tree, in a pass that carries anything from place to place. What the code below a promise is held to; no promise names it.
+-- A step over a part of a tree, in a pass that may carry anything from place to place. Used by contracts of the code; no promise names these.
 use mathlib.Core.Path.{_≡_}
 use mathlib.Core.List.{List}
 use Prim.Native.Nat.{ℕ}
@@ -22,7 +22,7 @@ pub data Went (X : Type 0) : Type 0 where
   on : ℕ → X → Went X
   off : ℕ → ℕ → Went X
 
--- the same of one field, with its value
+-- where a step over one field leads: to its value and a place, with what is carried there, or to a refusal with its place
 pub data Got (X : Type 0) : Type 0 where
   is : ℕ → ℕ → X → Got X
   off : ℕ → ℕ → Got X
@@ -50,7 +50,7 @@ module _ {X B : Type 0} (w : Way X B) where
     pub goes : (f : Format) → w .run (part f) at x ≡ onward r (w .run f)
     pub stands : Stands r
 
-  -- the same of one field, on whose value what follows may depend
+  -- A step over one field, on whose value what follows may depend.
   pub record Took (k : Kind) (at : ℕ) (x : X) (r : Got X) : Type 0 where
     pub goes : (next : ℕ → Format) → w .run (field k next) at x ≡ withValue r (λ v. w .run (next v))
     pub stands : Holds r

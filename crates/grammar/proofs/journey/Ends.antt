@@ -1,4 +1,4 @@
--- The ends of a journey: 11 bits of a body at least, 8 bytes of a sheet at least, and at most 15,226 bytes of a sheet whose packet's body has at most 65,535 bits; and that they are reached.
+-- The ends of a journey: a body has at least 11 bits, a sheet at least 8 bytes, and at most 15,226 bytes where its packet's body has at most 65,535 bits. Each end is reached.
 use mathlib.Core.Path.{_≡_}
 use mathlib.Core.Bool.{true}
 use mathlib.Core.List.{List, [], _∷_}
@@ -43,8 +43,8 @@ pub bit-costs : Costs bits bits
 bit-costs = record {
   low = 51;
   high = 51;
-  is-low = λ stop a. omega arith;
-  is-high = λ stop b. omega arith;
+  is-low = λ stopSkipPasses a. omega arith;
+  is-high = λ stopSkipPasses b. omega arith;
   constrained = 69;
   is-constrained = λ type range start. omega (arith, end-width range start, level-width type);
 }
@@ -54,8 +54,8 @@ unfolding groupsIn
 group-costs = record {
   low = 10;
   high = 15;
-  is-low = λ stop a. omega arith;
-  is-high = λ stop b. by-cases (eqb stop 2) (λ e. rw e (omega arith)) (λ e. rw e (omega arith));
+  is-low = λ stopSkipPasses a. omega arith;
+  is-high = λ stopSkipPasses b. by-cases (eqb stopSkipPasses 2) (λ e. rw e (omega arith)) (λ e. rw e (omega arith));
   constrained = 13;
   is-constrained = λ type range start. let g = constraint-groups type range start in omega (arith, g .first, g .rest);
 }
@@ -72,7 +72,7 @@ module _ (limit : ℕ) (few : limit ≤ 31) where
   unfolding bit-costs
   fields-bits = within (96 + 11) (96 + 1614416) (fields-measured bit-costs limit few) (lit≤ tt) (lit≤ tt)
 
-  -- with the packet number's 8, as a sheet is judged
+  -- the 96 bits, the body's bits, and 8 bits of the packet number, which a sheet has too
   pub sheet-bits : Measured bits bits (journeySheet limit) (104 + 11) (104 + 1614416)
   unfolding bit-costs
   sheet-bits = within (104 + 11) (104 + 1614416) (sheet-measured bit-costs limit few) (lit≤ tt) (lit≤ tt)
@@ -82,7 +82,7 @@ module _ (limit : ℕ) (few : limit ≤ 31) where
   unfolding groupsIn group-costs
   sheet-groups = within 8 359318 (sheet-measured group-costs limit few) (lit≤ tt) (omega (arith, count-most limit 31 few))
 
--- ---- 4,068 bytes weigh no more than 944 bits: a segment full of timing points has 944 bytes in its sheet for 4,068 bits
+-- ---- bytes times 4,068 against bits times 944: a segment full of timing points has 944 bytes in its sheet for 4,068 bits
 
 abbrev bytesWeight : Kind → ℕ
 bytesWeight k = 4068 * groups k
@@ -101,7 +101,7 @@ module _ {f : Format} {add leave : ℕ} (rest : Weigh f add leave) where
   row-weighed (w ∷ ws) [] e = no-row e
   row-weighed (w ∷ ws) (m ∷ ms) e = let h = first-fits w m ws ms e in more (first-lawful h) λ _ _. row-weighed ws ms (h .rest)
 
--- with more to add, and less to leave
+-- a bound with a larger add, or a smaller leave
 loosely : {f : Format} {a b : ℕ} (add leave : ℕ) → Weigh f a b → a + leave ≤ add + b → Weigh f add leave
 loosely add leave w h = looser w h
 
@@ -110,14 +110,14 @@ module _ {f : Format} {add leave : ℕ} where
   point-weighed : Weigh f add leave → Weigh (timingPoint f) (264 + add) leave
   unfolding groupsIn
   point-weighed w =
-      rw (point-rows f) (loosely (264 + add) leave (row-weighed (more (upTo-lawful 2 2 (narrow tt) (lit< tt)) λ stop _.
-      loosely (4068 * 15 + add) (944 * 51 + leave) (row-weighed w stoppingWidths (stoppingMost stop) (stopping-fits stop)) (stopping stop))
+      rw (point-rows f) (loosely (264 + add) leave (row-weighed (more (upTo-lawful 2 2 (narrow tt) (lit< tt)) λ stopSkipPasses _.
+      loosely (4068 * 15 + add) (944 * 51 + leave) (row-weighed w stoppingWidths (stoppingMost stopSkipPasses) (stopping-fits stopSkipPasses)) (stopping stopSkipPasses))
       arrivalWidths arrivalMost arrival-fits) (omega arith))
     where
-      stopping : (stop : ℕ) → sum bytesWeight stoppingWidths (stoppingMost stop) add + (944 * 51 + leave) ≤ 4068 * 15 + add + sum bitsWeight stoppingWidths (stoppingMost stop) leave
-      stopping stop = by-cases (eqb stop 2) (λ e. rw e (omega arith)) (λ e. rw e (omega arith))
+      stopping : (stopSkipPasses : ℕ) → sum bytesWeight stoppingWidths (stoppingMost stopSkipPasses) add + (944 * 51 + leave) ≤ 4068 * 15 + add + sum bitsWeight stoppingWidths (stoppingMost stopSkipPasses) leave
+      stopping stopSkipPasses = by-cases (eqb stopSkipPasses 2) (λ e. rw e (omega arith)) (λ e. rw e (omega arith))
 
--- a part n times, where it adds so much
+-- a part n times, where the part adds each
 times-weighed : (part : Format → Format) (each : ℕ) → ((f : Format) (add leave : ℕ) → Weigh f add leave → Weigh (part f) (each + add) leave)
     → {f : Format} {add leave : ℕ} → Weigh f add leave → (n : ℕ) → Weigh (times part n f) (n * each + add) leave
 unfolding times

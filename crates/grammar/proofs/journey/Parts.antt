@@ -15,7 +15,7 @@ pub segment-rows : (limit : ℕ) (f : Format) → journeySegment limit f ≡ row
 unfolding row
 segment-rows limit f = refl
 
-pub point-rows : (f : Format) → timingPoint f ≡ row arrivalWidths arrivalMost (field qStopSkipPasses λ stop. row stoppingWidths (stoppingMost stop) f)
+pub point-rows : (f : Format) → timingPoint f ≡ row arrivalWidths arrivalMost (field qStopSkipPasses λ stopSkipPasses. row stoppingWidths (stoppingMost stopSkipPasses) f)
 unfolding row
 point-rows f = refl
 
@@ -25,5 +25,5 @@ segment-fits = refl
 pub arrival-fits : fits arrivalWidths arrivalMost ≡ true
 arrival-fits = refl
 
-pub stopping-fits : (stop : ℕ) → fits stoppingWidths (stoppingMost stop) ≡ true
-stopping-fits stop = by-cases (eqb stop 2) (λ e. rw e) (λ e. rw e)
+pub stopping-fits : (stopSkipPasses : ℕ) → fits stoppingWidths (stoppingMost stopSkipPasses) ≡ true
+stopping-fits stopSkipPasses = by-cases (eqb stopSkipPasses 2) (λ e. rw e) (λ e. rw e)

@@ -41,7 +41,7 @@ where-most false most = omega arith
 most-where : (used : Bool) (most width : ℕ) → most < 2 ^ width → mostWhere used most < 2 ^ width
 most-where used most width h = omega (arith, where-most used most)
 
--- their widths, and their highest numbers in a sheet
+-- the widths of the end and the speed, and their highest numbers in a sheet
 pub end-width : (range start : ℕ) → dTcEndLocation range start .width ≡ 24
 end-width range start = by-range (λ k. k .width ≡ 24) range start refl refl
 
@@ -54,7 +54,7 @@ end-highest range start = by-range (λ k. k .highest ≤ 16777215) range start (
 level-highest : (type : ℕ) → vSpeedLevel type .highest ≤ 604
 level-highest type = by-type (λ k. k .highest ≤ 604) type (le-refl _) (lit≤ tt)
 
--- the bytes of a constraint's numbers after its type and its range, those after the start apart
+-- the most bytes of a constraint's start in a sheet, and of the numbers after the start
 pub record Groups (type range start : ℕ) : Type 0 where
   pub first : length (groupsIn (dTcStartLocation range .highest)) ≤ 4
   pub rest : length (groupsIn (dTcEndLocation range start .highest)) + (length (groupsIn (qTcFront type .highest)) + (length (groupsIn (vSpeedLevel type .highest))
@@ -94,16 +94,16 @@ abbrev pub constraintSum : (Kind → ℕ) → ℕ → ℕ → ℕ → ℕ
 constraintSum cost type range start =
     cost (dTcStartLocation range) + (cost (dTcEndLocation range start) + (cost (qTcFront type) + (cost (vSpeedLevel type) + (cost (qLowAdhesionRate type) + cost noCurrent))))
 
--- bounds of the parts that depend on the kind of the stop, or on the type and the range of a constraint
+-- bounds of the parts that depend on Q_Stop_Skip_Passes, or on the type and the range of a constraint
 pub record Costs (lo hi : Kind → ℕ) : Type 0 where
   pub low : ℕ
   pub high : ℕ
-  pub is-low : (stop a : ℕ) → low + a ≤ sum lo stoppingWidths (stoppingMost stop) a
-  pub is-high : (stop b : ℕ) → sum hi stoppingWidths (stoppingMost stop) b ≤ high + b
+  pub is-low : (stopSkipPasses a : ℕ) → low + a ≤ sum lo stoppingWidths (stoppingMost stopSkipPasses) a
+  pub is-high : (stopSkipPasses b : ℕ) → sum hi stoppingWidths (stoppingMost stopSkipPasses) b ≤ high + b
   pub constrained : ℕ
   pub is-constrained : (type range start : ℕ) → constraintSum hi type range start ≤ constrained
 
--- a part n times, where it adds at most so much
+-- a part n times, where the part adds at most high
 times-measured : {lo hi : Kind → ℕ} (part : Format → Format) (high : ℕ) → ((f : Format) (a b : ℕ) → Measured lo hi f a b → Measured lo hi (part f) a (high + b))
     → {f : Format} {a b : ℕ} → Measured lo hi f a b → (n : ℕ) → Measured lo hi (times part n f) a (n * high + b)
 unfolding times
@@ -117,8 +117,8 @@ module _ {lo hi : Kind → ℕ} (c : Costs lo hi) where
   point-measured : {f : Format} {a b : ℕ} → Measured lo hi f a b → Measured lo hi (timingPoint f) a (pointHigh + b)
   point-measured {f} {a} {b} m =
       rw (point-rows f) (within a (pointHigh + b)
-      (row-measured (plus (upTo-lawful 2 2 (narrow tt) (lit< tt)) λ stop _.
-      within (c .low + a) (c .high + b) (row-measured m stoppingWidths (stoppingMost stop) (stopping-fits stop)) (c .is-low stop a) (c .is-high stop b))
+      (row-measured (plus (upTo-lawful 2 2 (narrow tt) (lit< tt)) λ stopSkipPasses _.
+      within (c .low + a) (c .high + b) (row-measured m stoppingWidths (stoppingMost stopSkipPasses) (stopping-fits stopSkipPasses)) (c .is-low stopSkipPasses a) (c .is-high stopSkipPasses b))
       arrivalWidths arrivalMost arrival-fits) (omega arith) (omega arith))
 
   abbrev pub constraintHigh : ℕ

@@ -1,4 +1,4 @@
--- How long the sheet of a tree is at most, by the bits of its packet: p bytes weigh no more than q bits, but for what the tree itself adds or leaves. A law for any tree.
+-- How long the sheet of a tree is at most, by the bits of its packet: p times the bytes and leave are at most q times the bits and add. A law for any tree.
 use mathlib.Core.Path.{_≡_}
 use mathlib.Core.Bool.{true}
 use mathlib.Core.List.{List}
@@ -16,7 +16,7 @@ use Rattle.format.specs.Format.{Format, end, field, write}
 use Rattle.format.specs.Media.{packet, sheet}
 use Rattle.format.specs.Conforming.{Conforming, done, also, InSheet}
 
--- the tree may add more to the bytes, and leaves so many of the bits
+-- p times the bytes of a tree's sheet and leave are at most q times the bits of its packet and add, for the factors p and q
 pub data Weighed (p q : ℕ) : Format → ℕ → ℕ → Type 0 where
   empty : Weighed p q end 0 0
   more : {k : Kind} {next : ℕ → Format} {add leave : ℕ} → LawfulKind k → ((v : ℕ) → k .allowed v ≡ true → Weighed p q (next v) add leave)

@@ -1,4 +1,4 @@
--- The ends of what is on the link: how long a packet and a sheet are, whichever of the two it is.
+-- The ends of what is on the link: how long a packet and a sheet are, of a segment or a journey.
 use mathlib.Core.Path.{_≡_, ap}
 use mathlib.Core.Bool.{_||_}
 use mathlib.Core.List.{List, _∷_}
@@ -40,7 +40,7 @@ number-cases a v e journeys segments =
     (λ c. let n = eqb-true a 6 c in segments n (omega arith)))
     (λ d. let f : none ≡ some v = rw d at e in absurd (let z : _≡_ {A = ℕ} 0 1 = cc in omega arith))
 
--- the values of a sheet on the link are those of its tree
+-- the values of a sheet on the link are values of its tree
 pub tree-conforming : {C : Type 0} {i : Item} {l : List Item} → Conforming InSheet linkFields (i ∷ l)
     → ((t : Tree) → i ≡ numberItem (treeNumber t) → Conforming InSheet (treeFields t) l → Conforming InSheet (treeSheetFields t) (i ∷ l) → C) → C
 unfolding linkFields
@@ -70,14 +70,14 @@ tree-bytes Journey l c h = (
   journey.sheet-most constraints (lit≤ tt) c (rw (length-append (bitsOf 8 4) (write packet (treeFields Journey) l)) (omega arith)),
 )
 
--- the sheet and the bits of what is on the link are those of its tree
+-- the sheet and the bits of values on the link are the sheet and the bits of their tree
 sheet-is : (t : Tree) (l : List Item) → toEitherSheet (numberItem (treeNumber t) ∷ l) ≡ write sheet (treeSheetFields t) (numberItem (treeNumber t) ∷ l)
 sheet-is t l = tree-sheet t l
 
 pub bits-is : (t : Tree) (l : List Item) → linkBits (numberItem (treeNumber t) ∷ l) ≡ write packet (treeFields t) l
 bits-is t l = ap (λ (u : Tree). write packet (treeFields u) l) (tree-again t)
 
--- of a sheet's values, and so of a packet's
+-- sizes and packet number of a sheet's values
 module _ {l : List Item} (v : EitherSheetValues l) where
   by-tree : (C : List Item → Type 0) → ((t : Tree) (m : List Item) → Conforming InSheet (treeFields t) m → Conforming InSheet (treeSheetFields t) (numberItem (treeNumber t) ∷ m)
       → length (write packet (treeFields t) m) ≤ 96 + 65535 → C (numberItem (treeNumber t) ∷ m)) → C l
@@ -101,6 +101,6 @@ module _ {l : List Item} (v : EitherSheetValues l) where
       let n = tree-bits t r in
       rw (tree-packet t m, framed-length (treeNumber t) (write packet (treeFields t) m)) (omega arith, omega arith)
 
-  -- the packet number is the tree's
+  -- the packet number is the number of its tree
   pub number-kept : treeNumber (treeOf (numberAmong l)) ≡ numberAmong l
   number-kept = by-tree (λ k. treeNumber (treeOf (numberAmong k)) ≡ numberAmong k) λ t m r x few. ap treeNumber (tree-again t)

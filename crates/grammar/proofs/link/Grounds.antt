@@ -1,4 +1,4 @@
--- A packet and a sheet of the link are refused exactly on their grounds, and the refusals are those listed.
+-- A packet and a sheet of the link are refused exactly on their grounds, and each refusal is in the list of refusals.
 use mathlib.Core.Path.{_≡_, refl, sym, ap, _∙_}
 use mathlib.Core.List.{List, [], _∷_, _++_}
 use mathlib.Core.Logic.{_↔_}
@@ -57,7 +57,7 @@ module _ (s : List ℕ) (r place : ℕ) where
       back (ofJourney n g) = journey-judged s n ∙ packet-grounds (treeNumber Journey) (treeFields Journey) s r place .1 g
       back (ofSegment n g) = segment-judged s n ∙ packet-grounds (treeNumber Segment) (treeFields Segment) s r place .1 g
 
-  -- what the count of bits refuses
+  -- a sheet that is refused by its numbers, or with 12 by the count of its body's bits
   count-refused : {C : Type 0} (t : Read) → withinCount t ≡ refused r place → (t ≡ refused r place → C)
       → ((l : List Item) → t ≡ accepted l → 96 + 65535 < length (linkBits l) → r ≡ 12 → place ≡ 0 → C) → C
   count-refused (refused q m) e own long = own e
@@ -82,7 +82,7 @@ module _ (s : List ℕ) (r place : ℕ) where
 
 -- ---- every field of a journey is refused with 4, the end of a constraint with 5 too
 
--- a part in front of any format
+-- a part that can stand in front of any format: its fields have a refusal of `FieldRefusal` too
 abbrev Kept : (Format → Format) → Type 0
 Kept front = (f : Format) → Every FieldRefusal f → Every FieldRefusal (front f)
 
@@ -94,7 +94,7 @@ times-refusals one (suc n) f e = one _ (times-refusals one n f e)
 point-refusals : Kept timingPoint
 point-refusals f e =
     each (asValue λ _. refl) λ _. each (asValue λ _. refl) λ _. each (asValue λ _. refl) λ _. each (asValue λ _. refl) λ _. each (asValue λ _. refl) λ _.
-    each (asValue λ _. refl) λ stop. each (asValue λ _. refl) λ _. each (asValue λ _. refl) λ _.
+    each (asValue λ _. refl) λ _. each (asValue λ _. refl) λ _. each (asValue λ _. refl) λ _.
     each (asValue λ _. refl) λ _. each (asValue λ _. refl) λ _. each (asValue λ _. refl) λ _. each (asValue λ _. refl) λ _.
     each (asValue λ _. refl) λ _. each (asValue λ _. refl) λ _. each (asValue λ _. refl) λ _. each (asValue λ _. refl) λ _. e
 
@@ -116,7 +116,7 @@ tree-refusals Journey =
     each (asValue λ _. refl) λ _. each (asValue λ _. refl) λ _. each (asValue λ _. refl) λ _. each (asValue λ _. refl) λ _. each (asValue λ _. refl) λ _.
     each (asValue λ _. refl) λ _. each (asValue λ _. refl) λ n. times-refusals (segment-refusals constraints) n _ atEnd
 
--- ---- the refusals are those listed
+-- ---- each refusal is in the list of refusals
 
 pub either-packet-listed : (s : List ℕ) (r place : ℕ) → EitherPacketGround s r place → Among r packetRefusals
 either-packet-listed s r place (ofJourney n g) = packet-listed (treeNumber Journey) (tree-refusals Journey) s r place g

@@ -1,4 +1,4 @@
--- Where a segment is accepted, it is accepted on the link, with the same values, sheet and packet.
+-- A segment that is accepted is accepted on the link, and has one list of values, one sheet and one packet in both.
 use mathlib.Core.Path.{_≡_, sym, ap, subst, _∙_}
 use mathlib.Core.Bool.{_&&_}
 use mathlib.Core.Option.{none, some}
@@ -52,7 +52,7 @@ six a v e =
     (omega arith, omega arith))
     (λ d. let f : none ≡ some v = rw d at e in absurd (let z : _≡_ {A = ℕ} 0 1 = cc in omega arith))
 
--- a segment's values on the link, with the same packet and sheet
+-- a segment's values on the link, whose packet and sheet are the segment's
 pub record OnLink (l : List Item) : Type 0 where
   pub values : EitherSheetValues l
   pub samePacket : toEitherPacket l ≡ toPacket wireChanges l

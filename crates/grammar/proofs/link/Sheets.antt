@@ -1,4 +1,4 @@
--- A sheet of the link is read by the tree of its first number, and what is written of the values of a tree is its own.
+-- A sheet of the link is read by the tree of its first number.
 use mathlib.Core.Path.{_≡_, refl}
 use mathlib.Core.Bool.{false, _&&_}
 use mathlib.Core.List.{List}
@@ -23,7 +23,7 @@ other a n d =
     (λ e. absurd (d (let p = leb-true n a (and-left (leb n a) (leb a n) e) in let q = leb-true a n (and-right (leb n a) (leb a n) e) in omega arith)))
     (λ e. e)
 
--- the same for what the first number is
+-- reading on from the first number n, by the link's tree and by the tree that n chooses
 by-first : (s : List ℕ) (n : Number) → follow 0 (numbered linkNumber n s) (λ i t. read sheet (treeFields (treeOf (i .packet))) (0 + length (groupsIn (i .sheet))) t)
     ≡ follow 0 (numbered (treeNumberKind (byNumber n)) n s) (λ i t. read sheet (treeFields (byNumber n)) (0 + length (groupsIn (i .sheet))) t)
 by-first s Bad = refl

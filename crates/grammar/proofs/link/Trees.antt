@@ -1,4 +1,4 @@
--- The packet number and its tree, either way round; both trees are lawful, and so is the one from the packet number on.
+-- The packet number of a tree, and the tree of a packet number; both trees are lawful, and the link's tree is lawful.
 use mathlib.Core.Path.{_≡_, refl}
 use mathlib.Core.Bool.{true}
 use mathlib.Core.List.{List}
@@ -36,7 +36,7 @@ pub tree-byte : (t : Tree) → treeNumber t < 256
 tree-byte Segment = lit< tt
 tree-byte Journey = lit< tt
 
--- a number that is allowed is its tree's
+-- a packet number that is allowed is the number of its tree
 pub number-again : (n : ℕ) → linkNumber .allowed n ≡ true → treeNumber (treeOf n) ≡ n
 number-again n e = or-cases (eqb n 4) (eqb n 6) e (λ d. rw (eqb-true n 4 d)) (λ d. rw (eqb-true n 6 d))
 

@@ -1,4 +1,4 @@
--- A row of fields, measured: its fields are lawful, and cost what the sums of their kinds' costs are.
+-- A row of fields, measured: its fields are lawful, and it costs the sum of the costs of their kinds.
 use mathlib.Core.Path.{_≡_}
 use mathlib.Core.Bool.{true, false, _&&_}
 use mathlib.Core.List.{List, [], _∷_}
@@ -16,7 +16,7 @@ use Rattle.grammar.specs.internal.rows.Rows.{row, fits}
 pub no-row : {C : Type 0} → false ≡ true → C
 no-row e = absurd (let z : _≡_ {A = ℕ} 0 1 = cc in omega arith)
 
--- the first field of a row, and those after it
+-- what is known of the first field of a row, and of the fields after it
 pub record First (w m : ℕ) (ws ms : List ℕ) : Type 0 where
   pub some : 1 ≤ w
   pub most : w ≤ 32

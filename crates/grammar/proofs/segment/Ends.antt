@@ -94,7 +94,7 @@ module _ (limit : ℕ) (h : limit ≤ 31) where
   unfolding bit-costs
   fields-bits = within (96 + 185) (96 + mostBits limit) (fields-measured bit-costs limit h) (lit≤ tt) (omega arith)
 
-  -- with the packet number's 8, as a sheet is judged
+  -- the 96 bits, the body's bits, and 8 bits of the packet number, which a sheet has too
   pub sheet-bits : Measured bits bits (sheetFields limit) (104 + 185) (104 + mostBits limit)
   unfolding bit-costs
   sheet-bits = within (104 + 185) (104 + mostBits limit) (sheetFields-measured bit-costs limit h) (lit≤ tt) (omega arith)

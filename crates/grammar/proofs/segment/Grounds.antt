@@ -1,4 +1,4 @@
--- A packet and a sheet are refused exactly on their grounds, each input has values or one ground, and the refusals are those listed.
+-- A packet and a sheet are refused exactly on their grounds, each input has values or one ground, and each refusal is in the list of refusals.
 use mathlib.Core.Path.{_≡_, refl, sym, ap, _∙_}
 use mathlib.Core.Bool.{Bool, true, false}
 use mathlib.Core.List.{List, [], _∷_, _++_}
@@ -100,7 +100,7 @@ sheet-grounds limit s r place ok = sheet-ground (sheetFields limit) 0 s r place 
 
 -- ---- a location of a change is refused with 5, every other field after the packet number with 4
 
--- a part in front of any format
+-- a part that can stand in front of any format: its fields have a refusal of `FieldRefusal` too
 abbrev Kept : (Format → Format) → Type 0
 Kept front = (f : Format) → Every FieldRefusal f → Every FieldRefusal (front f)
 
@@ -138,7 +138,7 @@ fields-refusals limit =
     each (asValue λ _. refl) λ lsp. each (asValue λ _. refl) λ _. each (asValue λ _. refl) λ _. each (asValue λ _. refl) λ _.
     part-refusals profile-refusals 31 lsp _ (part-refusals voltage-refusals limit lsp _ (part-refusals current-refusals limit lsp _ atEnd))
 
--- ---- the refusals are those listed
+-- ---- each refusal is in the list of refusals
 
 pub listed : {C : Type 0} {k : Kind} → FieldRefusal k → (v : ℕ) → (k .refusal v ≡ 4 → C) → (k .refusal v ≡ 5 → C) → C
 listed (asValue e) v value location = value (e v)
@@ -158,7 +158,7 @@ packet-listed n every s r place (inFields w (atField a)) = bits-listed (every-fr
 packet-listed n every s r place (inFields w (leftOver a)) = rw (a .number) (later (later (later (later (later (later (later first)))))))
 packet-listed n every s r place (inPadding w l a o e) = rw e (later (later (later (later (later (later first))))))
 
--- the refusals of a sheet's fields after the packet number, whose own is 2
+-- the refusals of a sheet's fields after the packet number, which is refused with 2
 pub numbers-refusals : {f : Format} → Every FieldRefusal f → Every (λ k. (v : ℕ) → Among (k .refusal v) sheetRefusals) f
 numbers-refusals e = every-map (λ k f v. listed f v (λ q. rw q (later first)) (λ q. rw q (later (later first)))) e
 
@@ -170,7 +170,7 @@ groups-listed : {k : Kind} {bytes : List ℕ} {r : ℕ} → ((v : ℕ) → Among
 groups-listed f (GroupsFault.numberless n e) = rw e (later (later (later first)))
 groups-listed f (GroupsFault.unallowed a b l e) = rw e (f a)
 
--- of any tree
+-- the refusal of a sheet of any tree
 pub numbers-listed : {f : Format} → Every (λ k. (v : ℕ) → Among (k .refusal v) sheetRefusals) f → (at : ℕ) (s : List ℕ) (r place : ℕ) → Ground sheet InSheet GroupsFault f at s r place
     → Among r sheetRefusals
 numbers-listed every at s r place (atField a) = groups-listed (every-front every (a .front)) (a .fault)

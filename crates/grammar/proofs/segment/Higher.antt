@@ -1,4 +1,4 @@
--- What is accepted at a limit of wire changes is accepted at any higher one, with the same values, sheet and packet.
+-- What is accepted at a limit of wire changes is accepted at any higher limit, and its values, sheet and packet do not change.
 use mathlib.Core.Path.{_≡_, refl, sym, ap}
 use mathlib.Core.Bool.{true}
 use mathlib.Core.List.{List}
@@ -116,6 +116,6 @@ module _ {low high : ℕ} (h : low ≤ high) where
 pub any-count : (n : ℕ) → n < 2 ^ 5 → nIter wireChanges .allowed n ≡ true
 any-count n h = rw (le-leb 0 n (omega arith), le-leb n wireChanges (omega arith))
 
--- in a sheet every count above 31 is
+-- every count of a sheet above 31 is refused
 pub too-many : (n : ℕ) → 31 < n → nIter wireChanges .lower n ≡ none
 too-many n h = rw (le-leb 0 n (omega arith), lt-leb n wireChanges (omega arith))

@@ -43,7 +43,7 @@ changed start x (suc n) l = item x x ∷ start (changed start (suc x) n l)
 abbrev parted : (List Item → List Item) → ℕ → List Item → List Item
 parted start n l = start (item n n ∷ changed start 2097152 n l)
 
--- what each of the three lists begins with, as long as can be
+-- the largest element that each of the three lists can begin with
 abbrev speeds : List Item → List Item
 speeds l = item 604 120 ∷ item 1 1 ∷ item 31 31 ∷ repeated 31 (item 0 0 ∷ item 300 10 ∷ item 604 120 ∷ []) ++ l
 
@@ -177,7 +177,7 @@ module _ (limit : ℕ) (h : limit ≤ 31) where
       ∙ part-conforms voltage volts (λ f l. refl) limit h (part current limit longest end) (parted amperes limit [])
       ∙ part-conforms current amperes (λ f l. refl) limit h end []
 
-  -- the three lists, in a medium: their starts have so many bits or bytes
+  -- the bits or bytes of the three lists in a medium, by the bits or bytes of what each list begins with
   lists-added : {A : Type 0} (m : Medium A) {ofPlace ofCount : ℕ} → Steady m ofPlace ofCount → (ofSpeeds ofVolts ofAmperes : ℕ)
       → ((f : Format) (l : List Item) (n : ℕ) → added m (profile f) (speeds l) n ≡ added m f l (n + ofSpeeds))
       → ((f : Format) (l : List Item) (n : ℕ) → added m (voltage f) (volts l) n ≡ added m f l (n + ofVolts))

@@ -1,4 +1,4 @@
--- A refusal of a packet or a sheet is one of those listed, and so not 0.
+-- A refusal of a packet or a sheet is in the list of refusals, and is not 0.
 use mathlib.Core.Path.{_≡_, refl}
 use mathlib.Core.Bool.{Bool, true, _&&_}
 use mathlib.Core.List.{List, [], _∷_}

@@ -1,2 +1,2 @@
--- What the code of journey needs and no promise names.
+-- Definitions that contracts of `journey` use; no promise names them.
 pub mod Parts

@@ -1,2 +1,2 @@
--- What the code of link needs and no promise names.
+-- Definitions that contracts of `link` use; no promise names them.
 pub mod Trees

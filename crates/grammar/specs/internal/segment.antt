@@ -1,2 +1,2 @@
--- What the code of segment needs and no promise names.
+-- Definitions that contracts of `segment` use; no promise names them.
 pub mod Parts

@@ -5,17 +5,17 @@ use Rattle.format.specs.Format.{Format, end, field, then, times}
 use Rattle.grammar.specs.segment.Segment.{header}
 use Rattle.kinds.specs.journey.Kinds.{journeyNumber, qJpStatus, nIterSp, qSpDir, nidTp, tLatestArrivalDate, tLatestArrivalSeconds, tArrivalWindow, qTpAlignment, qStopSkipPasses, qTpInformation, qDayLightSaving, qOpeningDoorSide, qCentralisedOpening, qRelaxedCoupler, qTrainHold, tDepartureDate, tDepartureSeconds, tMinimumDwellTime, qAutomaticClosing, qTcType, qTcRange, dTcStartLocation, dTcEndLocation, qTcFront, vSpeedLevel, qLowAdhesionRate}
 
--- "the last eight fields (48 bits, from the door side on)", by the kind of the stop
+-- "the last eight fields (48 bits, from the door side on)", by Q_Stop_Skip_Passes
 abbrev pub stoppingPoint : ℕ → Format → Format
-stoppingPoint stop f =
-    then (qOpeningDoorSide stop) (then (qCentralisedOpening stop) (then (qRelaxedCoupler stop) (then (qTrainHold stop)
-    (then (tDepartureDate stop) (then (tDepartureSeconds stop) (then (tMinimumDwellTime stop) (then (qAutomaticClosing stop) f)))))))
+stoppingPoint stopSkipPasses f =
+    then (qOpeningDoorSide stopSkipPasses) (then (qCentralisedOpening stopSkipPasses) (then (qRelaxedCoupler stopSkipPasses) (then (qTrainHold stopSkipPasses)
+    (then (tDepartureDate stopSkipPasses) (then (tDepartureSeconds stopSkipPasses) (then (tMinimumDwellTime stopSkipPasses) (then (qAutomaticClosing stopSkipPasses) f)))))))
 
 -- "A timing point has 129 bits, .. from NID_TP to Q_Automatic_Closing, all always sent"
 abbrev pub timingPoint : Format → Format
 timingPoint f =
     then nidTp (then tLatestArrivalDate (then tLatestArrivalSeconds (then tArrivalWindow (then qTpAlignment
-    (field qStopSkipPasses λ stop. then qTpInformation (then qDayLightSaving (stoppingPoint stop f)))))))
+    (field qStopSkipPasses λ stopSkipPasses. then qTpInformation (then qDayLightSaving (stoppingPoint stopSkipPasses f)))))))
 
 -- "start 24, end 24", by the range
 abbrev pub stretch : ℕ → Format → Format

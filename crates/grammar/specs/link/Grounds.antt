@@ -1,4 +1,4 @@
--- The ground of each refusal of a packet and of a sheet on the link, whichever of the two it is. No reader is run.
+-- The ground of each refusal of a packet and of a sheet on the link, for a segment and for a journey. No reader is run.
 use mathlib.Core.Path.{_≡_}
 use mathlib.Core.List.{List, [], _∷_}
 use Prim.Native.Nat.{ℕ, _+_, _≤_, _<_}

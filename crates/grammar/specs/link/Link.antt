@@ -20,7 +20,7 @@ abbrev pub treeNumber : Tree → ℕ
 treeNumber Segment = segmentNumber
 treeNumber Journey = 4
 
--- the body of each
+-- the body of a tree
 abbrev pub treeBody : Tree → Format
 treeBody Segment = body wireChanges
 treeBody Journey = journeyBody constraints
@@ -29,7 +29,7 @@ treeBody Journey = journeyBody constraints
 abbrev pub treeFields : Tree → Format
 treeFields t = header (treeBody t)
 
--- which of them a packet number stands for: a journey's, or else a segment's, which refuses every number but its own
+-- the tree of a packet number: a journey's for 4, else a segment's, which refuses every number but 6
 abbrev pub treeOf : ℕ → Tree
 treeOf n = cond (eqb n 4) Journey Segment
 

@@ -73,7 +73,7 @@ places =
     ∷ record { ask = askPacketOf (firstSheet ++ 0x00 ∷ []); answer = refusal 9 25 }
     ∷ []
 
--- "Marked (P): to be proved": those that are conversions
+-- "Marked (P): to be proved": the desk cases that are conversions
 abbrev pub conversions : List ConversionCase
 conversions =
     record { ask = askSheetOf firstPacket; answer = bytes firstSheet }

@@ -32,7 +32,7 @@ firstOne at [] = none
 firstOne at (true ∷ s) = some at
 firstOne at (false ∷ s) = firstOne (at + 1) s
 
--- "the packet number, 6, comes first": its own item
+-- "the packet number, 6, comes first": the item of a packet number
 abbrev pub numberItem : ℕ → Item
 numberItem n = record { sheet = n; packet = n }
 

@@ -1,4 +1,4 @@
--- The kind that each of the code's rules stands for. What the code below a promise is held to; no promise names it.
+-- The field kind that each rule of the code stands for. Used by contracts of the code; no promise names these.
 use mathlib.Core.Path.{_≡_}
 use Prim.Native.Nat.{ℕ}
 use Rattle.kinds.specs.declared.Rule.{Rule}
@@ -17,7 +17,7 @@ meaning Volts = mVoltage
 meaning (After start) = dEndAfter start
 meaning NoCurrent = noCurrent
 
--- a rule of the kind k, whose width and largest value are the constants of its type
+-- the rule r is of the kind k, whose width and largest value are the constants width and largest of its type
 pub record Keeps (k : Kind) (width largest : ℕ) (r : Rule) : Type 0 where
   pub kind : meaning r ≡ k
   pub wide : width ≡ k .width

@@ -48,34 +48,34 @@ qTpInformation = upTo 2 1
 abbrev pub qDayLightSaving : Kind
 qDayLightSaving = upTo 1 1
 
--- "At a passing point the last eight fields (48 bits, from the door side on) are 0": the largest value, by Q_Stop_Skip_Passes, of which 2 is the passing point
+-- "At a passing point the last eight fields (48 bits, from the door side on) are 0": the largest value, by Q_Stop_Skip_Passes, which is 2 at a passing point
 abbrev pub mostAt : ℕ → ℕ → ℕ
-mostAt stop most = cond (eqb stop 2) 0 most
+mostAt stopSkipPasses most = cond (eqb stopSkipPasses 2) 0 most
 
 abbrev pub qOpeningDoorSide : ℕ → Kind
-qOpeningDoorSide stop = upTo 2 (mostAt stop 3)
+qOpeningDoorSide stopSkipPasses = upTo 2 (mostAt stopSkipPasses 3)
 
 abbrev pub qCentralisedOpening : ℕ → Kind
-qCentralisedOpening stop = upTo 1 (mostAt stop 1)
+qCentralisedOpening stopSkipPasses = upTo 1 (mostAt stopSkipPasses 1)
 
 abbrev pub qRelaxedCoupler : ℕ → Kind
-qRelaxedCoupler stop = upTo 1 (mostAt stop 1)
+qRelaxedCoupler stopSkipPasses = upTo 1 (mostAt stopSkipPasses 1)
 
 abbrev pub qTrainHold : ℕ → Kind
-qTrainHold stop = upTo 1 (mostAt stop 1)
+qTrainHold stopSkipPasses = upTo 1 (mostAt stopSkipPasses 1)
 
 abbrev pub tDepartureDate : ℕ → Kind
-tDepartureDate stop = upTo 15 (mostAt stop 32767)
+tDepartureDate stopSkipPasses = upTo 15 (mostAt stopSkipPasses 32767)
 
 -- "departure seconds 86,399"
 abbrev pub tDepartureSeconds : ℕ → Kind
-tDepartureSeconds stop = upTo 17 (mostAt stop 86399)
+tDepartureSeconds stopSkipPasses = upTo 17 (mostAt stopSkipPasses 86399)
 
 abbrev pub tMinimumDwellTime : ℕ → Kind
-tMinimumDwellTime stop = upTo 10 (mostAt stop 1023)
+tMinimumDwellTime stopSkipPasses = upTo 10 (mostAt stopSkipPasses 1023)
 
 abbrev pub qAutomaticClosing : ℕ → Kind
-qAutomaticClosing stop = upTo 1 (mostAt stop 1)
+qAutomaticClosing stopSkipPasses = upTo 1 (mostAt stopSkipPasses 1)
 
 -- ---- "each Q_TC_Type 2, Q_TC_Range 2, start 24, end 24, Q_FRONT 1, V_Speed_Level 7 (0 to 120), adhesion 3 (0 to 5), current 10"
 

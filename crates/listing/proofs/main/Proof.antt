@@ -1,4 +1,4 @@
--- `listing::main` meets its contract: what is written is inside the room.
+-- `listing::main` meets its contract: the bytes that it writes are inside the room.
 use Rattle.text.proofs.Whole.{listing-inside}
 use lib.Seq.{length-take-le}
 use mathlib.Core.Path.{sym}

@@ -1,4 +1,4 @@
--- A number read group by group: what is left of it, and what the groups so far come to.
+-- A number read group by group: the groups that are left, and the value of the groups so far.
 use mathlib.Core.Path.{_≡_, refl, sym, _∙_}
 use mathlib.Core.List.{List}
 use Prim.Native.Nat.{ℕ, zero, suc, _+_, _*_, _/_, _%_, _-_, _^_, _≤_, _<_}
@@ -108,7 +108,7 @@ module _ {s : List ℕ} {from at value scale b : ℕ} (r : Rest s from at value 
           byte = k;
         }
 
--- one group or two: the second place to look at is the first where one is all
+-- one or two groups: the second place that is read is the first where the number has one group
 module _ {s : List ℕ} {from b : ℕ} (t : There s from) (g : b ≡ getD s from 0) (h : getD s from 0 < 256) where
   start : Rest s from from 0 1 b
   start = rest-start s from (t .value) b (t .is) g (omega arith)

@@ -1,4 +1,4 @@
--- The loop that writes a number: what stands, and what is left to write from the place i on, make the whole.
+-- The loop that writes a number: what is written, and what is left to write from the place i on, make the whole number.
 use mathlib.Core.Path.{_≡_, refl, sym, ap, _∙_}
 use mathlib.Core.Bool.{Bool, true, false}
 use mathlib.Core.List.{List, [], _∷_}
@@ -70,7 +70,7 @@ bit-small true = lit≤ tt
 bit-small false = lit≤ tt
 
 module _ (s : List ℕ) (at v : ℕ) (h : v < 16384) where
-  -- what is stored of it, where it has m groups more than one
+  -- what is written of a number that has 1 + m groups
   abbrev pub short : ℕ → Put
   short m = record { next = at + 1 + m; bytes = set (set s (at + m) (v / 128)) at (v % 128 + 128 * m) }
 

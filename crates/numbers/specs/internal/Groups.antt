@@ -1,4 +1,4 @@
--- A number put at a place, and a number with its groups counted. What the code below a promise is held to; no promise names it.
+-- A number written at a place, and a number with the count of its groups. Used by contracts of the code; no promise names these.
 use mathlib.Core.Path.{_≡_}
 use mathlib.Core.List.{List}
 use Prim.Native.Nat.{ℕ, _+_, _*_}
@@ -17,16 +17,16 @@ pub record Put : Type 0 where
 abbrev pub putNumber : List ℕ → ℕ → ℕ → Put
 putNumber s at v = record { next = at + length (groupsIn v); bytes = sets s at (groupsIn v) }
 
--- a number, and 2 to the 32 for each of its groups; 0 where there is none
+-- a number with 2 to the 32 added for each of its groups; 0 where there is no number
 abbrev pub counted : Number → ℕ
 counted (Value v) = v + 4294967296 * length (groupsIn v)
 counted Bad = 0
 
--- a number and how many groups it has; none has no group
+-- a number and the count of its groups, which is 0 where there is no number
 abbrev pub found : Number → Found
 found (Value v) = record { value = v; count = length (groupsIn v) }
 found Bad = record { value = 0; count = 0 }
 
--- r is the group b before the number that rest counts, counted: whatever number below 2 to the 32 that is
+-- r is the counted number of the group b and the number after it, which rest counts, for any number below 2 to the 32
 pub record Joins (b rest r : ℕ) : Type 0 where
   pub of : (n : Number) → n ≡ below n → rest ≡ counted n → r ≡ counted (below (joined b n))

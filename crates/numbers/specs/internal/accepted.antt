@@ -1,2 +1,2 @@
--- What the code of accepted needs and no promise names.
+-- Definitions that contracts of `accepted` use; no promise names them.
 pub mod Accepted

@@ -1,4 +1,4 @@
--- `judge_field::count` meets its contract.
+-- `packet_fields::count` meets its contract.
 use native.Mathlib.Omega.{arith}
 use mathlib.Core.Path.{refl}
 use lib.Dec.{lit≤}

@@ -1,4 +1,4 @@
--- `judge_field::current` meets its contract.
+-- `packet_fields::current` meets its contract.
 use native.Mathlib.Omega.{arith}
 use mathlib.Core.Path.{refl}
 use lib.Dec.{lit≤}

@@ -1,4 +1,4 @@
--- `judge_field::field` meets its contract.
+-- `packet_fields::field` meets its contract.
 use native.Mathlib.Omega.{arith}
 use mathlib.Core.Path.{refl, sym}
 use denote.Ref.{now}

@@ -1,4 +1,4 @@
--- `judge_field::location` meets its contract.
+-- `packet_fields::location` meets its contract.
 use native.Mathlib.Omega.{arith}
 use mathlib.Core.Path.{refl}
 use lib.Dec.{lit≤}

@@ -1,4 +1,4 @@
--- `judge_field::plain` meets its contract.
+-- `packet_fields::plain` meets its contract.
 use denote.Ref.{now}
 use Rattle.packet_fields.proofs.Steps.{past, past-off}
 use borrow.Author.Needs.{needs}

@@ -1,4 +1,4 @@
--- The bytes of values in a row: of values that are all within their largest ones, and of some that are not.
+-- The bytes of the values of a row, where each value is at most its largest value, and where one is not.
 use mathlib.Core.Path.{_≡_, refl, _∙_}
 use mathlib.Core.Bool.{true}
 use mathlib.Core.List.{List, [], _∷_}
@@ -20,7 +20,7 @@ use Rattle.fields.specs.internal.size.Counts.{bytesOf}
 use Rattle.fields.proofs.size.Bytes.{both-in, high-out}
 use Rattle.packet_fields.specs.internal.row.Values.{total, parts, within, groupsAll, rowBytes}
 
--- each value is at most its largest one
+-- each value is at most its largest value
 abbrev pub Held : List ℕ → List ℕ → Type 0
 Held ms [] = Unit {0}
 Held [] (v ∷ vs) = Unit {0}

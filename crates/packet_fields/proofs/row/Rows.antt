@@ -16,12 +16,12 @@ use Rattle.format.specs.internal.Ways.{Way, Went, Over, Left}
 use Rattle.format.proofs.Ways.{left-as, left-on, left-off, left-none}
 use Rattle.grammar.specs.internal.rows.Rows.{row, fits}
 
--- a width that a field can have
+-- a width that a field can have, 1 to 32 bits
 pub record Fit (w : ℕ) : Type 0 where
   pub some : 1 ≤ w
   pub most : w ≤ 32
 
--- the test of one field, and of those after it
+-- the test of the first field, and of the fields after it
 module _ (w m : ℕ) (ws ms : List ℕ) (e : fits (w ∷ ws) (m ∷ ms) ≡ true) where
   small : (leb w 32 && (ltb m (2 ^ w) && fits ws ms)) ≡ true
   small = and-right (leb 1 w) (leb w 32 && (ltb m (2 ^ w) && fits ws ms)) e
@@ -50,7 +50,7 @@ fits-at (w ∷ ws) [] i e h = absurd (let z : _≡_ {A = ℕ} 0 1 = cc in omega 
 fits-at (w ∷ ws) (m ∷ ms) zero e h = fits-first w m ws ms e
 fits-at (w ∷ ws) (m ∷ ms) (suc i) e h = fits-at ws ms i (fits-rest w m ws ms e) (omega arith)
 
--- nothing is left after the last
+-- nothing is left after the last field
 drop-past : (ws : List ℕ) (i : ℕ) → length ws ≤ i → drop i ws ≡ []
 drop-past [] zero h = refl
 drop-past [] (suc i) h = refl

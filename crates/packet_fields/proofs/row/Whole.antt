@@ -1,4 +1,4 @@
--- A row whose bits are all there: the step over it from the bytes of its values, and a field in its midst whose value is known.
+-- A row whose bits are all present: the step over it from the bytes of its values, and a field in its midst whose value is known.
 use mathlib.Core.Path.{_≡_, refl, sym, _∙_}
 use mathlib.Core.Bool.{true, false}
 use mathlib.Core.List.{List, [], _∷_}
@@ -39,7 +39,7 @@ module _ (s : List ℕ) (stop : ℕ) where
     field-out : leb (fieldAt s at w) m ≡ false → Took (upTo w m) s stop at n (PacketValue.Refused 4 at)
     field-out e = took-none s stop (upTo w m) w refl h some room refl (counts.bytes-none (upTo w m) (fieldAt s at w) (counts.high-out 0 m (fieldAt s at w) (leb-false (fieldAt s at w) m e))) refl
 
-    -- what follows may as well be what follows its value
+    -- what follows the field may as well be what follows its value
     known : (next : ℕ → Format) → verdictAt s stop (field (upTo w m) next) at n ≡ verdictAt s stop (then (upTo w m) (next (fieldAt s at w))) at n
     known next =
         by-cases (leb (fieldAt s at w) m)
@@ -80,7 +80,7 @@ module _ (s : List ℕ) (stop : ℕ) where
       let a = and-left (leb (fieldAt s at w) m) (within ms (fieldsAt s (at + w) ws)) i in
       on w m ws ms e h room a (row-in ws ms (fits-rest w m ws ms e) (first-in w m ws ms e h room a .stands) (omega arith) (and-right (leb (fieldAt s at w) m) (within ms (fieldsAt s (at + w) ws)) i))
 
-  -- refused, at one of its fields
+  -- a row that is refused at one of its fields
   row-out : (ws ms : List ℕ) → fits ws ms ≡ true → {at n : ℕ} → Standing s stop at n → total ws ≤ stop - at → within ms (fieldsAt s at ws) ≡ false
       → (place : ℕ) × Over (row ws ms) s stop at n (Refused 4 place)
   row-out [] ms e h room i = absurd (let z : _≡_ {A = ℕ} 0 1 = cc in omega arith)
@@ -90,7 +90,7 @@ module _ (s : List ℕ) (stop : ℕ) where
       (λ a. let o = row-out ws ms (fits-rest w m ws ms e) (first-in w m ws ms e h room a .stands) (omega arith) (rw a at i) in (o .0, off w m ws ms e h room a (o .1)))
       (λ a. (at, first-off w m ws ms e h room a))
 
-  -- ---- the same from the bytes of its values
+  -- ---- a row, from the bytes of its values
 
   module _ (w m : ℕ) (ws ms : List ℕ) (e : fits (w ∷ ws) (m ∷ ms) ≡ true) {at n r : ℕ} (h : Standing s stop at n) (room : total (w ∷ ws) ≤ stop - at)
       (er : r ≡ rowBytes (m ∷ ms) (fieldsAt s at (w ∷ ws))) where
@@ -100,7 +100,7 @@ module _ (s : List ℕ) (stop : ℕ) where
         (λ i. let q : r ≡ groupsAll (fieldsAt s at (w ∷ ws)) = er ∙ rw i in rw q (row-in (w ∷ ws) (m ∷ ms) e h room i))
         (λ i. absurd (z (er ∙ rw i)))
 
-  -- ---- a row, a field on which the row after it depends, and that row: as one row, with the field's value
+  -- ---- a row and a field on which what follows depends: what follows may as well be what follows the field's value
 
   pub row-known : (ws ms : List ℕ) → fits ws ms ≡ true → (w m : ℕ) → 1 ≤ w → {at n : ℕ} → Standing s stop at n → total ws + w ≤ stop - at → (next : ℕ → Format)
       → verdictAt s stop (row ws ms (field (upTo w m) next)) at n ≡ verdictAt s stop (row ws ms (then (upTo w m) (next (fieldAt s (at + total ws) w)))) at n

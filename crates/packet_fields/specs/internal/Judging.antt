@@ -1,4 +1,4 @@
--- A part of the tree judged at a place of a packet, with the bytes of its sheet counted. What the code below a promise is held to; no promise names it.
+-- A part of the tree judged at a place of a packet, with the bytes of its sheet counted. Used by contracts of the code; no promise names these.
 use mathlib.Core.List.{List}
 use Prim.Native.Nat.{ℕ, _*_, _^_, _≤_, _<_}
 use lib.ListN.{length}
@@ -17,7 +17,7 @@ use Rattle.format.specs.internal.Tasks.{counting}
 use Rattle.format.specs.internal.Ways as ways
 use Rattle.format.specs.internal.Ways.{Way, passing, Went, Got}
 
--- the sheet's bytes are counted
+-- the task that counts the bytes of the sheet
 abbrev pub judging : Task ℕ PacketVerdict
 judging = counting sheet PacketVerdict.SheetBytes PacketVerdict.Refused
 
@@ -33,7 +33,7 @@ pub record Standing (s : List ℕ) (stop at n : ℕ) : Type 0 where
   pub long : 8 ≤ length s
   pub counted : n ≤ 5 * at
 
--- judging as a pass seen at places, and the answers of its functions
+-- judging as a pass over places, and the answers of the code's functions as steps of the pass
 abbrev pub judge : List ℕ → ℕ → Way ℕ PacketVerdict
 judge s stop = passing packet judging (λ at. bitsBetween s at stop) (Standing s stop)
 
@@ -49,15 +49,15 @@ got (PacketValue.Refused r at) = Got.off r at
 abbrev pub Over : (Format → Format) → List ℕ → ℕ → ℕ → ℕ → PacketStep → Type 0
 Over part s stop at n r = ways.Over (judge s stop) part at n (went r)
 
--- the same of one field, on whose value what follows may depend
+-- A step over one field, on whose value what follows may depend.
 abbrev pub Took : Kind → List ℕ → ℕ → ℕ → ℕ → PacketValue → Type 0
 Took k s stop at n r = ways.Took (judge s stop) k at n (got r)
 
--- the same of a part with a field on whose value what follows may depend
+-- A step over a part with a field on whose value what follows may depend.
 abbrev pub Gave : ((ℕ → Format) → Format) → List ℕ → ℕ → ℕ → ℕ → PacketValue → Type 0
 Gave part s stop at n r = ways.Gave (judge s stop) part at n (got r)
 
--- a width that a field can have
+-- the width of k is one that a field can have, 1 to 32 bits
 pub record Wide (k : Kind) : Type 0 where
   pub some : 1 ≤ k .width
   pub most : k .width ≤ 32

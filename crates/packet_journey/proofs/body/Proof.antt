@@ -1,4 +1,4 @@
--- `judge_journey::body` meets its contract.
+-- `packet_journey::body` meets its contract.
 use lib.Dec.{lit≤}
 use Rattle.format.specs.Format.{times}
 use Rattle.format.proofs.Ways.{over-on, over-off, value-on, value-off}

@@ -1,4 +1,4 @@
--- What follows a temporary constraint's start, and its kinds that depend on the range or the type: they have a width that a field can have.
+-- What follows a temporary constraint's start; and the field kinds that depend on the range or the type have a width of 1 to 32 bits.
 use Prim.Native.Nat.{ℕ}
 use lib.Dec.{lit≤}
 use Rattle.format.specs.Format.{Format, then}

@@ -1,4 +1,4 @@
--- A temporary constraint whose bits are all there: the step over it, from the bytes of its parts.
+-- A temporary constraint whose bits are all present: the step over it, from the bytes of its parts.
 use mathlib.Core.Path.{_≡_, refl, _∙_}
 use mathlib.Core.List.{List}
 use Prim.Native.Nat.{ℕ, _+_, _*_, _-_, _/_, _%_, _≤_}
@@ -24,7 +24,7 @@ use Rattle.packet_journey.proofs.constraint_bytes.Both.{some-both}
 use Rattle.packet_journey.proofs.constraint_bytes.Values.{stretch-most, restriction-most, one-in}
 use Rattle.packet_journey.proofs.constraint.Parts.{afterStart}
 
--- bytes counted one after the other
+-- bytes counted one after another
 two-counted : (n x y : ℕ) {a : ℕ} → a ≡ x + y → n + x + y ≡ n + a
 two-counted n x y e = omega (arith, e)
 
@@ -80,7 +80,7 @@ module _ (s : List ℕ) (stop : ℕ) where
         let l = past s stop (took-some s stop noCurrent 10 refl (k .stands) (lit≤ tt) (omega arith) current refl (v .second)) in
         rw (p, four-counted n w x y z (ea ∙ o .sum) (u .sum) (v .sum)) at (over-on i (over-on j (over-on k l)))
 
-  -- ---- all of them
+  -- ---- the whole constraint
 
   module _ {at n : ℕ} (h : Standing s stop at n) (room : 73 ≤ stop - at) {t end uses : ℕ} (et : t ≡ fieldAt s at 28) (ee : end ≡ fieldAt s (at + 28) 24) (eu : uses ≡ fieldAt s (at + 52) 21)
       {a b : ℕ} (ea : a ≡ stretchBytes (t / 16777216 % 4) (t % 16777216) end) (eb : b ≡ restrictionBytes (t / 67108864) uses) where

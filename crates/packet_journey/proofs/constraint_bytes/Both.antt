@@ -1,4 +1,4 @@
--- The bytes of two values: both are some, or they are none.
+-- The bytes of two values together: 0 where one of them has 0.
 use mathlib.Core.Path.{_≡_, refl}
 use Prim.Native.Nat.{ℕ, zero, suc, _+_, _≤_}
 use native.Mathlib.Omega.{arith}
@@ -11,7 +11,7 @@ pub second-none : (a : ℕ) {b : ℕ} → 0 ≡ b → 0 ≡ both a b
 second-none zero e = refl
 second-none (suc a) e = rw (← e)
 
--- some bytes of each
+-- each value has some bytes
 added : (a b : ℕ) → (a ≡ 0 → ⊥) → (b ≡ 0 → ⊥) → a + b ≡ both a b
 added zero b h l = absurd (h refl)
 added (suc a) zero h l = absurd (l refl)
@@ -25,11 +25,11 @@ both-most zero b = omega arith
 both-most (suc a) zero = omega arith
 both-most (suc a) (suc b) = omega arith
 
--- at most so many of each
+-- bounds of each value's bytes bound the bytes of both
 pub both-within : (a b x y : ℕ) → a ≤ x → b ≤ y → both a b ≤ x + y
 both-within a b x y h l = omega (arith, both-most a b)
 
--- and the other way round
+-- where both values together have some bytes, each value has some
 pub record Some (a b : ℕ) : Type 0 where
   pub first : a ≡ 0 → ⊥
   pub second : b ≡ 0 → ⊥

@@ -1,4 +1,4 @@
--- The bytes of a temporary constraint's values, a few fields at once, from what was tested and counted.
+-- The bytes of a temporary constraint's values, several fields at once, from what the code tested and counted.
 use mathlib.Core.Path.{_≡_, sym, _∙_}
 use mathlib.Core.Bool.{Bool, true, false, _||_}
 use Prim.Native.Nat.{ℕ, _+_, _/_, _%_, _≤_, _<_}
@@ -86,7 +86,7 @@ module _ (t : ℕ) where
       second-none (bytesIn (qTcFront type) (t / 1048576 % 2)) (second-none (bytesIn (vSpeedLevel type) (t / 8192 % 128)) (second-none (bytesIn (qLowAdhesionRate type) (t / 1024 % 8))
       (bytes-none noCurrent (t % 1024) (ne-eqb (t % 1024) 1023 n))))
 
-  -- ---- where the type is the speed
+  -- ---- where the type is a speed restriction
 
   pub adhesion-none : (t / 1024 % 8 ≡ 0 → ⊥) → 0 ≡ restrictionBytes 0 t
   adhesion-none n =
@@ -99,7 +99,7 @@ module _ (t : ℕ) where
     pub speed-some : t % 1024 ≡ 1023 → t / 1024 % 8 ≡ 0 → (a ≡ 0 → ⊥) → a + 3 ≡ restrictionBytes 0 t
     speed-some e h n = four (one-in 1 1 (t / 1048576 % 2) (omega arith) (omega arith)) ea n (one-in 3 0 (t / 1024 % 8) (omega arith) (omega arith)) (current-in e)
 
-  -- ---- where it is another
+  -- ---- where the type is another
 
   module _ (type : ℕ) (other : type ≡ 0 → ⊥) where
     -- Q_FRONT, the speed and the adhesion

@@ -1,4 +1,4 @@
--- `judge_journey::constraint_list` meets its contract.
+-- `packet_journey::constraint_list` meets its contract.
 use Rattle.format.specs.Format.{times}
 use Rattle.format.proofs.Ways.{value-on, value-off}
 use Rattle.grammar.specs.journey.Journey.{temporaryConstraint}

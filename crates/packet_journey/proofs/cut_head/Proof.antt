@@ -1,4 +1,4 @@
--- `judge_journey::cut_head` meets its contract.
+-- `packet_journey::cut_head` meets its contract.
 use lib.Dec.{lit<}
 use Rattle.grammar.proofs.journey.Parts.{segment-fits}
 use Rattle.format.proofs.Ways.{gave-on, gave-off, gave-took}

@@ -1,4 +1,4 @@
--- A timing point is two rows round the kind of its stop.
+-- A timing point is a row, Q_Stop_Skip_Passes, and a row that depends on Q_Stop_Skip_Passes.
 use mathlib.Core.Path.{ap, _∙_}
 use Prim.Native.Nat.{ℕ}
 use Rattle.format.specs.Format.{Format, field}

@@ -1,4 +1,4 @@
--- A timing point whose bits are all there: the step over it, from the bytes of its parts.
+-- A timing point whose bits are all present: the step over it, from the bytes of its parts.
 use mathlib.Core.Path.{_≡_, refl, sym, ap, _∙_}
 use mathlib.Core.Bool.{true}
 use mathlib.Core.List.{List, [], _∷_, _++_}
@@ -32,16 +32,16 @@ use Rattle.packet_journey.specs.internal.point_bytes.Windows.{latestWidt
 abbrev eightWidths : List ℕ
 eightWidths = 2 ∷ 1 ∷ 1 ∷ 1 ∷ 15 ∷ 17 ∷ 10 ∷ 1 ∷ []
 
-eight-fits : (kind : ℕ) → fits eightWidths (eightMost kind) ≡ true
-eight-fits kind = by-cases (eqb kind 2) (λ e. rw e) (λ e. rw e)
+eight-fits : (stopSkipPasses : ℕ) → fits eightWidths (eightMost stopSkipPasses) ≡ true
+eight-fits stopSkipPasses = by-cases (eqb stopSkipPasses 2) (λ e. rw e) (λ e. rw e)
 
 -- the largest values after the door side
 abbrev afterDoor : ℕ → List ℕ
-afterDoor kind = mostAt kind 1 ∷ mostAt kind 1 ∷ mostAt kind 1 ∷ mostAt kind 32767 ∷ mostAt kind 86399 ∷ mostAt kind 1023 ∷ mostAt kind 1 ∷ []
+afterDoor stopSkipPasses = mostAt stopSkipPasses 1 ∷ mostAt stopSkipPasses 1 ∷ mostAt stopSkipPasses 1 ∷ mostAt stopSkipPasses 32767 ∷ mostAt stopSkipPasses 86399 ∷ mostAt stopSkipPasses 1023 ∷ mostAt stopSkipPasses 1 ∷ []
 
 -- the point's fields in the rows that are read at once
 abbrev pointRows : ℕ → Format → Format
-pointRows kind f = row (32 ∷ []) (4294967295 ∷ []) (row latestWidths latestMost (row marksWidths marksMost (row eightWidths (eightMost kind) f)))
+pointRows stopSkipPasses f = row (32 ∷ []) (4294967295 ∷ []) (row latestWidths latestMost (row marksWidths marksMost (row eightWidths (eightMost stopSkipPasses) f)))
 
 -- no value has more than five bytes
 groups-small : (vs : List ℕ) → groupsAll vs ≤ 5 * length vs
@@ -51,7 +51,7 @@ groups-small (v ∷ vs) = omega (arith, count-five v, groups-small vs)
 row-small : (ms vs : List ℕ) → rowBytes ms vs ≤ 5 * length vs
 row-small ms vs = by-cases (within ms vs) (λ e. rw e (groups-small vs)) (λ e. rw e (omega arith))
 
--- values one after the other
+-- values one after another
 fields-join : (s : List ℕ) (at : ℕ) (ws us : List ℕ) → fieldsAt s at (ws ++ us) ≡ fieldsAt s at ws ++ fieldsAt s (at + total ws) us
 fields-join s at [] us = let p : at + 0 ≡ at = omega arith in rw p
 fields-join s at (w ∷ ws) us = let p : at + w + total ws ≡ at + (w + total ws) = omega arith in rw (fields-join s (at + w) ws us, p)
@@ -69,7 +69,7 @@ module _ (s : List ℕ) (stop : ℕ) {at n : ℕ} (h : Standing s stop at n) (ro
   module _ {latest marks doors leaving : ℕ} (el : latest ≡ fieldAt s (at + 32) 32) (em : marks ≡ fieldAt s (at + 64) 17) (ed : doors ≡ fieldAt s (at + 81) 20) (ev : leaving ≡ fieldAt s (at + 101) 28)
       {a b c d : ℕ} (ea : a ≡ length (groupsIn (fieldAt s at 32))) (eb : b ≡ rowBytes latestMost (parts latestWidths latest)) (ec : c ≡ rowBytes marksMost (parts marksWidths marks))
       (ee : d ≡ rowBytes (eightMost (marks / 8 % 4)) (parts doorsWidths doors ++ parts leavingWidths leaving)) where
-    -- the kind of the stop is among the marks
+    -- Q_Stop_Skip_Passes is among the marks
     from : {r : Went ℕ} → ways.Over (judge s stop) (pointRows (marks / 8 % 4)) at n r → ways.Over (judge s stop) timingPoint at n r
     from o =
         let k : fieldAt s (at + 76) 2 ≡ marks / 8 % 4 = rw em (sym (read-window s (at + 64) (at + 76) 2 3 17 (omega arith) (omega arith) (omega (arith, inside)))) in
@@ -103,7 +103,7 @@ module _ (s : List ℕ) (stop : ℕ) {at n : ℕ} (h : Standing s stop at n) (ro
     pub small : a + b + c + d ≤ 80
     small = omega (arith, ea, count-five (fieldAt s at 32), eb, row-small latestMost (parts latestWidths latest), ec, row-small marksMost (parts marksWidths marks), ee, row-small (eightMost (marks / 8 % 4)) (parts doorsWidths doors ++ parts leavingWidths leaving))
 
-    -- ---- the steps over them
+    -- ---- the steps over the rows
 
     name-over : Over (row (32 ∷ []) (4294967295 ∷ [])) s stop at n (On (at + 32) (n + a))
     name-over = bytes-some s stop 32 4294967295 [] [] refl h (omega arith) name-bytes (λ z. omega (arith, z, ea, count-some (fieldAt s at 32)))

@@ -1,4 +1,4 @@
--- The bytes of a timing point's values, a few fields at once, from what was tested and counted.
+-- The bytes of a timing point's values, several fields at once, from what the code tested and counted.
 use mathlib.Core.Path.{_≡_, refl}
 use mathlib.Core.List.{_++_}
 use Prim.Native.Nat.{ℕ, _+_, _/_, _%_, _^_, _≤_, _<_}
@@ -28,8 +28,8 @@ module _ (t : ℕ) where
   pub alignment-none : 2 < t / 32 % 4 → 0 ≡ rowBytes marksMost (parts marksWidths t)
   alignment-none h = no-bytes marksMost (parts marksWidths t) (λ k. omega (arith, h, k .1 .0))
 
-  pub kind-none : 2 < t / 8 % 4 → 0 ≡ rowBytes marksMost (parts marksWidths t)
-  kind-none h = no-bytes marksMost (parts marksWidths t) (λ k. omega (arith, h, k .1 .1 .0))
+  pub stop-skip-passes-none : 2 < t / 8 % 4 → 0 ≡ rowBytes marksMost (parts marksWidths t)
+  stop-skip-passes-none h = no-bytes marksMost (parts marksWidths t) (λ k. omega (arith, h, k .1 .1 .0))
 
   pub information-none : 1 < t / 2 % 4 → 0 ≡ rowBytes marksMost (parts marksWidths t)
   information-none h = no-bytes marksMost (parts marksWidths t) (λ k. omega (arith, h, k .1 .1 .1 .0))
@@ -40,23 +40,23 @@ module _ (t : ℕ) where
       all-bytes marksMost (parts marksWidths t) (omega arith, (h, (i, (j, (omega arith, tt)))))
       (rw p (omega (arith, ea, one-byte (t / 32 % 4) (omega arith), one-byte (t / 8 % 4) (omega arith), one-byte (t / 2 % 4) (omega arith), one-byte (t / 1 % 2) (omega arith))))
 
--- ---- the last eight
+-- ---- the last eight fields
 
 module _ (doors leaving : ℕ) where
   pub leaving-none : leaving < 268435456 → 86399 < leaving / 2048 → 0 ≡ rowBytes (eightMost 0) (parts doorsWidths doors ++ parts leavingWidths leaving)
   leaving-none l h = no-bytes (eightMost 0) (parts doorsWidths doors ++ parts leavingWidths leaving) (λ k. omega (arith, h, l, k .1 .1 .1 .1 .1 .0))
 
-  pub stop-some : leaving < 268435456 → leaving / 2048 ≤ 86399 → {a b c : ℕ} → a ≡ length (groupsIn (doors % 32768)) → b ≡ length (groupsIn (leaving / 2048)) → c ≡ length (groupsIn (leaving / 2 % 1024))
+  pub not-passing-some : leaving < 268435456 → leaving / 2048 ≤ 86399 → {a b c : ℕ} → a ≡ length (groupsIn (doors % 32768)) → b ≡ length (groupsIn (leaving / 2048)) → c ≡ length (groupsIn (leaving / 2 % 1024))
       → a + b + c + 5 ≡ rowBytes (eightMost 0) (parts doorsWidths doors ++ parts leavingWidths leaving)
-  stop-some l h {a} {b} {c} ea eb ec =
+  not-passing-some l h {a} {b} {c} ea eb ec =
       let p : doors / 1 % 32768 ≡ doors % 32768 = omega arith in
       let q : leaving / 2048 % 131072 ≡ leaving / 2048 = omega arith in
       all-bytes (eightMost 0) (parts doorsWidths doors ++ parts leavingWidths leaving)
       (omega arith, (omega arith, (omega arith, (omega arith, (omega arith, (omega arith, (omega arith, (omega arith, tt))))))))
       (rw (p, q) (omega (arith, ea, eb, ec, one-byte (doors / 262144 % 4) (omega arith), one-byte (doors / 131072 % 2) (omega arith), one-byte (doors / 65536 % 2) (omega arith), one-byte (doors / 32768 % 2) (omega arith), one-byte (leaving / 1 % 2) (omega arith))))
 
-  pub stop-eight : (kind : ℕ) → (kind ≡ 2 → ⊥) → {r : ℕ} → r ≡ rowBytes (eightMost 0) (parts doorsWidths doors ++ parts leavingWidths leaving) → r ≡ rowBytes (eightMost kind) (parts doorsWidths doors ++ parts leavingWidths leaving)
-  stop-eight kind h e = rw (ne-eqb kind 2 h) e
+  pub not-passing-eight : (stopSkipPasses : ℕ) → (stopSkipPasses ≡ 2 → ⊥) → {r : ℕ} → r ≡ rowBytes (eightMost 0) (parts doorsWidths doors ++ parts leavingWidths leaving) → r ≡ rowBytes (eightMost stopSkipPasses) (parts doorsWidths doors ++ parts leavingWidths leaving)
+  not-passing-eight stopSkipPasses h e = rw (ne-eqb stopSkipPasses 2 h) e
 
   pub passing-doors : doors < 1048576 → (doors ≡ 0 → ⊥) → 0 ≡ rowBytes (eightMost 2) (parts doorsWidths doors ++ parts leavingWidths leaving)
   passing-doors l h = no-bytes (eightMost 2) (parts doorsWidths doors ++ parts leavingWidths leaving) (λ k. h (omega (arith, l, all-zero doorsWidths doors (k .0, (k .1 .0, (k .1 .1 .0, (k .1 .1 .1 .0, (k .1 .1 .1 .1 .0, tt))))))))

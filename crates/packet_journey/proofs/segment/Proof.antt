@@ -1,4 +1,4 @@
--- `judge_journey::segment` meets its contract.
+-- `packet_journey::segment` meets its contract.
 use Rattle.format.proofs.Ways.{over-on, over-off, part-on, part-off}
 use Rattle.grammar.specs.journey.Journey.{constraints}
 use Rattle.grammar.specs.internal.journey.Parts.{segmentRest}

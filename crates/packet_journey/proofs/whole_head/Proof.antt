@@ -1,4 +1,4 @@
--- `judge_journey::whole_head` meets its contract.
+-- `packet_journey::whole_head` meets its contract.
 use native.Mathlib.Omega.{arith}
 use Prim.Native.Nat.{_+_, _≤_}
 use denote.Ref.{now}

@@ -1,4 +1,4 @@
--- The fields of a journey's segment before its timing points. What the code below a promise is held to; no promise names it.
+-- The fields of a journey's segment before its timing points. Used by contracts of the code; no promise names these.
 use Prim.Native.Nat.{ℕ}
 use Rattle.kinds.specs.Kinds.{nIter}
 use Rattle.format.specs.Format.{Format, field}

@@ -1,2 +1,2 @@
--- What the code of constraint_bytes needs and no promise names.
+-- Definitions that contracts of `constraint_bytes` use; no promise names them.
 pub mod Bytes

@@ -1,2 +1,2 @@
--- What the code of point_bytes needs and no promise names.
+-- Definitions that contracts of `point_bytes` use; no promise names them.
 pub mod Windows

@@ -1,4 +1,4 @@
--- Every field of a packet as one part. The contracts of the code cite it; no promise names it.
+-- Every field of a packet as one part. Used by contracts of the code; no promise names these.
 use Rattle.format.specs.Format.{Format}
 use Rattle.grammar.specs.internal.segment.Parts.{segmentRows}
 use Rattle.grammar.specs.internal.journey.Parts.{journeyPart}

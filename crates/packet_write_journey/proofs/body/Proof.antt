@@ -1,4 +1,4 @@
--- `write_journey_packet::body` meets its contract.
+-- `packet_write_journey::body` meets its contract.
 use lib.Dec.{lit<, lit≤}
 use Rattle.packet_write_journey.proofs.Steps.{body-status, body-count, body-segments, body-wrote}
 use borrow.Author.Needs.{needs}

@@ -1,4 +1,4 @@
--- A temporary constraint, field by field: what is read next, how large it is, and what is written once all of it is put.
+-- A temporary constraint, field by field: what is read next, how large it is, and that the whole constraint is written at the end.
 use mathlib.Core.Path.{_≡_, refl}
 use mathlib.Core.List.{List}
 use Prim.Native.Nat.{ℕ, _+_, _*_, _^_, _<_}
@@ -24,7 +24,7 @@ use Rattle.packet_write_journey.specs.declared.row.Given.{Given}
 use Rattle.packet_write_journey.specs.internal.constraint.Begun.{Begun}
 use Rattle.packet_write_journey.proofs.constraint.Values.{end-same, level-steps, no-limit}
 
--- a field more in the same piece
+-- one more field in a piece
 more : (a h : ℕ) {s : List ℕ} {p : Format → Format} {from to : ℕ} (k : Kind) (part : ℕ → Format → Format) → Gone s p (λ f. field k (λ v. part v f)) from to (bitsOf a h)
     → {n after v : ℕ} → Has k s to n after v → {w : ℕ} → k .width ≡ w → v < 2 ^ w → Gone s p (part v) from after (bitsOf (a + w) (h * 2 ^ w + v))
 more a h k part g {v = v} d {w} e l = rw (bits-join a w h v l) (rw e at (gone-field k part g d))
@@ -173,7 +173,7 @@ module _ (type : ℕ) {s room : List ℕ} {p : PacketSpot} (h : Ready (restricti
               let n : ((t .value * 128 + w) * 8 + a .value) * 1024 + 1023 ≡ t .value * 1048576 + w * 8192 + a .value * 1024 + 1023 = omega arith in
               wrote-once (more 11 ((t .value * 128 + w) * 8 + a .value) noCurrent (λ _ f. f) third current refl (lit< tt)) (rw n) f
 
--- ---- both
+-- ---- the whole constraint
 
 module _ {s room mid : List ℕ} {p : PacketSpot} {r : Given} (h : Ready temporaryConstraint s room p) (b : Begun temporaryConstraint restriction s room p mid r) where
   located : Along temporaryConstraint (restriction (r .value)) s room p mid (r .next)

@@ -1,4 +1,4 @@
--- What the numbers of an accepted constraint are in the packet, whatever its type and its range.
+-- The packet values of an accepted constraint's numbers, for any type and range.
 use mathlib.Core.Path.{_≡_, refl, sym, ap}
 use mathlib.Core.Option.{some}
 use Prim.Native.Nat.{ℕ}
@@ -12,11 +12,11 @@ use Rattle.fields.specs.internal.lower.Lowered.{valueOr, lowered}
 use Rattle.kinds.specs.journey.Kinds.{dTcEndLocation, vSpeedLevel}
 use Rattle.grammar.proofs.journey.Tree.{by-range, by-type}
 
--- the end is its number
+-- the end's packet value is its number
 pub end-same : (range start n : ℕ) → dTcEndLocation range start .lower n ≡ when (dTcEndLocation range start .allowed n) n
 end-same range start n = by-range (λ k. k .lower n ≡ when (k .allowed n) n) range start refl refl
 
--- an unused speed is 0 in both
+-- an unused speed is 0 in the sheet and in the packet
 unused : (n v : ℕ) → upTo 7 0 .lower n ≡ some v → v ≡ lowered speed n
 unused n v e =
     let w = upTo-lawful 7 0 (narrow tt) (lit< tt) in
@@ -24,7 +24,7 @@ unused n v e =
     let b : v ≡ 0 = omega (arith, w .most v (w .into n v e)) in
     rw (a, b)
 
--- the speed is lowered, of any type
+-- the speed's packet value is its number lowered, for any type
 pub level-steps : (type n v : ℕ) → vSpeedLevel type .lower n ≡ some v → v ≡ lowered speed n
 level-steps type n v = by-type (λ k. k .lower n ≡ some v → v ≡ lowered speed n) type (λ e. sym (ap (valueOr 128) e)) (unused n v)
 

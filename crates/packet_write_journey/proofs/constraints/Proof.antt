@@ -1,4 +1,4 @@
--- `write_journey_packet::constraints` meets its contract. The loop's invariant: what is left of the constraints, after those that are put.
+-- `packet_write_journey::constraints` meets its contract. The loop's invariant: the constraints that are left, after the constraints that are written.
 use Rattle.format.specs.Format.{times}
 use Rattle.grammar.specs.journey.Journey.{temporaryConstraint}
 use Rattle.packet_write_segment.proofs.elements.Writing.{Along, along-all, times-next, times-on, times-end}

@@ -1,4 +1,4 @@
--- `write_journey_packet::names` meets its contract.
+-- `packet_write_journey::names` meets its contract.
 use Rattle.packet_write_journey.proofs.Parts.{segment-pieces}
 use Rattle.packet_write_journey.proofs.row.Three.{three-first, three-second, three-third, three-wrote}
 use borrow.Author.Needs.{needs}

@@ -1,4 +1,4 @@
--- The rows of a timing point in the three pieces in which they are put.
+-- Each row of a timing point is the three pieces in which it is written.
 use mathlib.Core.Path.{refl}
 use Prim.Native.Nat.{ℕ}
 use lib.Dec.{lit≤, eqb}
@@ -17,12 +17,12 @@ arrival-pieces =
       third = record { order = lit≤ tt; inside = lit≤ tt; fit = refl; sum = refl; some = lit≤ tt; most = lit≤ tt };
     }
 
-pub stopping-pieces : (stop : ℕ) → Three stoppingWidths (stoppingMost stop) 6 8 10 8 32 11
+pub stopping-pieces : (stopSkipPasses : ℕ) → Three stoppingWidths (stoppingMost stopSkipPasses) 6 8 10 8 32 11
 unfolding row
-stopping-pieces stop =
+stopping-pieces stopSkipPasses =
     record {
       cuts = λ f. refl;
-      first = record { order = lit≤ tt; inside = lit≤ tt; fit = by-cases (eqb stop 2) (λ e. rw e) (λ e. rw e); sum = refl; some = lit≤ tt; most = lit≤ tt };
-      second = record { order = lit≤ tt; inside = lit≤ tt; fit = by-cases (eqb stop 2) (λ e. rw e) (λ e. rw e); sum = refl; some = lit≤ tt; most = lit≤ tt };
-      third = record { order = lit≤ tt; inside = lit≤ tt; fit = by-cases (eqb stop 2) (λ e. rw e) (λ e. rw e); sum = refl; some = lit≤ tt; most = lit≤ tt };
+      first = record { order = lit≤ tt; inside = lit≤ tt; fit = by-cases (eqb stopSkipPasses 2) (λ e. rw e) (λ e. rw e); sum = refl; some = lit≤ tt; most = lit≤ tt };
+      second = record { order = lit≤ tt; inside = lit≤ tt; fit = by-cases (eqb stopSkipPasses 2) (λ e. rw e) (λ e. rw e); sum = refl; some = lit≤ tt; most = lit≤ tt };
+      third = record { order = lit≤ tt; inside = lit≤ tt; fit = by-cases (eqb stopSkipPasses 2) (λ e. rw e) (λ e. rw e); sum = refl; some = lit≤ tt; most = lit≤ tt };
     }

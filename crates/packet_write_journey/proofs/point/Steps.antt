@@ -18,28 +18,28 @@ abbrev arrival : Format → Format
 arrival f = row arrivalWidths arrivalMost f
 
 abbrev stopping : ℕ → Format → Format
-stopping stop f = row stoppingWidths (stoppingMost stop) f
+stopping stopSkipPasses f = row stoppingWidths (stoppingMost stopSkipPasses) f
 
-abbrev stop : Format → Format
-stop f = field qStopSkipPasses λ n. stopping n f
+abbrev afterArrival : Format → Format
+afterArrival f = field qStopSkipPasses λ n. stopping n f
 
 module _ {s room : List ℕ} {p : PacketSpot} (h : Ready timingPoint s room p) where
-  point-all : Along timingPoint (λ f. arrival (stop f)) s room p room p
-  point-all = along-as (λ f. arrival (stop f)) point-rows (along-all h)
+  point-all : Along timingPoint (λ f. arrival (afterArrival f)) s room p room p
+  point-all = along-as (λ f. arrival (afterArrival f)) point-rows (along-all h)
 
   pub point-arrival : Ready arrival s room p
-  point-arrival = along-next arrival stop point-all h
+  point-arrival = along-next arrival afterArrival point-all h
 
   module _ {mid : List ℕ} {q : PacketSpot} (a : Wrote arrival s room p mid q) where
-    pub point-stop : Offers qStopSkipPasses s mid q
-    point-stop = along-offers qStopSkipPasses stopping (along-on arrival stop point-all a) h
+    pub point-stop-skip-passes : Offers qStopSkipPasses s mid q
+    point-stop-skip-passes = along-offers qStopSkipPasses stopping (along-on arrival afterArrival point-all a) h
 
     module _ {end : List ℕ} {r : Given} (g : Gives qStopSkipPasses s mid q end r) where
-      after-stop : Along timingPoint (stopping (r .value)) s room p end (r .next)
-      after-stop = along-gives qStopSkipPasses stopping (along-on arrival stop point-all a) g
+      after-stop-skip-passes : Along timingPoint (stopping (r .value)) s room p end (r .next)
+      after-stop-skip-passes = along-gives qStopSkipPasses stopping (along-on arrival afterArrival point-all a) g
 
       pub point-stopping : Ready (stopping (r .value)) s end (r .next)
-      point-stopping = along-next (stopping (r .value)) (λ f. f) after-stop h
+      point-stopping = along-next (stopping (r .value)) (λ f. f) after-stop-skip-passes h
 
       pub point-wrote : {last : List ℕ} {t : PacketSpot} → Wrote (stopping (r .value)) s end (r .next) last t → Wrote timingPoint s room p last t
-      point-wrote w = along-none (along-on (stopping (r .value)) (λ f. f) after-stop w)
+      point-wrote w = along-none (along-on (stopping (r .value)) (λ f. f) after-stop-skip-passes w)

@@ -1,4 +1,4 @@
--- `write_journey_packet::points` meets its contract. The loop's invariant: what is left of the points, after those that are put.
+-- `packet_write_journey::points` meets its contract. The loop's invariant: the points that are left, after the points that are written.
 use Rattle.format.specs.Format.{times}
 use Rattle.grammar.specs.journey.Journey.{timingPoint}
 use Rattle.packet_write_segment.proofs.elements.Writing.{Along, along-all, times-next, times-on, times-end}

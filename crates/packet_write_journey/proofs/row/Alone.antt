@@ -1,4 +1,4 @@
--- A field put alone: from what is left of a part, and on to what is left after it.
+-- A single field written: from what is left of a part to what is left after the field.
 use mathlib.Core.Path.{refl}
 use mathlib.Core.Bool.{Bool}
 use mathlib.Core.List.{List, _++_, append-assoc}

@@ -1,4 +1,4 @@
--- The fields of a row gathered in one piece: the bits so far are those of the fields that are read.
+-- The fields of a row gathered in one piece: the bits so far are the bits of the fields that are read.
 use mathlib.Core.Path.{_≡_, refl}
 use mathlib.Core.Bool.{true}
 use mathlib.Core.List.{List}
@@ -92,7 +92,7 @@ module _ {ws ms s room : List ℕ} {u : PacketSpot} {total i from bits : ℕ} (g
             sum = omega (arith, g .sum, bits-more ws i l);
           }
 
-  -- the last of them
+  -- the last field
   module _ (l : length ws ≤ i) where
     all : g .width ≡ total
     all = omega (arith, g .sum, bits-none ws i l)

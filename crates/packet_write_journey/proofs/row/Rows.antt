@@ -1,4 +1,4 @@
--- A row from one of its fields on, and what is known of that field.
+-- A row from the field i on, and what is known of the field i.
 use mathlib.Core.Path.{_≡_, refl}
 use mathlib.Core.Bool.{true, _&&_}
 use mathlib.Core.List.{List, [], _∷_}

@@ -1,4 +1,4 @@
--- A row put in three pieces, one after the other.
+-- A row written in three pieces, one after another.
 use mathlib.Core.Path.{_≡_}
 use mathlib.Core.List.{List}
 use Prim.Native.Nat.{ℕ}
@@ -9,14 +9,14 @@ use Rattle.packet_write_segment.specs.internal.elements.Writing.{Ready, Wrote}
 use Rattle.packet_write_segment.proofs.elements.Writing.{Along, along-all, along-as, along-next, along-on, along-none}
 use Rattle.packet_write_journey.specs.internal.row.Pieces.{between, Puttable}
 
--- a row is its fields up to i, from there to j, and from there to k, each put at once
+-- a row is its fields up to i, from i to j, and from j to k, and each of the three pieces is written at once
 pub record Three (ws ms : List ℕ) (i j k a b c : ℕ) : Type 0 where
   pub cuts : (f : Format) → row ws ms f ≡ between ws ms 0 i (between ws ms i j (between ws ms j k f))
   pub first : Puttable ws ms 0 i a
   pub second : Puttable ws ms i j b
   pub third : Puttable ws ms j k c
 
--- the tables that are lent are vs and ns
+-- the tables vs and ns that are lent are ws and ms
 module _ {ws ms : List ℕ} {i j k a b c : ℕ} (t : Three ws ms i j k a b c) {vs ns : List ℕ} (v : vs ≡ ws) (n : ns ≡ ms) {s room : List ℕ} {u : PacketSpot} (h : Ready (row ws ms) s room u) where
   abbrev one : Format → Format
   one f = between vs ns 0 i f

@@ -1,4 +1,4 @@
--- `write_journey_packet::segment` meets its contract.
+-- `packet_write_journey::segment` meets its contract.
 use lib.Dec.{lit<, lit≤}
 use Rattle.packet_write_journey.proofs.Steps.{segment-names, segment-count, segment-points, segment-last, segment-constraints, segment-wrote}
 use Rattle.packet_write_journey.proofs.segment.Statement.{statement}

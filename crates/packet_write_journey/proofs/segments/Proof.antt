@@ -1,4 +1,4 @@
--- `write_journey_packet::segments` meets its contract. The loop's invariant: what is left of the segments, after those that are put.
+-- `packet_write_journey::segments` meets its contract. The loop's invariant: the segments that are left, after the segments that are written.
 use Rattle.format.specs.Format.{times}
 use Rattle.grammar.specs.journey.Journey.{journeySegment, constraints}
 use Rattle.packet_write_segment.proofs.elements.Writing.{Along, along-all, times-next, times-on, times-end}

@@ -1,3 +1,3 @@
--- What the code of row needs and no promise names.
+-- Definitions that contracts of `row` use; no promise names them.
 pub mod Alone
 pub mod Pieces

@@ -1,4 +1,4 @@
--- However a packet was cut, and from any state that starts afresh, verdict and sheet are those of the joined bytes, or 8; by induction over the deliveries.
+-- However a packet was cut, and from any state that starts afresh, the verdict and the sheet are the verdict on and the sheet of the joined bytes, or both are 8; by induction over the deliveries.
 use mathlib.Core.Path.{_≡_, refl, sym, ap, _∙_}
 use mathlib.Core.Bool.{true, false}
 use mathlib.Core.List.{List, [], _∷_, _++_, append-nil, append-assoc, flatten}
@@ -57,7 +57,7 @@ past (d ∷ ds) room = by-cases (eqb (length d) 0) (λ e. rw e (past ds room)) (
 
 -- ---- all deliveries into a room that begins with the bytes p
 
--- the same room and the same bytes, once the next delivery is among those before
+-- moving the next delivery to the bytes p before it changes neither the length of the room nor the joined bytes
 module _ (p rest d : List ℕ) (ds : List (List ℕ)) (fits : length d ≤ length rest) where
   same-room : length ((p ++ d) ++ drop (length d) rest) ≡ length (p ++ rest)
   same-room = rw (length-append (p ++ d) (drop (length d) rest), length-append p d, length-append p rest, length-drop (length d) rest) (omega arith)
@@ -72,7 +72,7 @@ module _ (p rest d : List ℕ) (ds : List (List ℕ)) (fits : length d ≤ lengt
 fits-rest : (p rest d : List ℕ) → holds (p ++ rest) (length p + length d) ≡ true → length d ≤ length rest
 fits-rest p rest d e = let h = held (p ++ rest) (length p + length d) e .0 in omega (arith, length-append p rest)
 
--- the room holds them
+-- all deliveries are written if the room holds them
 within : (ds : List (List ℕ)) (p rest : List ℕ) → holds (p ++ rest) (length p + length (flatten ds)) ≡ true
     → deliveredAll (gathering (length p)) ds (p ++ rest) ≡ record { intake = gathering (length p + length (flatten ds)); room = (p ++ flatten ds) ++ drop (length (flatten ds)) rest }
 unfolding flatten
@@ -89,7 +89,7 @@ within (d ∷ ds) p rest e =
     let later = within ds (p ++ d) (drop (length d) rest) (same-holds p rest d ds fits ∙ e) in
     rw (put p rest d some now) (later ∙ rw (same-count p rest d ds fits, append-assoc p d (flatten ds), drop-drop (length (flatten ds)) (length d) rest, l)))
 
--- the room does not hold them
+-- the deliveries end past the room's end, and some of their bytes were written
 abbrev Beyond : List (List ℕ) → List ℕ → List ℕ → Type 0
 Beyond ds p rest = (taken : ℕ) × (deliveredAll (gathering (length p)) ds (p ++ rest) ≡ record { intake = passed; room = (p ++ take taken (flatten ds)) ++ drop taken rest })
 
@@ -116,13 +116,13 @@ beyond (d ∷ ds) p rest few e =
     (length d + later .0, rw (put p rest d some now) (later .1 ∙ rw (take-append-add d (flatten ds) (later .0), drop-drop (later .0) (length d) rest, append-assoc p d (take (later .0) (flatten ds))))))
     (λ now. (0, rw (over p rest d some now) (past ds (p ++ rest) ∙ rw (append-nil p)))))
 
--- ---- a verdict before is as nothing before
+-- ---- a state with a verdict takes deliveries as a fresh state does
 
 idle : (i : Intake) (d room : List ℕ) → length d ≡ 0 → delivered i d room ≡ record { intake = i; room = room }
 unfolding delivered
 idle i d room e = rw e
 
--- what the deliveries that are left make of what one has left
+-- the verdict after the deliveries that are left, from the state and the room after one delivery
 abbrev verdictOn : List (List ℕ) → Delivered → Intake
 verdictOn ds x = verdictAfter (x .intake) ds (x .room)
 
@@ -174,7 +174,7 @@ module _ (ds : List (List ℕ)) (room : List ℕ) where
   abbrev rest : List ℕ
   rest = drop (length (flatten ds)) room
 
-  -- from a fresh state
+  -- all deliveries are in the room, from a fresh state
   all-in : holds room (length (flatten ds)) ≡ true → deliveredAll (gathering 0) ds room ≡ record { intake = gathering (length (flatten ds)); room = flatten ds ++ rest }
   all-in e = let z : 0 + length (flatten ds) ≡ length (flatten ds) = omega arith in rw z at (within ds [] room (rw z e))
 
@@ -196,12 +196,12 @@ module _ (ds : List (List ℕ)) (room : List ℕ) where
   asked-again end out = refl
 
   module _ (i : Intake) where
-    -- the verdict and the room are those from a fresh state
+    -- the verdict and the room equal the verdict and the room from a fresh state
     as-fresh : {C : Type 0} → Afresh i → (verdictAfter i ds room ≡ verdictAfter (gathering 0) ds room → roomAfter i ds room ≡ roomAfter (gathering 0) ds room → C) → C
     as-fresh (fresh e) f = f (ap (λ (j : Intake). verdictAfter j ds room) e) (ap (λ (j : Intake). roomAfter j ds room) e)
     as-fresh (afterVerdict e) f = f (afresh i e ds room .0) (afresh i e ds room .1)
 
-    -- "if one room is lent throughout, holds them": as the joined bytes given at once
+    -- "if one room is lent throughout, holds them": the verdict and the sheet equal the answers for the joined bytes given at once
     pub as-joined : Afresh i → holds room (length (flatten ds)) ≡ true → AsJoined i ds room
     as-joined a e = as-fresh a λ v r. record {
       verdict = v ∙ fresh-verdict e;
@@ -209,7 +209,7 @@ module _ (ds : List (List ℕ)) (room : List ℕ) where
       stays = r ∙ fresh-room e;
     }
 
-    -- "if the deliveries together exceeded the room": 8
+    -- "if the deliveries together exceeded the room": the verdict is 8
     pub too-long : Afresh i → holds room (length (flatten ds)) ≡ false → TooLong i ds room
     too-long a e =
         as-fresh a λ v r.

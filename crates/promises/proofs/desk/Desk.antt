@@ -1,4 +1,4 @@
--- The desk cases marked (P), by one statement over the definitions that the contracts cite.
+-- The desk cases marked (P), proved by one statement over the definitions that the contracts cite.
 use mathlib.Core.Path.{_≡_, refl}
 use mathlib.Core.List.{map}
 use Rattle.format.specs.Format.{times}

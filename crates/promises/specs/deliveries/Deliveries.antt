@@ -1,4 +1,4 @@
--- What the customer is promised of a packet that is taken in deliveries, however it was cut.
+-- What is promised of a packet that arrives in deliveries, however it was cut.
 use mathlib.Core.Path.{_≡_}
 use mathlib.Core.List.{List, [], _∷_, _++_, flatten}
 use Prim.Native.Nat.{ℕ}
@@ -19,10 +19,11 @@ pub data Afresh (i : Intake) : Type 0 where
   afterVerdict : i .phase ≡ 2 → Afresh i
 
 module _ (i : Intake) (ds : List (List ℕ)) (room : List ℕ) where
-  -- the room once all are taken, and the verdict at completion
+  -- the room after all deliveries
   abbrev pub roomAfter : List ℕ
   roomAfter = deliveredAll i ds room .room
 
+  -- the state with the verdict at completion
   abbrev pub verdictAfter : Intake
   verdictAfter = completed (deliveredAll i ds room .intake) roomAfter
 

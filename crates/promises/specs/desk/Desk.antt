@@ -39,13 +39,13 @@ abbrev pub converts : Question → Reply → Case
 converts (askSheetOf s) r = convertsTo packetToSheet s r
 converts (askPacketOf s) r = convertsTo sheetToPacket s r
 
--- "Length 1,000 cm, 100 km/h with Q_FRONT 0, change at 500 to 140", over the Q_FRONT of each
+-- "Length 1,000 cm, 100 km/h with Q_FRONT 0, change at 500 to 140", with Q_FRONT `front` before the change and `next` after it
 abbrev pub changeSheet : ℕ → ℕ → List ℕ
 changeSheet front next =
     0x06 ∷ 0xC5 ∷ 0xC6 ∷ 0x04 ∷ 0x01 ∷ 0x00 ∷ 0x00 ∷ 0x07 ∷ replicate 4 0 ++ 0xE8 ∷ 0x07 ∷ replicate 3 0
     ++ 0x64 ∷ front ∷ 0x00 ∷ 0x01 ∷ 0xF4 ∷ 0x03 ∷ 0x8C ∷ 0x01 ∷ next ∷ replicate 6 0
 
--- "sheet to packet": its packet of 43 bytes
+-- "sheet to packet": the packet of `changeSheet`, 43 bytes
 abbrev pub changePacket : ℕ → ℕ → List ℕ
 changePacket front next = sheetToPacket (changeSheet front next) (room 43) .room
 
@@ -55,7 +55,7 @@ told medium s t x r v = record { said = speedSaid (permittedSpeed medium s t x);
 
 -- ---- A4: "Cant deficiency falls to the next lower class"
 
--- the same segment with one element: 100 km/h, and n entries
+-- a segment of 1,000 cm with one element: 100 km/h, and n entries
 abbrev pub entriesSheet : ℕ → List ℕ → List ℕ
 entriesSheet n entries =
     0x06 ∷ 0xC5 ∷ 0xC6 ∷ 0x04 ∷ 0x01 ∷ 0x00 ∷ 0x00 ∷ 0x07 ∷ replicate 4 0 ++ 0xE8 ∷ 0x07 ∷ replicate 3 0
@@ -71,37 +71,38 @@ severalSheet =
     entriesSheet 5
     (0x00 ∷ 0x82 ∷ 0x01 ∷ 0x73 ∷ 0x00 ∷ 0xA5 ∷ 0x01 ∷ 0x8C ∷ 0x01 ∷ 0x00 ∷ 0x82 ∷ 0x01 ∷ 0x70 ∷ 0x00 ∷ 0x64 ∷ 0x5A ∷ 0x00 ∷ 0x82 ∷ 0x01 ∷ 0x7D ∷ [])
 
--- from the sheet of two entries and its packet of 42 bytes, and from the sheet of five and its packet of 47
+-- the speeds from `twoSheet` and its packet of 42 bytes, and from `severalSheet` and its packet of 47 bytes
 abbrev pub cants : List Case
 cants =
     -- "A 150 mm train with entries for 100 and 165 uses the 100 entry"
     told 1 twoSheet (canted 150) 0 0 120 ∷ told 0 (sheetToPacket twoSheet (room 42) .room) (canted 150) 0 0 120
-    -- its own beside a lower one, and none at or below its own
+    -- entries for the train's own figure and a lower one; for no figure at or below its own
     ∷ told 1 twoSheet (canted 165) 0 0 140 ∷ told 0 (sheetToPacket twoSheet (room 42) .room) (canted 165) 0 0 140
     ∷ told 1 twoSheet (canted 80) 0 0 100 ∷ told 0 (sheetToPacket twoSheet (room 42) .room) (canted 80) 0 0 100
-    -- "the lowest speed of them", in fives from the packet
+    -- "the lowest speed of them"; a packet's speeds are multiples of 5
     ∷ told 1 severalSheet (canted 150) 0 0 112 ∷ told 0 (sheetToPacket severalSheet (room 47) .room) (canted 150) 0 0 110
     ∷ told 1 severalSheet (canted 130) 0 0 112 ∷ told 0 (sheetToPacket severalSheet (room 47) .room) (canted 130) 0 0 110
     ∷ []
 
 -- ---- A1: "the journey on the same link, as packet number 4"
 
--- no segment: a body of 11 bits, and 8 numbers
+-- the packet of a journey of no segment: a body of 11 bits
 abbrev pub journeyPacket : List ℕ
 journeyPacket = 0x04 ∷ 0x00 ∷ 0x0B ∷ replicate 14 0
 
+-- the sheet of a journey of no segment: 8 numbers
 abbrev pub journeySheetBytes : List ℕ
 journeySheetBytes = 0x04 ∷ replicate 7 0
 
--- one segment with one timing point: its latest arrival's seconds in three groups, its Q_Stop_Skip_Passes, and what follows the daylight saving
+-- a journey of one segment with one timing point: the bytes of its latest arrival's seconds, its Q_Stop_Skip_Passes, and the bytes after the daylight saving
 abbrev pub pointSheet : List ℕ → ℕ → List ℕ → List ℕ
 pointSheet seconds stop rest = 0x04 ∷ replicate 6 0 ++ 0x01 ∷ replicate 5 0 ++ 0x01 ∷ 0x00 ∷ 0x00 ∷ seconds ++ 0x00 ∷ 0x00 ∷ stop ∷ 0x00 ∷ 0x00 ∷ rest
 
--- the refusal of a sheet, and its place
+-- the sheet s is refused with r at `place`
 abbrev pub refusedSheet : List ℕ → ℕ → ℕ → Case
 refusedSheet s r place = converts (askPacketOf s) (refusal r place)
 
--- what of a sheet is refused for want of room is accepted
+-- the cases of journeys; a sheet that is refused with 8 is accepted but for the short room
 abbrev pub journeys : List Case
 journeys =
     converts (askSheetOf journeyPacket) (bytes journeySheetBytes) ∷ converts (askPacketOf journeySheetBytes) (bytes journeyPacket)
@@ -121,29 +122,31 @@ journeys =
 
 -- ---- A5: "Yard speed restrictions"
 
--- one segment with no timing point, so many constraints, and the numbers of the one that follows
+-- a journey of one segment with no timing point: `count` constraints, of which the bytes `numbers` follow
 abbrev pub constraintSheet : ℕ → List ℕ → List ℕ
 constraintSheet count numbers = 0x04 ∷ replicate 6 0 ++ 0x01 ∷ replicate 6 0 ++ count ∷ numbers
 
--- its packet: a body of 153 bits, of which these are the last 73
+-- the packet of a journey of one segment with one constraint: a body of 153 bits, of which `bits` has the last 73
 abbrev pub constraintPacket : List ℕ → List ℕ
 constraintPacket bits = 0x04 ∷ 0x00 ∷ 0x99 ∷ replicate 13 0 ++ 0x20 ∷ replicate 7 0 ++ 0x01 ∷ bits
 
--- the first byte of one of the numbers, of which those before it have a byte each
+-- a constraint is refused with r at its number n, counted from 0; each number before it has one byte
 abbrev pub refusedConstraint : List ℕ → ℕ → ℕ → Case
 refusedConstraint numbers r n = refusedSheet (constraintSheet 1 numbers) r (15 + n)
 
--- what is refused for want of room is accepted
+-- a constraint is accepted: the sheet is refused with 8 alone
 abbrev pub acceptedConstraint : List ℕ → Case
 acceptedConstraint numbers = refusedSheet (constraintSheet 1 numbers) 8 0
 
--- the numbers of a speed restriction from 100 to 200 cm, with its speed in km/h, and the packet of one to 80
+-- the bytes of a speed restriction from 100 to 200 cm, whose speed in km/h has the bytes `speed`
 abbrev pub restricted : List ℕ → List ℕ
 restricted speed = 0x00 ∷ 0x02 ∷ 0x64 ∷ 0xC8 ∷ 0x01 ∷ 0x01 ∷ speed ++ 0x00 ∷ 0x00 ∷ []
 
+-- the packet of a speed restriction from 100 to 200 cm, to 80 km/h
 abbrev pub restrictedPacket : List ℕ
 restrictedPacket = constraintPacket (0x20 ∷ 0x00 ∷ 0x06 ∷ 0x40 ∷ 0x00 ∷ 0x0C ∷ 0x89 ∷ 0x01 ∷ 0xFF ∷ 0x80 ∷ [])
 
+-- the cases of temporary constraints
 abbrev pub constraintCases : List Case
 constraintCases =
     -- "Lowering in demands 2 and 3 then covers these speeds": 83 km/h gives 80
@@ -175,24 +178,24 @@ constraintCases =
 
 -- ---- A8: "More wire changes"
 
--- n changes from the location x on, one centimetre apart, each with these numbers
+-- n changes from the location x on, one centimetre apart, each with the numbers l
 abbrev pub wired : ℕ → ℕ → List ℕ → List ℕ
 wired x zero l = []
 wired x (suc n) l = x ∷ l ++ wired (suc x) n l
 
--- 1,000 cm with so many voltage changes, whose count is at byte 23, and so many current changes
+-- a segment of 1,000 cm with `volts` voltage changes, whose count is at byte 23, and `amperes` current changes
 abbrev pub wireSheet : ℕ → ℕ → List ℕ
 wireSheet volts amperes =
     0x06 ∷ 0xC5 ∷ 0xC6 ∷ 0x04 ∷ 0x01 ∷ 0x00 ∷ 0x00 ∷ 0x07 ∷ replicate 4 0 ++ 0xE8 ∷ 0x07 ∷ replicate 3 0
     ++ 0x64 ∷ replicate 5 0 ++ volts ∷ wired 1 volts (0x00 ∷ 0x00 ∷ []) ++ 0x00 ∷ amperes ∷ wired 1 amperes (0x00 ∷ [])
 
--- what of a sheet is refused for want of room is accepted
+-- the cases of wire changes; a sheet that is refused with 8 is accepted but for the short room
 abbrev pub wireCases : List Case
 wireCases =
     -- "31 voltage and 31 current changes where 23 were allowed", in both lists or in one
     refusedSheet (wireSheet 23 23) 8 0 ∷ refusedSheet (wireSheet 24 24) 8 0 ∷ refusedSheet (wireSheet 31 31) 8 0
     ∷ refusedSheet (wireSheet 31 0) 8 0 ∷ refusedSheet (wireSheet 0 31) 8 0
-    -- and 32 in neither
+    -- 32 voltage changes, and 32 current changes
     ∷ refusedSheet (wireSheet 32 0) 4 23 ∷ refusedSheet (wireSheet 0 32) 4 25
     -- "4 no longer covers counts 24 to 31": the first location of 24 and of 31 voltage changes does not fit
     ∷ converts (askSheetOf (take 35 firstPacket ++ 0x06 ∷ drop 36 firstPacket)) (refusal 6 290)

@@ -1,4 +1,4 @@
--- A row of fields from a place in it on, whatever is carried: one more field, one refused, and none left.
+-- A row from its field i on, whatever the pass carries: one more field, a field refused, and no field left.
 use mathlib.Core.Path.{_≡_}
 use mathlib.Core.List.{List}
 use Prim.Native.Nat.{ℕ, _+_, _≤_, _<_}

@@ -1,4 +1,4 @@
--- A part of the tree judged at a place of a sheet, with the bits of its packet counted. What the code below a promise is held to; no promise names it.
+-- A part of the tree judged at a place of a sheet, with the bits of its packet counted. Used by contracts of the code; no promise names these.
 use mathlib.Core.Path.{_≡_}
 use mathlib.Core.List.{List}
 use Prim.Native.Nat.{ℕ, _+_, _%_, _^_, _≤_}
@@ -18,7 +18,7 @@ use Rattle.sheet_fields.specs.declared.SheetStep.the-variants.{On, Refus
 use Rattle.sheet_fields.specs.declared.SheetValue.{SheetValue}
 use Rattle.sheet_fields.specs.declared.SheetValue.the-variants as SheetValue
 
--- the packet's bits are counted round 2 to the 32: a sheet's length bounds no count, and an accepted sheet's count is far below
+-- the task that counts the bits of the packet modulo 2^32: no sheet length bounds the count, and an accepted sheet's count is far below 2^32
 abbrev pub judging : Task ℕ SheetVerdict
 judging = countingWithin (2 ^ 32) packet SheetVerdict.PacketBits SheetVerdict.Refused
 
@@ -27,7 +27,7 @@ pub record Standing (s : List ℕ) (at : ℕ) : Type 0 where
   pub bytes : Bytes s
   pub inside : at ≤ length s
 
--- judging as a pass seen at places, and the answers of its functions
+-- judging as a pass over places, and the answers of the code's functions as steps of the pass
 abbrev pub judge : List ℕ → Way ℕ SheetVerdict
 judge s = passing sheet judging (λ at. drop at s) (λ at n. Standing s at)
 
@@ -43,11 +43,11 @@ got (SheetValue.Refused r at) = Got.off r at
 abbrev pub Over : (Format → Format) → List ℕ → ℕ → ℕ → SheetStep → Type 0
 Over part s at n r = ways.Over (judge s) part at n (went r)
 
--- the same of one field, on whose value what follows may depend
+-- A step over one field, on whose value what follows may depend.
 abbrev pub Took : Kind → List ℕ → ℕ → ℕ → SheetValue → Type 0
 Took k s at n r = ways.Took (judge s) k at n (got r)
 
--- the step over a field of so many bits, from the count of its number's groups, 0 where there is no number, and the value that it lowers to, or none
+-- the step over a field of width bits, from the count of its number's groups, 0 where there is no number, and the value that the number lowers to, or none
 pub record Lowers (at n count value none width : ℕ) (r : SheetStep) : Type 0 where
   pub bad : count ≡ 0 → r ≡ Refused 9 at
   pub out : (count ≡ 0 → ⊥) → value ≡ none → r ≡ Refused 4 at

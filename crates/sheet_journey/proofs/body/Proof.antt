@@ -1,4 +1,4 @@
--- `judge_journey_sheet::body` meets its contract.
+-- `sheet_journey::body` meets its contract.
 use Rattle.format.specs.Format.{field, times}
 use Rattle.format.proofs.Ways.{value-on, value-off}
 use Rattle.kinds.specs.journey.Kinds.{nIterSp}

@@ -1,4 +1,4 @@
--- `judge_journey_sheet::constraints` meets its contract.
+-- `sheet_journey::constraints` meets its contract.
 use Rattle.format.specs.Format.{times}
 use Rattle.format.proofs.Ways.{value-on, value-off}
 use Rattle.grammar.specs.journey.Journey.{temporaryConstraint}

@@ -1,4 +1,4 @@
--- `judge_journey_sheet::fields` meets its contract.
+-- `sheet_journey::fields` meets its contract.
 use Rattle.format.proofs.Ways.{over-on, over-off}
 use Rattle.grammar.specs.internal.rows.Rows.{row}
 use borrow.Author.Needs.{needs}

@@ -1,4 +1,4 @@
--- `judge_journey_sheet::header_row` meets its contract.
+-- `sheet_journey::header_row` meets its contract.
 use borrow.Author.Needs.{needs}
 use Rattle.sheet_journey.proofs.header_row.Statement.{statement}
 use Rattle.sheet_journey.proofs.header_row.Tie as tie

@@ -1,4 +1,4 @@
--- `judge_journey_sheet::segment` meets its contract.
+-- `sheet_journey::segment` meets its contract.
 use Rattle.format.proofs.Ways.{over-on, over-off, value-on, value-off}
 use Rattle.grammar.specs.internal.rows.Rows.{row}
 use Rattle.grammar.specs.journey.Journey.{constraints}

@@ -1,4 +1,4 @@
--- `judge_journey_sheet::segment_row` meets its contract.
+-- `sheet_journey::segment_row` meets its contract.
 use borrow.Author.Needs.{needs}
 use Rattle.sheet_journey.proofs.segment_row.Statement.{statement}
 use Rattle.sheet_journey.proofs.segment_row.Tie as tie

@@ -1,2 +1,2 @@
--- What the code of row needs and no promise names.
+-- Definitions that contracts of `row` use; no promise names them.
 pub mod Row

@@ -1,4 +1,4 @@
--- `question::from_sheet` meets its contract.
+-- `speed_question::from_sheet` meets its contract.
 use mathlib.Core.Path.{refl, sym, _∙_}
 use denote.Ref.{now}
 use Rattle.speed_question.specs.Question.{Brought}

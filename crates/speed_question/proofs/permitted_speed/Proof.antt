@@ -1,4 +1,4 @@
--- `question::permitted_speed` meets its contract.
+-- `speed_question::permitted_speed` meets its contract.
 use mathlib.Core.Path.{sym, _∙_}
 use denote.Ref.{now}
 use Rattle.speed_question.specs.Question.{Brought}

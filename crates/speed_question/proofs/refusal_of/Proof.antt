@@ -1,4 +1,4 @@
--- `question::refusal_of` meets its contract.
+-- `speed_question::refusal_of` meets its contract.
 use mathlib.Core.Path.{sym, _∙_}
 use native.Mathlib.Omega.{arith}
 use Rattle.speed_question.proofs.Answering.{invalid, past-end, in-place}

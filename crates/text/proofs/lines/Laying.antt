@@ -1,4 +1,4 @@
--- The lines of a listing, put piece by piece, and the numbers that they show.
+-- The lines of a listing, written piece by piece, and the numbers that they show.
 use mathlib.Core.Path.{_≡_, refl, sym, _∙_}
 use mathlib.Core.List.{List, _++_}
 use Prim.Native.Nat.{ℕ, zero, suc, _+_, _*_, _-_, _≤_}
@@ -16,7 +16,7 @@ use Rattle.text.proofs.words.Putting.{laid-on, laid-long, decimal-short
 
 -- ---- numbers of a sheet
 
--- the number that stands after k others
+-- the number at the place after k numbers is the number k, counted from 0
 pub value-at : {s : List ℕ} {p v : ℕ} (k : ℕ) (ns : List ℕ) → NumbersAt s p (drop k ns) → v ≡ getD (numbersIn (drop p s)) 0 0 → v ≡ getD ns k 0
 value-at k ns h e = e ∙ rw (h .here) (getD-drop k ns 0 0 ∙ rw (add-zero k))
 
@@ -57,7 +57,7 @@ pub segment-laid : {room : List ℕ} {at n1 n2 : ℕ} {c1 c2 : List ℕ} (y z : 
     → Laid room at (namesText ns) n1 c1 → Laid c1 n1 (measures y ns) n2 c2 → y ≡ z → Laid room at (segmentLine z ns) n2 c2
 segment-laid y z ns e1 e2 t = rw (← t) (laid-on e1 e2)
 
--- "FROM ", " SPEED ", " FRONT " and three numbers of at most ten digits, with the line's end
+-- an element's line has "FROM ", " SPEED ", " FRONT ", three numbers of at most ten digits, and the line's end
 pub element-short : (e : Element) → length (elementLine e) ≤ 50
 element-short e = simp length-append (omega (arith, decimal-short (e .start), decimal-short (e .vStatic), decimal-short (e .qFront)))
 
@@ -71,7 +71,7 @@ change-lines (suc n) start ns h e =
     let p : 0 + getD ns 0 0 ≡ start = omega arith in
     rw (d, p)
 
--- what is put from here on makes the whole
+-- the text of the n changes that are left, written from here on, completes the whole text
 pub record Changing (sheet : List ℕ) (Whole : ℕ → List ℕ → Type 0) (n place next : ℕ) (room : List ℕ) : Type 0 where
   pub inside : place ≤ length sheet
   pub fits : next + 50 * n ≤ length room
@@ -99,10 +99,11 @@ module _ {sheet : List ℕ} {Whole : ℕ → List ℕ → Type 0} {n place next 
 
 -- ---- all lines
 
--- "SEGMENT ", " " and two numbers of at most ten digits; " LENGTH ", " ALTITUDE ", one and one with a sign, and the line's end
+-- a segment's line up to NID_SP has "SEGMENT ", " " and two numbers of at most ten digits
 pub names-short : (ns : List ℕ) → length (namesText ns) ≤ 29
 names-short ns = simp length-append (omega (arith, decimal-short (getD ns 6 0), decimal-short (getD ns 7 0)))
 
+-- the rest of a segment's line has " LENGTH ", " ALTITUDE ", a number of at most ten digits, one with a sign, and the line's end
 pub measures-short : (z : ℤ) (ns : List ℕ) → length (measures z ns) ≤ 40
 measures-short z ns = simp length-append (omega (arith, decimal-short (getD ns 10 0), signed-short z))
 

@@ -1,4 +1,4 @@
--- The numbers of a sheet: one after the other, and those of a sheet that was written.
+-- The numbers of a sheet, read one after the other; a sheet that was written of numbers has these numbers.
 use mathlib.Core.Path.{_≡_, refl, sym, ap, _∙_}
 use mathlib.Core.List.{List, [], _∷_, _++_}
 use Prim.Native.Nat.{ℕ, zero, suc, _+_, _-_, _≤_}
@@ -18,7 +18,7 @@ use Rattle.format.specs.Conforming.{Conforming, done, also, InSheet}
 use Rattle.format.proofs.Media.{bytes-drop}
 use Rattle.text.specs.internal.sheet.Numbers.{before, firstNumbers, numbersIn}
 
--- nothing stands in front of nothing
+-- no byte has no number
 none-in : numberIn [] ≡ Bad
 unfolding numberOf
 none-in = refl
@@ -35,7 +35,7 @@ same-before : (r : Number) {f g : ℕ → List ℕ} → ((v : ℕ) → f v ≡ g
 same-before Bad e = refl
 same-before (Value v) e = ap (λ (t : List ℕ). v ∷ t) (e v)
 
--- it does not matter how many may be read, where no more bytes are left
+-- two limits of which neither is below the count of bytes give the same numbers
 enough : (n m : ℕ) (s : List ℕ) → length s ≤ n → length s ≤ m → firstNumbers n s ≡ firstNumbers m s
 enough zero m s h l = sym (numbers-none m s h)
 enough (suc n) zero s h l = numbers-none (suc n) s l
@@ -58,7 +58,7 @@ module _ (s : List ℕ) where
       rest : (t : List ℕ) → length t ≤ length s → firstNumbers (length s) t ≡ firstNumbers (length t) t
       rest t h = enough (length s) (length t) t h (omega arith)
 
--- the numbers of a sheet that was written are those that were written
+-- a sheet that is written of values has the numbers of the values
 pub numbers-written : {f : Format} {l : List Item} → Conforming InSheet f l → numbersIn (write sheet f l) ≡ sheetNumbers l
 numbers-written done = numbers-bad [] none-in
 numbers-written (also {next = next} {i = i} {l = l} g c) =
@@ -77,7 +77,7 @@ module _ (s : List ℕ) (at : ℕ) where
   no-number e = rw (numbers-bad (drop at s) e)
 
   module _ (ok : Bytes s) (v : ℕ) (e : numberIn (drop at s) ≡ Value v) where
-    -- the number's groups are inside
+    -- the groups of a number are inside the sheet
     pub groups-inside : at ≤ length s → at + length (groupsIn v) ≤ length s
     groups-inside h =
         let n = number-only (drop at s) v (bytes-drop at s ok) e in

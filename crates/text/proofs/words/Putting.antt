@@ -1,4 +1,4 @@
--- Text put at a place after other text, and the digits of a number.
+-- Text written at a place after other text, and the digits of a number.
 use mathlib.Core.Path.{_≡_, sym, ap, _∙_}
 use mathlib.Core.List.{List, [], _∷_, _++_}
 use Prim.Native.Nat.{ℕ, zero, suc, _+_, _-_, _/_, _%_, _^_, _≤_, _<_}
@@ -47,7 +47,7 @@ pub decimal-short : (v : ℕ) → length (decimal v) ≤ 10
 unfolding decimal
 decimal-short v = digits-most 10 v
 
--- one place more changes nothing where v has no digit there
+-- a limit of one more digit changes nothing if v has no digit more
 enough : (n v : ℕ) → v < 10 ^ suc n → digitsOf (suc n) v ≡ digitsOf (suc (suc n)) v
 enough zero v h = rw (lt-ltb v 10 (omega arith))
 enough (suc n) v h =

@@ -1,4 +1,4 @@
--- The magnitude of a signed number of 32 bits, by way of 64 bits, and its text.
+-- The magnitude of a signed number of 32 bits, computed in 64 bits, and the text of the number.
 use mathlib.Core.Path.{_≡_, refl, ap, _∙_}
 use mathlib.Core.Bool.{true, false}
 use mathlib.Core.List.{_++_}

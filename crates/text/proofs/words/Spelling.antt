@@ -8,7 +8,7 @@ use lib.Dec.{ltb}
 use Rattle.bits.proofs.Tests.{by-cases}
 use Rattle.text.specs.words.Words.{digitByte, digitsOf, decimal}
 
--- the number that decimal digits spell, after those that spell n
+-- the number that decimal digits spell after digits that spell n
 abbrev pub spelt : ℕ → List ℕ → ℕ
 spelt n [] = n
 spelt n (b ∷ s) = spelt (10 * n + (b - 48)) s

@@ -1,4 +1,4 @@
--- What the writers of a listing are held to; no promise names it.
+-- What a writer of a listing requires. Used by contracts of the code; no promise names it.
 use mathlib.Core.Path.{_≡_}
 use mathlib.Core.List.{List}
 use Prim.Native.Nat.{ℕ}

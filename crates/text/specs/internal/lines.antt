@@ -1,2 +1,2 @@
--- What the code of lines needs and no promise names.
+-- Used by contracts of the module lines; no promise names these.
 pub mod Changes

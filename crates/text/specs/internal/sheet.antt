@@ -1,2 +1,2 @@
--- What the code of sheet needs and no promise names.
+-- Used by contracts of the module sheet; no promise names these.
 pub mod Numbers

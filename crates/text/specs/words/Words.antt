@@ -37,7 +37,7 @@ signedDecimal (negsuc n) = ascii "-" ++ decimal (suc n)
 abbrev pub labelled : List ℕ → ℕ → List ℕ
 labelled word v = word ++ decimal v
 
--- "writes .. a listing": the text was put at the place: after is the place after it, and cells what the room then holds
+-- "writes .. a listing": `text` was written at the byte `at` of `room`; `after` is the byte after it, `cells` the room with the text
 pub record Laid (room : List ℕ) (at : ℕ) (text : List ℕ) (after : ℕ) (cells : List ℕ) : Type 0 where
   pub place : after ≡ at + length text
   pub bytes : cells ≡ sets room at text

@@ -1,4 +1,4 @@
--- The verdict on a packet and on a sheet: the size of what it converts to, or the refusal. No promise names it.
+-- The verdict on a packet and on a sheet: the size of the conversion's result, or the refusal. Used by contracts of the code; no promise names these.
 use mathlib.Core.List.{List, _∷_}
 use Prim.Native.Nat.{ℕ, _+_}
 use lib.ListN.{length}

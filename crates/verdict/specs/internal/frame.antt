@@ -1,2 +1,2 @@
--- What the code of frame needs and no promise names.
+-- Definitions that contracts of `frame` use; no promise names them.
 pub mod Framed

@@ -1,4 +1,4 @@
-//! Temporary constraints of a journey, written from the request that brought them: both conversions, speeds lowered, fields not used.
+//! Tests of a journey's temporary constraints, written from their request: both conversions, lowered speeds, fields that are not used.
 use crate::journeys::{converts, journey, refuses, PACKET, SHEET};
 use crate::segments::{byte_of, packet, same, sheet, speed, Field, NO_LIMIT};
 use crate::told;
@@ -12,7 +12,7 @@ const RESTRICTION: Numbers = [0, 2, 1_000, 2_500, 1, 43, 0];
 const SLIPPERY: Numbers = [1, 1, 0, 2_500, 0, 0, 5];
 const MODES: Numbers = [2, 3, 0, 0, 0, 0, 0];
 
-/// Where the count of constraints stands in the journey of one timing point, and the fields of its first constraint.
+/// Places of the count of constraints in the journey of one timing point, and of the fields of its first constraint.
 const COUNT: usize = 30;
 const TYPE: usize = 31;
 const RANGE: usize = 32;
@@ -28,7 +28,7 @@ pub fn constraint([tc_type, range, start, end, front, kmh, adhesion]: Numbers) -
     [&place[..], &[same(1, front), speed(kmh), same(3, adhesion), NO_LIMIT]].concat()
 }
 
-/// The journey of one timing point with a constraint.
+/// Returns the fields of the journey of one timing point with a constraint.
 fn constrained(numbers: Numbers) -> Vec<Field> {
     let mut fields = journey(1, 1, 0);
     fields[COUNT] = same(5, 1);
@@ -36,14 +36,14 @@ fn constrained(numbers: Numbers) -> Vec<Field> {
     fields
 }
 
-/// The same with one field replaced is refused at that field.
+/// Checks that the journey with a constraint and one field replaced is refused at that field.
 fn refuses_with(numbers: Numbers, index: usize, field: Field, refusal: Refusal) {
     let mut fields = constrained(numbers);
     fields[index] = field;
     refuses(&fields, refusal, index);
 }
 
-/// The same of the sheet alone, with a number that the packet cannot have.
+/// Checks that the sheet is refused at a number that the packet cannot have.
 fn refuses_number(numbers: Numbers, index: usize, number: u32) {
     let mut fields = constrained(numbers);
     fields[index].number = number;

@@ -1,4 +1,4 @@
-//! Both conversions and the altitude.
+//! Tests of both conversions and the altitude.
 use crate::segments::{element, largest, packet, segment, sheet, DESK_PACKET, DESK_SHEET};
 use crate::told;
 use seglink::{

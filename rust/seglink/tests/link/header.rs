@@ -1,9 +1,9 @@
-//! The C header and this crate name the same refusals, grounds, kinds and sizes.
+//! Tests that the C header and this crate name the same refusals, grounds, kinds and sizes.
 use seglink::{Refusal, LARGEST_JOURNEY_PACKET, LARGEST_JOURNEY_SHEET, LARGEST_PACKET, LARGEST_SHEET, SMALLEST_PACKET};
 
 const HEADER: &str = include_str!("../../../../include/seglink.h");
 
-/// The header's constants: name without SEGLINK_, value, and the comment behind it.
+/// Returns the header's constants: the name without SEGLINK_, the value, and the comment behind it.
 fn constants() -> Vec<(&'static str, u32, &'static str)> {
     HEADER
         .lines()
@@ -15,7 +15,7 @@ fn constants() -> Vec<(&'static str, u32, &'static str)> {
         .collect()
 }
 
-/// SHORT_PACKET as ShortPacket.
+/// Returns the Rust name of a C name: ShortPacket for SHORT_PACKET.
 fn in_rust(name: &str) -> String {
     name.split('_').map(|word| word[..1].to_string() + &word[1..].to_lowercase()).collect()
 }

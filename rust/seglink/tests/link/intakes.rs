@@ -1,10 +1,10 @@
-//! Packets taken in deliveries, by an intake that owns its room.
+//! Tests of packets that an intake with its own room takes in deliveries.
 use crate::journeys::{journey, PACKET, SHEET};
 use crate::segments::{largest, packet, DESK_PACKET, DESK_SHEET};
 use crate::told;
 use seglink::{sheet_of, Intake, Refusal, LARGEST_JOURNEY_PACKET, LARGEST_PACKET};
 
-/// An intake that has taken these bytes as one delivery.
+/// Makes an intake that has taken `bytes` as one delivery.
 fn taking(capacity: usize, bytes: &[u8]) -> Intake {
     let mut intake = Intake::new(capacity);
     intake.deliver(bytes);

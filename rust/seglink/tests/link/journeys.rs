@@ -1,4 +1,4 @@
-//! Journeys, written from the request that brought them: both conversions, their limits, and the questions, which need a segment.
+//! Tests of journeys, written from their request: both conversions, their limits, and the questions, which need a segment.
 use crate::constraints::constraint;
 use crate::segments::{bit_of, byte_of, packet, same, sheet, Field};
 use crate::told;
@@ -41,11 +41,12 @@ const POINT: [(usize, u32); 16] = [
     (1, 1),
 ];
 const STOP: usize = 5;
-/// Where the first timing point of a journey stands, and the first of its last eight fields.
+/// Places of the first field of a journey's first timing point, and of the first of its last eight fields.
 const FIRST: usize = 14;
 const DOOR_SIDE: usize = FIRST + 8;
 
-/// So many segments, timing points and constraints, at most 31 a segment, every number of as many groups as its field allows.
+/// Returns the fields of a journey with at most 31 timing points and 31 constraints a segment; every number has as many groups as its
+/// field allows.
 pub fn journey(segments: u32, points: u32, constraints: u32) -> Vec<Field> {
     let mut fields = vec![same(8, 4), same(32, u32::MAX), same(24, 16_777_215), same(15, 32_767), same(17, 86_399), same(8, 255)];
     fields.extend([same(3, 4), same(8, segments)]);
@@ -61,7 +62,7 @@ pub fn journey(segments: u32, points: u32, constraints: u32) -> Vec<Field> {
     fields
 }
 
-/// A count and as many items, of those that are left.
+/// Adds a count, at most 31, and as many of the items that are left.
 fn at_most_31(fields: &mut Vec<Field>, left: &mut u32, item: &[Field]) {
     let here = (*left).min(31);
     *left -= here;
@@ -69,7 +70,7 @@ fn at_most_31(fields: &mut Vec<Field>, left: &mut u32, item: &[Field]) {
     (0..here).for_each(|_| fields.extend(item));
 }
 
-/// Both media are refused, at one field.
+/// Checks that the packet and the sheet are refused at one field.
 pub fn refuses(fields: &[Field], refusal: Refusal, index: usize) {
     assert_eq!(told(sheet_of(&packet(fields))), Err((refusal, bit_of(fields, index))));
     assert_eq!(told(packet_of(&sheet(fields))), Err((refusal, byte_of(fields, index))));
@@ -121,7 +122,7 @@ fn a_long_body_is_refused_after_9_and_4_and_before_8() {
         assert_eq!(told(packet_of(&long)), Err((Refusal::LongBody, 0)));
         assert_eq!(told(sheet_to_packet(&long, &mut [])), Err((Refusal::LongBody, 0)));
         assert_eq!(told(packet_of(&[&long[..], &[0]].concat())), Err((Refusal::SheetForm, long.len() as u32)));
-        // the last number is a count or a current of a constraint: 32 is neither
+        // the last number is a count or a constraint's current: neither can be 32
         let before = &long[..long.len() - 1];
         let place = before.len() as u32;
         assert_eq!(told(packet_of(before)), Err((Refusal::SheetForm, place)));
@@ -156,7 +157,7 @@ fn ranges_end_where_the_request_says() {
     }
 }
 
-/// The journey of one timing point damaged; the places are counted by hand.
+/// Damages the journey of one timing point; the places are counted by hand.
 #[test]
 fn a_damaged_journey_is_refused_at_its_place() {
     let with = |place: usize, byte: u8| {

@@ -1,4 +1,4 @@
-//! The safe crate over the static library: every operation, every refusal with its place, and the C header in the same words.
+//! Tests of the safe crate over the static library: every operation, every refusal with its place, and the words of the C header.
 mod constraints;
 mod conversions;
 mod header;
@@ -11,7 +11,7 @@ mod wires;
 
 use seglink::{Refusal, Refused};
 
-/// An answer with its refusal and place alone.
+/// Returns an answer with only the refusal and the place of an error.
 fn told<T>(answer: Result<T, Refused>) -> Result<T, (Refusal, u32)> {
     answer.map_err(|refused| (refused.refusal, refused.place))
 }

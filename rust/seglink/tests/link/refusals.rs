@@ -1,4 +1,4 @@
-//! Every refusal with its place, from every operation that can give it. The places are counted by hand.
+//! Tests of every refusal with its place, from every operation that can give it. The places are counted by hand.
 use crate::segments::{element, packet, segment, sheet, DESK_PACKET, DESK_SHEET};
 use crate::told;
 use seglink::{altitude_of_packet, packet_to_sheet, permitted_speed, sheet_to_packet, Refusal, Segment, Train};
@@ -6,7 +6,7 @@ use std::error::Error;
 
 const TRAIN: Train = Train { length: 200, cant: 150, freight_p: false, freight_g: false, passenger: true };
 
-/// All three operations on a packet refuse it alike, and the room stays as it was.
+/// Checks that all three operations on a packet refuse it alike, and that the room stays as it was.
 pub fn refuses_packet(given: &[u8], refusal: Refusal, place: u32) {
     let mut room = [0xA5; 64];
     assert_eq!(told(packet_to_sheet(given, &mut room)), Err((refusal, place)));
@@ -15,7 +15,7 @@ pub fn refuses_packet(given: &[u8], refusal: Refusal, place: u32) {
     assert_eq!(told(altitude_of_packet(given)), Err((refusal, place)));
 }
 
-/// Both operations on a sheet refuse it alike, and the room stays as it was.
+/// Checks that both operations on a sheet refuse it alike, and that the room stays as it was.
 pub fn refuses_sheet(given: &[u8], refusal: Refusal, place: u32) {
     let mut room = [0xA5; 64];
     assert_eq!(told(sheet_to_packet(given, &mut room)), Err((refusal, place)));
@@ -23,7 +23,7 @@ pub fn refuses_sheet(given: &[u8], refusal: Refusal, place: u32) {
     assert_eq!(told(permitted_speed(Segment::Sheet(given), TRAIN, 0)), Err((refusal, place)));
 }
 
-/// The desk packet with one byte changed.
+/// Returns the desk packet with one byte changed.
 fn desk_packet_with(place: usize, byte: u8) -> Vec<u8> {
     let mut changed = DESK_PACKET.to_vec();
     changed[place] = byte;

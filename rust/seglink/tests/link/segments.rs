@@ -1,4 +1,4 @@
-//! Segments written from the build definition: their fields in order, as a packet and as a sheet.
+//! Segments for the tests, written from the build definition: their fields in order, as a packet and as a sheet.
 
 /// A field: its width and value in the packet, and its number in the sheet.
 #[derive(Clone, Copy)]
@@ -18,9 +18,9 @@ pub const DESK_SHEET: [u8; 25] =
     [0x06, 0xC5, 0xC6, 0x04, 0x01, 0x00, 0x00, 0x07, 0, 0, 0, 0, 0x01, 0, 0, 0, 0x50, 0, 0, 0, 0, 0, 0, 0, 0];
 
 const CANT: [u32; 11] = [80, 100, 130, 150, 165, 180, 210, 225, 245, 275, 300];
-/// The fields of the sheet that stand in the packet's header, beside L_PACKET_ATO.
+/// How many fields of the packet's header the sheet has: all but L_PACKET_ATO.
 const HEADER_FIELDS: usize = 6;
-/// Where the count of voltage changes stands in a segment without entries and changes of speed.
+/// Place of the count of voltage changes in a segment without entries and changes of speed.
 const VOLTAGE_COUNT: usize = 20;
 
 pub fn same(width: usize, value: u32) -> Field {
@@ -31,10 +31,10 @@ pub fn speed(kmh: u32) -> Field {
     Field { width: 7, value: kmh / 5, number: kmh }
 }
 
-/// No limit of current.
+/// A current without limit.
 pub const NO_LIMIT: Field = Field { width: 10, value: 1023, number: 0 };
 
-/// An element of the speed profile; an entry is Q_DIFF, class and km/h.
+/// Returns the fields of an element of the speed profile; an entry is Q_DIFF, class and km/h.
 pub fn element(kmh: u32, front: u32, entries: &[(u32, u32, u32)]) -> Vec<Field> {
     let mut fields = vec![speed(kmh), same(1, front), same(5, entries.len() as u32)];
     for &(q_diff, class, kmh) in entries {
@@ -44,7 +44,7 @@ pub fn element(kmh: u32, front: u32, entries: &[(u32, u32, u32)]) -> Vec<Field> 
     fields
 }
 
-/// The desk segment with another length, altitude (as it is sent) and speed profile.
+/// Returns the fields of the desk segment with another length, altitude (as it is sent) and speed profile.
 pub fn segment(l_sp: u32, altitude: u32, start: &[Field], changes: &[(u32, Vec<Field>)]) -> Vec<Field> {
     let mut fields = vec![same(8, 6), same(32, 0x0001_2345), same(24, 1), same(15, 0), same(17, 0), same(8, 7)];
     fields.extend([
@@ -67,7 +67,7 @@ pub fn segment(l_sp: u32, altitude: u32, start: &[Field], changes: &[(u32, Vec<F
     fields
 }
 
-/// The desk segment with a length of 1,000 and so many changes of voltage and of current, each with figures of its own.
+/// Returns the fields of the desk segment with a length of 1,000 cm and changes of voltage and of current, each with other figures.
 pub fn wired(voltages: u32, currents: u32) -> Vec<Field> {
     let mut fields = segment(1000, 0, &element(80, 0, &[]), &[]);
     fields.truncate(VOLTAGE_COUNT);
@@ -82,7 +82,7 @@ pub fn wired(voltages: u32, currents: u32) -> Vec<Field> {
     fields
 }
 
-/// Every list full, and every number in as many groups as its field allows.
+/// Returns the fields of the largest segment: every list is full, and every number has as many groups as its field allows.
 pub fn largest() -> Vec<Field> {
     let mut fields = vec![same(8, 6), same(32, u32::MAX), same(24, 16_777_215), same(15, 32_767), same(17, 86_399), same(8, 255)];
     fields.extend([same(10, 1023), same(32, u32::MAX), same(8, 255), same(8, 255), same(24, 16_777_215)]);
@@ -95,7 +95,7 @@ pub fn largest() -> Vec<Field> {
     fields
 }
 
-/// What holds from the start, and 31 changes which repeat it.
+/// Returns the fields of a list: `start` at the segment's start, and 31 changes that repeat it.
 fn full_list(start: &[Field]) -> Vec<Field> {
     let mut fields = start.to_vec();
     fields.push(same(5, 31));
@@ -106,7 +106,7 @@ fn full_list(start: &[Field]) -> Vec<Field> {
     fields
 }
 
-/// Bits are filled from the top bit of each byte, each field most significant bit first.
+/// Returns the packet of the fields: each field most significant bit first, the top bit of each byte first.
 pub fn packet(fields: &[Field]) -> Vec<u8> {
     let body: usize = fields[HEADER_FIELDS..].iter().map(|field| field.width).sum();
     let mut all = fields.to_vec();
@@ -115,18 +115,18 @@ pub fn packet(fields: &[Field]) -> Vec<u8> {
     bits.chunks(8).map(|byte| byte.iter().enumerate().map(|(i, &bit)| (bit as u8) << (7 - i)).sum()).collect()
 }
 
-/// The first bit of a field in the packet; L_PACKET_ATO stands after the first.
+/// Returns the first bit of a field in the packet, where L_PACKET_ATO follows the first field.
 pub fn bit_of(fields: &[Field], index: usize) -> u32 {
     let before: usize = fields[..index].iter().map(|field| field.width).sum();
     before as u32 + if index > 0 { 16 } else { 0 }
 }
 
-/// The first byte of a field's number in the sheet.
+/// Returns the first byte of a field's number in the sheet.
 pub fn byte_of(fields: &[Field], index: usize) -> u32 {
     sheet(&fields[..index]).len() as u32
 }
 
-/// Numbers in groups of seven bits, lowest group first; the top bit is 1 when another group follows.
+/// Returns the sheet of the fields: numbers in groups of seven bits, lowest group first; the top bit of a group is 1 if another follows.
 pub fn sheet(fields: &[Field]) -> Vec<u8> {
     let mut bytes = Vec::new();
     for field in fields {

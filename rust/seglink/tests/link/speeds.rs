@@ -1,18 +1,18 @@
-//! The permitted speed, from a packet and from a sheet.
+//! Tests of the permitted speed, from a packet and from a sheet.
 use crate::segments::{element, packet, segment, sheet, Field, DESK_PACKET, DESK_SHEET};
 use crate::told;
 use seglink::{permitted_speed, Refusal, Segment, Train};
 
 const SHUTTLE: Train = Train { length: 200, cant: 150, freight_p: false, freight_g: false, passenger: false };
 
-/// The answer from the packet, which is also that from the sheet where all speeds are multiples of 5.
+/// Returns the speed from the packet, and checks that the sheet gives it too; all speeds are multiples of 5.
 fn permitted(fields: &[Field], train: Train, x: u32) -> u32 {
     let answer = permitted_speed(Segment::Packet(&packet(fields)), train, x).unwrap();
     assert_eq!(permitted_speed(Segment::Sheet(&sheet(fields)), train, x), Ok(answer));
     answer
 }
 
-/// The change has the other Q_FRONT, so that a delay tied to the element that follows is seen.
+/// Returns a segment that is faster from 500 cm on. The change has the other Q_FRONT, so that a delay tied to the following element is seen.
 fn faster_from_500(front: u32) -> Vec<Field> {
     segment(1000, 0, &element(100, front, &[]), &[(500, element(140, 1 - front, &[]))])
 }
@@ -42,7 +42,7 @@ fn each_membership_and_the_cant_reach_their_own_entry() {
     assert_eq!(permitted(&fields, Train { freight_g: true, passenger: true, ..SHUTTLE }, 0), 60);
 }
 
-/// The speeds that a V_STATIC of 100 and entries give trains of no category, by cant deficiency.
+/// Checks the speeds that a V_STATIC of 100 km/h and entries give trains of no category, by cant deficiency.
 fn by_cant(entries: &[(u32, u32, u32)], speeds: &[(u32, u32)]) {
     let fields = segment(1000, 0, &element(100, 0, entries), &[]);
     for &(cant, speed) in speeds {
@@ -92,7 +92,7 @@ fn a_sheet_answers_with_its_own_speeds() {
 
 #[test]
 fn the_same_bytes_are_asked_as_a_packet_or_as_a_sheet() {
-    // a packet of 81,924 cm and 105 km/h, and a sheet of 100 cm and 84 km/h with five entries for freight P
+    // bytes that are a packet of 81,924 cm and 105 km/h, and also a sheet of 100 cm and 84 km/h with five entries for freight P
     let start = [0x06, 0x00, 0xB9, 0x01, 0x00, 0x00, 0x07, 0x00, 0x00, 0x00, 0x00, 0x64, 0x00, 0x00, 0x00, 0x54, 0x00, 0x05];
     let both = [&start[..], &[0x01, 0x00, 0x50].repeat(4), &[0x01, 0x01, 0x50], &[0; 6]].concat();
     for (x, of_sheet) in [(0, Ok(84)), (99, Ok(84)), (100, Err((Refusal::PastEnd, 0)))] {

@@ -1,4 +1,4 @@
-//! Changes of voltage and of current: up to 31 of each.
+//! Tests of changes of voltage and of current: up to 31 of each.
 use crate::refusals::{refuses_packet, refuses_sheet};
 use crate::segments::{packet, sheet, wired, DESK_PACKET, DESK_SHEET};
 use seglink::{altitude_of_packet, packet_of, permitted_speed, sheet_of, Refusal, Segment, Train};
@@ -19,7 +19,7 @@ fn up_to_31_of_each_go_both_ways() {
 
 #[test]
 fn a_sheet_of_32_is_refused_at_their_count() {
-    // the length has two bytes, a change of voltage four
+    // the length has two bytes in the sheet, a change of voltage four
     for (voltages, currents, place) in [(32, 0, 23), (0, 32, 25), (31, 32, 149)] {
         refuses_sheet(&sheet(&wired(voltages, currents)), Refusal::FieldValue, place);
     }
@@ -27,7 +27,7 @@ fn a_sheet_of_32_is_refused_at_their_count() {
 
 #[test]
 fn changes_that_are_not_there_are_missing_bits_of_a_packet() {
-    // the counts have the bits from 285 and from 300: 31, and 24
+    // the counts begin at the bits 285 and 300: 31, and 24
     for voltages in [[0x07, 0xFF], [0x06, 0x3F]] {
         refuses_packet(&[&DESK_PACKET[..35], &voltages, &DESK_PACKET[37..]].concat(), Refusal::BodyBits, 290);
     }
@@ -39,7 +39,7 @@ fn changes_that_are_not_there_are_missing_bits_of_a_packet() {
 #[test]
 fn changes_that_are_not_there_are_missing_numbers_of_a_sheet() {
     for count in [24, 31] {
-        // the number after the voltages' count is 0, and no location
+        // the number after the count of voltages is 0, which is not allowed as a location
         refuses_sheet(&[&DESK_SHEET[..22], &[count], &DESK_SHEET[23..]].concat(), Refusal::ChangeLocation, 23);
         refuses_sheet(&[&DESK_SHEET[..24], &[count]].concat(), Refusal::SheetForm, 25);
     }

@@ -1,4 +1,4 @@
--- `journey::arrival_most` meets its contract.
+-- `grammar::journey::arrival_most` meets its contract.
 use mathlib.Core.Path.{refl}
 use Rattle.grammar.proofs.journey.arrival_most.Statement.{statement}
 use Rattle.grammar.proofs.journey.arrival_most.Tie as tie

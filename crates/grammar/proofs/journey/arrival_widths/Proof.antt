@@ -1,4 +1,4 @@
--- `journey::arrival_widths` meets its contract.
+-- `grammar::journey::arrival_widths` meets its contract.
 use mathlib.Core.Path.{refl}
 use Rattle.grammar.proofs.journey.arrival_widths.Statement.{statement}
 use Rattle.grammar.proofs.journey.arrival_widths.Tie as tie

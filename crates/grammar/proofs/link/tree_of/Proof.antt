@@ -1,4 +1,4 @@
--- `link::tree_of` meets its contract.
+-- `grammar::link::tree_of` meets its contract.
 use borrow.Author.Tests.{ne-eqb}
 use Rattle.grammar.proofs.link.tree_of.Statement.{statement}
 use Rattle.grammar.proofs.link.tree_of.Tie as tie

@@ -1,4 +1,4 @@
--- The parts of a journey's tree, as its passes take them. What the code below a promise is held to; no promise names them.
+-- The parts of a journey's tree that a pass takes one by one. Used by contracts of the code; no promise names these.
 use mathlib.Core.List.{List, [], _∷_}
 use Prim.Native.Nat.{ℕ}
 use Rattle.kinds.specs.Kinds.{nIter}
@@ -21,13 +21,13 @@ arrivalWidths = 32 ∷ 15 ∷ 17 ∷ 10 ∷ 2 ∷ []
 abbrev pub arrivalMost : List ℕ
 arrivalMost = 4294967295 ∷ 32767 ∷ 86400 ∷ 1023 ∷ 2 ∷ []
 
--- Q_TP_Information to Q_Automatic_Closing, by the kind of the stop
+-- Q_TP_Information to Q_Automatic_Closing of a timing point, by Q_Stop_Skip_Passes
 abbrev pub stoppingWidths : List ℕ
 stoppingWidths = 2 ∷ 1 ∷ 2 ∷ 1 ∷ 1 ∷ 1 ∷ 15 ∷ 17 ∷ 10 ∷ 1 ∷ []
 
 abbrev pub stoppingMost : ℕ → List ℕ
-stoppingMost stop =
-    1 ∷ 1 ∷ mostAt stop 3 ∷ mostAt stop 1 ∷ mostAt stop 1 ∷ mostAt stop 1 ∷ mostAt stop 32767 ∷ mostAt stop 86399 ∷ mostAt stop 1023 ∷ mostAt stop 1 ∷ []
+stoppingMost stopSkipPasses =
+    1 ∷ 1 ∷ mostAt stopSkipPasses 3 ∷ mostAt stopSkipPasses 1 ∷ mostAt stopSkipPasses 1 ∷ mostAt stopSkipPasses 1 ∷ mostAt stopSkipPasses 32767 ∷ mostAt stopSkipPasses 86399 ∷ mostAt stopSkipPasses 1023 ∷ mostAt stopSkipPasses 1 ∷ []
 
 -- a temporary constraint after its range, and after its type
 abbrev pub afterRange : ℕ → ℕ → Format → Format

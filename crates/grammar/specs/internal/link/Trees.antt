@@ -1,4 +1,4 @@
--- A packet and a sheet of one of the two trees, as the code takes them. What the code below a promise is held to; no promise names it.
+-- A packet and a sheet of one of the two trees. Used by contracts of the code; no promise names these.
 use mathlib.Core.Path.{_≡_}
 use mathlib.Core.List.{List}
 use Prim.Native.Nat.{ℕ, _+_, _≤_}

@@ -1,4 +1,4 @@
--- Fields in a row, each from 0 to its largest value: their widths and their largest values, side by side. What the passes are held to; no promise names it.
+-- A row of fields, each from 0 to its largest value, by the list of their widths and the list of their largest values. Used by contracts of the code; no promise names these.
 use mathlib.Core.Bool.{Bool, true, false, _&&_}
 use mathlib.Core.List.{List, [], _∷_}
 use Prim.Native.Nat.{ℕ, _^_}
@@ -11,7 +11,7 @@ row [] ms f = f
 row (w ∷ ws) [] f = f
 row (w ∷ ws) (m ∷ ms) f = then (upTo w m) (row ws ms f)
 
--- as many largest values as widths, each width 1 to 32 and its largest value held by it
+-- as many largest values as widths, each width 1 to 32 bits, and each largest value fits its width
 abbrev pub fits : List ℕ → List ℕ → Bool
 fits [] [] = true
 fits [] (m ∷ ms) = false

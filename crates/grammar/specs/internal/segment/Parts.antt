@@ -1,4 +1,4 @@
--- The parts of a segment's tree, as its passes take them. What the code below a promise is held to; no promise names them.
+-- The parts of a segment's tree that a pass takes one by one. Used by contracts of the code; no promise names these.
 use mathlib.Core.List.{List, [], _∷_}
 use mathlib.Core.Path.{_≡_}
 use Prim.Native.Nat.{ℕ, zero, suc, _≤_, _<_}
@@ -31,7 +31,7 @@ headKinds =
 unfoldable pub kindAt : ℕ → Kind
 kindAt i = getD headKinds i mSpAltitude
 
--- fields among which L_SP and NID_OPERATIONAL are not
+-- the fields from first to before end, none of which is NID_OPERATIONAL or L_SP
 pub record Run (first end : ℕ) : Type 0 where
   pub some : 1 ≤ first
   pub ordered : first ≤ end

@@ -1,4 +1,4 @@
--- `accepted::longer` meets its contract. The loop's invariant: the rest of the number, after the groups that are read.
+-- `numbers::accepted::longer` meets its contract. The loop's invariant: the rest of the number, after the groups that are read.
 use Prim.Native.Nat.{_+_, _-_}
 use lib.ListN.{length}
 use Rattle.numbers.proofs.accepted.Groups.{Rest, there-inside, rest-start, rest-inside, rest-last, rest-value, rest-scale, rest-next, rest-more, rest-reads}

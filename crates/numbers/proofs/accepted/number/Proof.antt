@@ -1,4 +1,4 @@
--- `accepted::number` meets its contract.
+-- `numbers::accepted::number` meets its contract.
 use Rattle.numbers.proofs.accepted.Groups.{there-inside, short-inside, short-small, short-reads}
 use native.Mathlib.Omega.{arith}
 use borrow.Author.Needs.{needs}

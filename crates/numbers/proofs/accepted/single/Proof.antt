@@ -1,4 +1,4 @@
--- `accepted::single` meets its contract.
+-- `numbers::accepted::single` meets its contract.
 use Rattle.numbers.proofs.accepted.Groups.{there-inside, single-reads}
 use native.Mathlib.Omega.{arith}
 use borrow.Author.Needs.{needs}

@@ -1,4 +1,4 @@
--- `grouping::groups` meets its contract.
+-- `numbers::write::groups` meets its contract.
 use Rattle.numbers.proofs.Counting.{leading-count, count-zero}
 use lib.Count.{leading-le}
 use mathlib.Core.Path.{sym}

@@ -1,4 +1,4 @@
--- `grouping::put_number` meets its contract.
+-- `numbers::write::put_number` meets its contract.
 use Rattle.numbers.proofs.write.Writing.{Rest, rest-start, rest-more, rest-room, rest-last}
 use lib.ListN.{length-set}
 use denote.Ref.{now}

@@ -1,4 +1,4 @@
--- `grouping::put_short` meets its contract.
+-- `numbers::write::put_short` meets its contract.
 use denote.Ref.{now}
 use lib.Dec.{leb}
 use lib.ListN.{length-set}

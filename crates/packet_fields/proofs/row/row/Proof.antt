@@ -1,4 +1,4 @@
--- `judge_row::row` meets its contract.
+-- `packet_fields::row::row` meets its contract.
 use native.Mathlib.Omega.{arith}
 use Prim.Native.Nat.{_-_, _≤_}
 use lib.ListN.{length}

@@ -1,4 +1,4 @@
--- The values of fields in a row, read at once, and the bytes that they have in the sheet. What the code below a promise is held to; no promise names it.
+-- The values of a row's fields, read at once, and their bytes in the sheet. Used by contracts of the code; no promise names these.
 use mathlib.Core.Bool.{Bool, true, cond, _&&_}
 use mathlib.Core.List.{List, [], _∷_}
 use Prim.Native.Nat.{ℕ, _+_, _/_, _%_, _^_}
@@ -22,7 +22,7 @@ abbrev pub fieldsAt : List ℕ → ℕ → List ℕ → List ℕ
 fieldsAt s at [] = []
 fieldsAt s at (w ∷ ws) = fieldAt s at w ∷ fieldsAt s (at + w) ws
 
--- none is more than its largest value
+-- each value is at most its largest value
 abbrev pub within : List ℕ → List ℕ → Bool
 within ms [] = true
 within [] (v ∷ vs) = true
@@ -32,6 +32,6 @@ abbrev pub groupsAll : List ℕ → ℕ
 groupsAll [] = 0
 groupsAll (v ∷ vs) = length (groupsIn v) + groupsAll vs
 
--- their bytes in the sheet, and 0 where one is refused
+-- the bytes of values in the sheet, and 0 where a value is refused
 abbrev pub rowBytes : List ℕ → List ℕ → ℕ
 rowBytes ms vs = cond (within ms vs) (groupsAll vs) 0

@@ -1,4 +1,4 @@
--- `judge_constraint::constraints` meets its contract.
+-- `packet_journey::constraint::constraints` meets its contract.
 use native.Mathlib.Omega.{arith}
 use Rattle.format.specs.internal.Ways.{Left}
 use Rattle.format.specs.Format.{times}

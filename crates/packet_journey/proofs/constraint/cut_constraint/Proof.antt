@@ -1,4 +1,4 @@
--- `judge_constraint::cut_constraint` meets its contract.
+-- `packet_journey::constraint::cut_constraint` meets its contract.
 use lib.Dec.{lit≤}
 use Rattle.format.proofs.Ways.{over-on, over-off, value-on, value-off}
 use Rattle.grammar.specs.internal.journey.Parts.{afterType, afterRange}

@@ -1,4 +1,4 @@
--- `judge_constraint::restriction` meets its contract.
+-- `packet_journey::constraint::restriction` meets its contract.
 use lib.Dec.{lit≤}
 use Rattle.format.proofs.Ways.{over-on, over-off}
 use Rattle.packet_journey.proofs.constraint.Parts.{level-wide}

@@ -1,4 +1,4 @@
--- `judge_constraint::stretch` meets its contract.
+-- `packet_journey::constraint::stretch` meets its contract.
 use lib.Dec.{lit≤}
 use Rattle.format.proofs.Ways.{value-on, value-off}
 use Rattle.packet_journey.proofs.constraint.Parts.{afterStart, end-wide}

@@ -1,4 +1,4 @@
--- `judge_constraint::whole_constraint` meets its contract.
+-- `packet_journey::constraint::whole_constraint` meets its contract.
 use Prim.Native.Nat.{_+_, _≤_}
 use denote.Ref.{now}
 use Rattle.bits.proofs.Fields.{window-small}

@@ -1,4 +1,4 @@
--- `constraint_bytes::both_bytes` meets its contract.
+-- `packet_journey::constraint_bytes::both_bytes` meets its contract.
 use Rattle.numbers.proofs.Counting.{count-five}
 use Rattle.packet_journey.proofs.constraint_bytes.Values.{both-none, both-bytes}
 use native.Mathlib.Omega.{arith}

@@ -1,4 +1,4 @@
--- `constraint_bytes::restriction_bytes` meets its contract.
+-- `packet_journey::constraint_bytes::restriction_bytes` meets its contract.
 use Rattle.packet_journey.proofs.constraint_bytes.Values.{current-none, other-none, other-some}
 use borrow.Author.Needs.{needs}
 use Rattle.packet_journey.proofs.constraint_bytes.restriction_bytes.Statement.{statement}

@@ -1,4 +1,4 @@
--- `constraint_bytes::speed_bytes` meets its contract.
+-- `packet_journey::constraint_bytes::speed_bytes` meets its contract.
 use Prim.Native.Nat.{_/_, _%_}
 use Rattle.kinds.specs.Kinds.{speed}
 use Rattle.packet_journey.proofs.constraint_bytes.Values.{bytes-five, adhesion-none, speed-none, speed-some}

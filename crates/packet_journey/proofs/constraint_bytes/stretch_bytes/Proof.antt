@@ -1,4 +1,4 @@
--- `constraint_bytes::stretch_bytes` meets its contract.
+-- `packet_journey::constraint_bytes::stretch_bytes` meets its contract.
 use Rattle.numbers.proofs.Counting.{count-five}
 use Rattle.packet_journey.proofs.constraint_bytes.Values.{both-bytes, start-none, end-none, alone-bytes}
 use native.Mathlib.Omega.{arith}

@@ -1,4 +1,4 @@
--- `judge_point::arrival` meets its contract.
+-- `packet_journey::point::arrival` meets its contract.
 use Rattle.grammar.proofs.journey.Parts.{arrival-fits}
 use borrow.Author.Needs.{needs}
 use Rattle.packet_journey.proofs.point.arrival.Statement.{statement}

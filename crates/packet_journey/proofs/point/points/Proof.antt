@@ -1,4 +1,4 @@
--- `judge_point::points` meets its contract.
+-- `packet_journey::point::points` meets its contract.
 use native.Mathlib.Omega.{arith}
 use Rattle.format.specs.internal.Ways.{Left}
 use Rattle.format.specs.Format.{times}

@@ -1,4 +1,4 @@
--- `judge_point::whole_point` meets its contract.
+-- `packet_journey::point::whole_point` meets its contract.
 use native.Mathlib.Omega.{arith}
 use Prim.Native.Nat.{_+_, _≤_}
 use denote.Ref.{now}

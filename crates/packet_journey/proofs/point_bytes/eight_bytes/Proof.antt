@@ -1,11 +1,11 @@
--- `point_bytes::eight_bytes` meets its contract.
-use Rattle.packet_journey.proofs.point_bytes.Values.{stop-eight, passing-doors, passing-leaving, passing-some}
+-- `packet_journey::point_bytes::eight_bytes` meets its contract.
+use Rattle.packet_journey.proofs.point_bytes.Values.{not-passing-eight, passing-doors, passing-leaving, passing-some}
 use borrow.Author.Needs.{needs}
 use Rattle.packet_journey.proofs.point_bytes.eight_bytes.Statement.{statement}
 use Rattle.packet_journey.proofs.point_bytes.eight_bytes.Tie as tie
 
 returns : tie.Need-returns
-returns c = let a = c .before .before .args in stop-eight (a .doors) (a .leaving) (a .kind) (c .before .if1 .taken) (c .stop-bytes .ensures)
+returns c = let a = c .before .before .args in not-passing-eight (a .doors) (a .leaving) (a .stop-skip-passes) (c .before .if1 .taken) (c .not-passing-bytes .ensures)
 
 returns-2 : tie.Need-returns-2
 returns-2 c = let b = c .before .before in rw (c .before .if1 .left) (passing-doors (b .args .doors) (b .args .leaving) (b .pre .0) (c .if2 .taken))

@@ -1,4 +1,4 @@
--- `point_bytes::latest_bytes` meets its contract.
+-- `packet_journey::point_bytes::latest_bytes` meets its contract.
 use native.Mathlib.Omega.{arith}
 use Prim.Native.Nat.{_/_, _%_}
 use Rattle.numbers.proofs.Counting.{count-five}

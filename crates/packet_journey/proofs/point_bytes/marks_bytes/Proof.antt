@@ -1,8 +1,8 @@
--- `point_bytes::marks_bytes` meets its contract.
+-- `packet_journey::point_bytes::marks_bytes` meets its contract.
 use native.Mathlib.Omega.{arith}
 use Prim.Native.Nat.{_/_}
 use Rattle.numbers.proofs.Counting.{count-five}
-use Rattle.packet_journey.proofs.point_bytes.Values.{alignment-none, kind-none, information-none, marks-some}
+use Rattle.packet_journey.proofs.point_bytes.Values.{alignment-none, stop-skip-passes-none, information-none, marks-some}
 use borrow.Author.Needs.{needs}
 use Rattle.packet_journey.proofs.point_bytes.marks_bytes.Statement.{statement}
 use Rattle.packet_journey.proofs.point_bytes.marks_bytes.Tie as tie
@@ -11,7 +11,7 @@ returns : tie.Need-returns
 returns c = alignment-none (c .before .args .t) (c .if1 .taken)
 
 returns-2 : tie.Need-returns-2
-returns-2 c = kind-none (c .before .before .args .t) (c .if2 .taken)
+returns-2 c = stop-skip-passes-none (c .before .before .args .t) (c .if2 .taken)
 
 returns-3 : tie.Need-returns-3
 returns-3 c = information-none (c .before .before .before .args .t) (c .if3 .taken)

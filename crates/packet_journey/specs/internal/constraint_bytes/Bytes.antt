@@ -1,4 +1,4 @@
--- The bytes that a temporary constraint's values have in the sheet, a few fields at once. What the code below a promise is held to; no promise names it.
+-- The bytes of a temporary constraint's values in the sheet, several fields at once. Used by contracts of the code; no promise names these.
 use Prim.Native.Nat.{ℕ, zero, suc, _+_, _/_, _%_}
 use Rattle.kinds.specs.Kind.{Kind}
 use Rattle.kinds.specs.Kinds.{noCurrent}
@@ -10,7 +10,7 @@ use Rattle.kinds.specs.journey.Kinds.{dTcStartLocation, dTcEndLocation, qTcFron
 abbrev pub bytesIn : Kind → ℕ → ℕ
 bytesIn k v = bytesOf (valueInPacket k v)
 
--- those of two, and 0 where one is refused
+-- the bytes of two values, and 0 where one is refused
 abbrev pub both : ℕ → ℕ → ℕ
 both zero b = 0
 both (suc a) zero = 0

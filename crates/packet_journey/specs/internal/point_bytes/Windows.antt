@@ -1,4 +1,4 @@
--- The fields of a timing point as they are read, a few at once. What the code below a promise is held to; no promise names it.
+-- The fields of a timing point that are read at once. Used by contracts of the code; no promise names these.
 use mathlib.Core.List.{List, [], _∷_}
 use Prim.Native.Nat.{ℕ}
 use Rattle.kinds.specs.journey.Kinds.{mostAt}
@@ -10,7 +10,7 @@ latestWidths = 15 ∷ 17 ∷ []
 abbrev pub latestMost : List ℕ
 latestMost = 32767 ∷ 86400 ∷ []
 
--- T_Arrival_Window to Q_DayLightSaving, with the kind of the stop among them
+-- T_Arrival_Window to Q_DayLightSaving, with Q_Stop_Skip_Passes among them
 abbrev pub marksWidths : List ℕ
 marksWidths = 10 ∷ 2 ∷ 2 ∷ 2 ∷ 1 ∷ []
 
@@ -24,6 +24,6 @@ doorsWidths = 2 ∷ 1 ∷ 1 ∷ 1 ∷ 15 ∷ []
 abbrev pub leavingWidths : List ℕ
 leavingWidths = 17 ∷ 10 ∷ 1 ∷ []
 
--- "the last eight fields (48 bits, from the door side on)", by the kind of the stop
+-- "the last eight fields (48 bits, from the door side on)", by Q_Stop_Skip_Passes
 abbrev pub eightMost : ℕ → List ℕ
-eightMost stop = mostAt stop 3 ∷ mostAt stop 1 ∷ mostAt stop 1 ∷ mostAt stop 1 ∷ mostAt stop 32767 ∷ mostAt stop 86399 ∷ mostAt stop 1023 ∷ mostAt stop 1 ∷ []
+eightMost stopSkipPasses = mostAt stopSkipPasses 3 ∷ mostAt stopSkipPasses 1 ∷ mostAt stopSkipPasses 1 ∷ mostAt stopSkipPasses 1 ∷ mostAt stopSkipPasses 32767 ∷ mostAt stopSkipPasses 86399 ∷ mostAt stopSkipPasses 1023 ∷ mostAt stopSkipPasses 1 ∷ []

@@ -1,4 +1,4 @@
--- The fields of an element of the speed profile before its entries, and an entry counted. The contracts of the code cite it; no promise names it.
+-- The fields of an element of the speed profile before its entries, and an entry counted. Used by contracts of the code; no promise names these.
 use mathlib.Core.Bool.{cond}
 use Prim.Native.Nat.{ℕ, _+_, _-_}
 use lib.Dec.{eqb, ltb}

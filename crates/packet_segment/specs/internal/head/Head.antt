@@ -1,4 +1,4 @@
--- The fields of a segment's packet before its lists. The contracts of the code cite it; no promise names it.
+-- The fields of a segment's packet before its lists. Used by contracts of the code; no promise names these.
 use Prim.Native.Nat.{ℕ}
 use Rattle.kinds.specs.Kinds.{lSp}
 use Rattle.format.specs.Format.{Format, field}

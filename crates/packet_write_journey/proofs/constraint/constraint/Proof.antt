@@ -1,4 +1,4 @@
--- `fill_constraint::constraint` meets its contract.
+-- `packet_write_journey::constraint::constraint` meets its contract.
 use Rattle.packet_write_journey.proofs.constraint.Steps.{restriction-ready, constraint-wrote}
 use borrow.Author.Needs.{needs}
 use Rattle.packet_write_journey.proofs.constraint.constraint.Statement.{statement}

@@ -1,4 +1,4 @@
--- `fill_constraint::location` meets its contract.
+-- `packet_write_journey::constraint::location` meets its contract.
 use Prim.Native.Nat.{_<_}
 use lib.Dec.{lit<, lit≤}
 use Rattle.packet_write_segment.proofs.elements.Writing.{at-small}

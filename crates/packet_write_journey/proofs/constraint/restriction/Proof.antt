@@ -1,4 +1,4 @@
--- `fill_constraint::restriction` meets its contract.
+-- `packet_write_journey::constraint::restriction` meets its contract.
 use mathlib.Core.Path.{refl}
 use Prim.Native.Nat.{_<_}
 use lib.Dec.{lit<, lit≤}

@@ -1,4 +1,4 @@
--- `fill_point::arrival` meets its contract.
+-- `packet_write_journey::point::arrival` meets its contract.
 use Rattle.packet_write_journey.proofs.point.Cuts.{arrival-pieces}
 use Rattle.packet_write_journey.proofs.row.Three.{three-first, three-second, three-third, three-wrote}
 use borrow.Author.Needs.{needs}

@@ -1,6 +1,6 @@
--- `fill_point::point` meets its contract.
+-- `packet_write_journey::point::point` meets its contract.
 use lib.Dec.{lit<, lit≤}
-use Rattle.packet_write_journey.proofs.point.Steps.{point-arrival, point-stop, point-stopping, point-wrote}
+use Rattle.packet_write_journey.proofs.point.Steps.{point-arrival, point-stop-skip-passes, point-stopping, point-wrote}
 use borrow.Author.Needs.{needs}
 use Rattle.packet_write_journey.proofs.point.point.Statement.{statement}
 use Rattle.packet_write_journey.proofs.point.point.Tie as tie
@@ -9,7 +9,7 @@ arrival-requires : tie.Need-arrival-requires
 arrival-requires c κs = point-arrival (c .before .before .before .pre)
 
 number-requires : tie.Need-number-requires
-number-requires c κs = (point-stop (c .before .before .before .before .before .before .before .pre) (c .before .before .before .arrival .ensures), lit≤ tt, lit≤ tt, lit< tt)
+number-requires c κs = (point-stop-skip-passes (c .before .before .before .before .before .before .before .pre) (c .before .before .before .arrival .ensures), lit≤ tt, lit≤ tt, lit< tt)
 
 stopping-requires : tie.Need-stopping-requires
 stopping-requires c κs = point-stopping (c .before .before .before .before .before .before .before .before .before .before .before .before .pre) (c .before .before .before .before .before .before .before .before .arrival .ensures) (c .before .before .before .before .number .ensures)

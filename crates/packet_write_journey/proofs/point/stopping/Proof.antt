@@ -1,4 +1,4 @@
--- `fill_point::stopping` meets its contract.
+-- `packet_write_journey::point::stopping` meets its contract.
 use Rattle.packet_write_journey.proofs.point.Cuts.{stopping-pieces}
 use Rattle.packet_write_journey.proofs.row.Three.{three-first, three-second, three-third, three-wrote}
 use borrow.Author.Needs.{needs}
@@ -6,22 +6,22 @@ use Rattle.packet_write_journey.proofs.point.stopping.Statement.{statem
 use Rattle.packet_write_journey.proofs.point.stopping.Tie as tie
 
 piece-requires : tie.Need-piece-requires
-piece-requires c κs = let d = c .before .before .before in three-first (stopping-pieces (d .before .before .before .before .args .stop)) (d .before .stopping-widths .ensures) (d .stopping-most .ensures) (d .before .before .before .before .pre)
+piece-requires c κs = let d = c .before .before .before in three-first (stopping-pieces (d .before .before .before .before .args .stop-skip-passes)) (d .before .stopping-widths .ensures) (d .stopping-most .ensures) (d .before .before .before .before .pre)
 
 piece-requires-2 : tie.Need-piece-requires-2
-piece-requires-2 c κs = let d = c .before .before .before .before .before .before .before .before .before in three-second (stopping-pieces (d .before .before .before .before .args .stop)) (d .before .stopping-widths .ensures) (d .stopping-most .ensures) (d .before .before .before .before .pre) (c .before .before .before .before .before .piece .ensures)
+piece-requires-2 c κs = let d = c .before .before .before .before .before .before .before .before .before in three-second (stopping-pieces (d .before .before .before .before .args .stop-skip-passes)) (d .before .stopping-widths .ensures) (d .stopping-most .ensures) (d .before .before .before .before .pre) (c .before .before .before .before .before .piece .ensures)
 
 piece-requires-3 : tie.Need-piece-requires-3
 piece-requires-3 c κs =
     let b = c .before .before .before .before .before .before .before .before .before .before .before in
     let d = b .before .before .before .before in
-    three-third (stopping-pieces (d .before .before .before .before .args .stop)) (d .before .stopping-widths .ensures) (d .stopping-most .ensures) (d .before .before .before .before .pre) (b .piece .ensures) (c .before .before .before .before .before .piece2 .ensures)
+    three-third (stopping-pieces (d .before .before .before .before .args .stop-skip-passes)) (d .before .stopping-widths .ensures) (d .stopping-most .ensures) (d .before .before .before .before .pre) (b .piece .ensures) (c .before .before .before .before .before .piece2 .ensures)
 
 returns : tie.Need-returns
 returns c =
     let b = c .before .before .before .before .before .before .before .before in
     let d = b .before .before .before .before .before .before .before .before .before .before in
-    three-wrote (stopping-pieces (d .before .before .before .before .args .stop)) (d .before .stopping-widths .ensures) (d .stopping-most .ensures) (d .before .before .before .before .pre) (b .before .before .before .before .before .before .piece .ensures) (b .piece2 .ensures) (c .before .before .piece3 .ensures)
+    three-wrote (stopping-pieces (d .before .before .before .before .args .stop-skip-passes)) (d .before .stopping-widths .ensures) (d .stopping-most .ensures) (d .before .before .before .before .pre) (b .before .before .before .before .before .before .piece .ensures) (b .piece2 .ensures) (c .before .before .piece3 .ensures)
 
 pub stopping-spec : {M : Type 1} → statement M
 stopping-spec =

@@ -1,4 +1,4 @@
--- `fill_row::number` meets its contract.
+-- `packet_write_journey::row::number` meets its contract.
 use Rattle.packet_write_segment.proofs.elements.Writing.{at-small}
 use Rattle.packet_write_journey.proofs.row.Alone.{number-there, number-small, number-gives}
 use native.Mathlib.Omega.{arith}

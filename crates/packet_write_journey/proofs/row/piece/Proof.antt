@@ -1,4 +1,4 @@
--- `fill_row::piece` meets its contract. The loop's invariant: the fields so far are gathered.
+-- `packet_write_journey::row::piece` meets its contract. The loop's invariant: the fields so far are gathered.
 use Prim.Native.Nat.{_-_}
 use native.Mathlib.Nat.{lt-of-lt-of-le}
 use lib.ListN.{length}

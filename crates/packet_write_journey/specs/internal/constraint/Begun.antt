@@ -1,4 +1,4 @@
--- The first fields of a part of an accepted sheet's packet, put. What the code below a promise is held to; no promise names it.
+-- The first fields of a part, written into an accepted sheet's packet. Used by contracts of the code; no promise names these.
 use mathlib.Core.Bool.{Bool}
 use mathlib.Core.List.{List, _++_}
 use Prim.Native.Nat.{ℕ}
@@ -8,7 +8,7 @@ use Rattle.packet_write_segment.specs.declared.elements.PacketSpot.{PacketSpot}
 use Rattle.packet_write_segment.specs.internal.elements.Writing.{writer, Puts}
 use Rattle.packet_write_journey.specs.declared.row.Given.{Given}
 
--- What is left of the part depends on the value that is given, whatever follows and whatever stands before it.
+-- The first fields are written, and what is left of the part depends on the value r; this holds whatever stands before the part or after it.
 pub record Begun (part : Format → Format) (rest : ℕ → Format → Format) (s room : List ℕ) (p : PacketSpot) (after : List ℕ) (r : Given) : Type 0 where
   pub bits : List Bool
   pub left : (x : List Bool) → Left (writer s) part (rest (r .value)) (p .from) x (r .next .from) (x ++ bits)

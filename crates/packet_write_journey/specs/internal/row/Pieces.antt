@@ -1,4 +1,4 @@
--- Some fields of a row, which are put in one piece. What the code below a promise is held to; no promise names it.
+-- Some fields of a row, which are written at once. Used by contracts of the code; no promise names these.
 use mathlib.Core.Path.{_≡_}
 use mathlib.Core.Bool.{true}
 use mathlib.Core.List.{List, [], _∷_}
@@ -11,15 +11,15 @@ abbrev pub rowBits : List ℕ → ℕ
 rowBits [] = 0
 rowBits (w ∷ ws) = w + rowBits ws
 
--- what a table has from one place on to before another
+-- the entries of a table from first to before end
 abbrev pub part : List ℕ → ℕ → ℕ → List ℕ
 part l first end = take (end - first) (drop first l)
 
--- the fields of a row from one on to before another
+-- the fields of a row from first to before end
 abbrev pub between : List ℕ → List ℕ → ℕ → ℕ → Format → Format
 between ws ms first end f = row (part ws first end) (part ms first end) f
 
--- they are there and hold their largest values, and they have so many bits, from 1 to 32
+-- the row has the fields from first to before end, their largest values fit their widths, and the widths add up to total, 1 to 32 bits
 pub record Puttable (ws ms : List ℕ) (first end total : ℕ) : Type 0 where
   pub order : first ≤ end
   pub inside : end ≤ length ws

@@ -1,4 +1,4 @@
--- `sheet_row::row` meets its contract.
+-- `sheet_fields::row::row` meets its contract.
 use Prim.Native.Nat.{_-_, _≤_}
 use denote.Ref.{now}
 use lib.ListN.{length, drop}

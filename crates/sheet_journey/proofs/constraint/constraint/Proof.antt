@@ -1,4 +1,4 @@
--- `sheet_constraints::constraint` meets its contract.
+-- `sheet_journey::constraint::constraint` meets its contract.
 use Rattle.format.proofs.Ways.{over-on, over-off, value-on, value-off}
 use Rattle.grammar.specs.internal.journey.Parts.{afterType, afterRange}
 use borrow.Author.Needs.{needs}

@@ -1,4 +1,4 @@
--- `sheet_constraints::constraints` meets its contract.
+-- `sheet_journey::constraint::constraints` meets its contract.
 use Rattle.format.specs.internal.Ways.{Left}
 use Rattle.format.specs.Format.{times}
 use Rattle.format.proofs.Ways.{left-all, times-on, times-off, times-end}

@@ -1,4 +1,4 @@
--- `sheet_constraints::end` meets its contract.
+-- `sheet_journey::constraint::end` meets its contract.
 use borrow.Author.Tests.{ne-eqb}
 use borrow.Author.Needs.{needs}
 use Rattle.sheet_journey.proofs.constraint.end.Statement.{statement}

@@ -1,4 +1,4 @@
--- `sheet_constraints::level` meets its contract.
+-- `sheet_journey::constraint::level` meets its contract.
 use borrow.Author.Tests.{ne-eqb}
 use borrow.Author.Needs.{needs}
 use Rattle.sheet_journey.proofs.constraint.level.Statement.{statement}

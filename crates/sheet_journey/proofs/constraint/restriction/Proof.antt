@@ -1,4 +1,4 @@
--- `sheet_constraints::restriction` meets its contract.
+-- `sheet_journey::constraint::restriction` meets its contract.
 use Rattle.format.proofs.Ways.{over-on, over-off}
 use borrow.Author.Needs.{needs}
 use Rattle.sheet_journey.proofs.constraint.restriction.Statement.{statement}

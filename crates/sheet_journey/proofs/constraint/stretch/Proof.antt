@@ -1,4 +1,4 @@
--- `sheet_constraints::stretch` meets its contract.
+-- `sheet_journey::constraint::stretch` meets its contract.
 use Rattle.format.specs.Format.{then}
 use Rattle.format.proofs.Ways.{value-on, value-off}
 use Rattle.kinds.specs.journey.Kinds.{dTcEndLocation}

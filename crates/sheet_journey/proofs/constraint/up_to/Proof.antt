@@ -1,4 +1,4 @@
--- `sheet_constraints::up_to` meets its contract.
+-- `sheet_journey::constraint::up_to` meets its contract.
 use denote.Ref.{now}
 use Rattle.sheet_fields.proofs.Steps.{plain-on, plain-off}
 use borrow.Author.Needs.{needs}

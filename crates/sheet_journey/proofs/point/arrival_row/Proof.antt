@@ -1,4 +1,4 @@
--- `sheet_points::arrival_row` meets its contract.
+-- `sheet_journey::point::arrival_row` meets its contract.
 use borrow.Author.Needs.{needs}
 use Rattle.sheet_journey.proofs.point.arrival_row.Statement.{statement}
 use Rattle.sheet_journey.proofs.point.arrival_row.Tie as tie

@@ -1,4 +1,4 @@
--- `sheet_points::points` meets its contract.
+-- `sheet_journey::point::points` meets its contract.
 use Rattle.format.specs.internal.Ways.{Left}
 use Rattle.format.specs.Format.{times}
 use Rattle.format.proofs.Ways.{left-all, times-on, times-off, times-end}

@@ -1,4 +1,4 @@
--- `sheet_points::stopping_row` meets its contract.
+-- `sheet_journey::point::stopping_row` meets its contract.
 use lib.ListN.{drop}
 use Rattle.format.proofs.Ways.{over-on, over-off}
 use Rattle.grammar.specs.internal.rows.Rows.{row}
@@ -16,13 +16,13 @@ returns : tie.Need-returns
 unfolding row
 returns c =
     let a = c .before .before .before .before .before .before .before .before .before .before .before .args in
-    over-off {q = (λ f. row (drop 5 stoppingWidths) (drop 5 (stoppingMost (a .stop))) f)} (rw (c .before .before .before .before .before .before .before .before .before .stopping-widths .ensures, c .before .before .before .before .before .before .before .before .stopping-most .ensures, c .before .r .given .1) at (c .before .before .before .row .ensures))
+    over-off {q = (λ f. row (drop 5 stoppingWidths) (drop 5 (stoppingMost (a .stop-skip-passes))) f)} (rw (c .before .before .before .before .before .before .before .before .before .stopping-widths .ensures, c .before .before .before .before .before .before .before .before .stopping-most .ensures, c .before .r .given .1) at (c .before .before .before .row .ensures))
 
 returns-2 : tie.Need-returns-2
 unfolding row
 returns-2 c =
     let a = c .before .before .before .before .before .before .before .before .before .before .before .before .before .before .before .before .args in
-    over-on {q = (λ f. row (drop 5 stoppingWidths) (drop 5 (stoppingMost (a .stop))) f)} (rw (c .before .before .before .before .before .before .before .before .before .before .before .before .before .before .stopping-widths .ensures, c .before .before .before .before .before .before .before .before .before .before .before .before .before .stopping-most .ensures, c .before .before .before .before .before .before .at2 .given .1) at (c .before .before .before .before .before .before .before .before .row .ensures)) (rw (c .before .before .before .before .before .before .before .before .before .before .before .before .before .before .stopping-widths .ensures, c .before .before .before .before .before .before .before .before .before .before .before .before .before .stopping-most .ensures) at (c .row2 .ensures))
+    over-on {q = (λ f. row (drop 5 stoppingWidths) (drop 5 (stoppingMost (a .stop-skip-passes))) f)} (rw (c .before .before .before .before .before .before .before .before .before .before .before .before .before .before .stopping-widths .ensures, c .before .before .before .before .before .before .before .before .before .before .before .before .before .stopping-most .ensures, c .before .before .before .before .before .before .at2 .given .1) at (c .before .before .before .before .before .before .before .before .row .ensures)) (rw (c .before .before .before .before .before .before .before .before .before .before .before .before .before .before .stopping-widths .ensures, c .before .before .before .before .before .before .before .before .before .before .before .before .before .stopping-most .ensures) at (c .row2 .ensures))
 
 pub stopping-row-spec : {M : Type 1} → statement M
 stopping-row-spec =

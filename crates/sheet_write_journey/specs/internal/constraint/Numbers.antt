@@ -1,4 +1,4 @@
--- The numbers of a temporary constraint, by the packet's bits. The contracts of the code cite them; no promise names them.
+-- The numbers of a temporary constraint, by the packet's bits. Used by contracts of the code; no promise names these.
 use mathlib.Core.List.{List, [], _∷_, _++_}
 use Prim.Native.Nat.{ℕ, _+_, _*_, _≤_}
 use lib.ListN.{length}

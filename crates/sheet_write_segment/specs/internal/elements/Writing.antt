@@ -1,4 +1,4 @@
--- The sheet of an accepted packet written into a room, part by part. The contracts of the code cite it; no promise names it.
+-- The sheet of an accepted packet written into a room, part by part. Used by contracts of the code; no promise names these.
 use mathlib.Core.Path.{_≡_}
 use mathlib.Core.List.{List}
 use Prim.Native.Nat.{ℕ, _*_, _^_, _≤_, _<_}

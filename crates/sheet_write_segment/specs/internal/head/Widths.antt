@@ -1,4 +1,4 @@
--- The widths of the fields before a segment's lists, which stand in a row. The contracts of the code cite them; no promise names them.
+-- The widths of the fields before a segment's lists, which stand in a row. Used by contracts of the code; no promise names these.
 use mathlib.Core.List.{List, _∷_, _++_}
 use Prim.Native.Nat.{ℕ}
 use Rattle.grammar.specs.internal.segment.Parts.{headerWidths, identityWidths, offsetWidths}

@@ -1,4 +1,4 @@
--- Fields in a row, copied from a packet's bits to a room. The contracts of the code cite it; no promise names it.
+-- Fields in a row, copied from a packet's bits to a room. Used by contracts of the code; no promise names these.
 use mathlib.Core.List.{List, [], _∷_}
 use Prim.Native.Nat.{ℕ, _+_, _*_, _^_, _≤_, _<_}
 use lib.ListN.{length}

@@ -1,4 +1,4 @@
--- `lines::after_element` meets its contract.
+-- `text::lines::after_element` meets its contract.
 use Rattle.text.specs.internal.sheet.Numbers.{numbersIn}
 use Rattle.text.proofs.lines.Laying.{value-at, after-here}
 use lib.ListN.{drop}

@@ -1,4 +1,4 @@
--- `lines::put_changes` meets its contract.
+-- `text::lines::put_changes` meets its contract.
 use Rattle.speed.specs.Speed.{changesFrom}
 use Rattle.text.specs.internal.sheet.Numbers.{numbersIn}
 use Rattle.text.specs.words.Words.{Laid}

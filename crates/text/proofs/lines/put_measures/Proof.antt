@@ -1,4 +1,4 @@
--- `lines::put_measures` meets its contract.
+-- `text::lines::put_measures` meets its contract.
 use Rattle.text.specs.internal.sheet.Numbers.{numbersIn}
 use Rattle.text.proofs.words.Putting.{laid-long, decimal-short}
 use Rattle.text.proofs.lines.Laying.{value-at, signed-short, measures-laid}

@@ -1,4 +1,4 @@
--- `sheets::number` meets its contract.
+-- `text::sheet::number` meets its contract.
 use Rattle.text.proofs.sheet.Reading.{first-number, no-number}
 use mathlib.Core.Path.{sym, _∙_}
 use denote.Ref.{now}

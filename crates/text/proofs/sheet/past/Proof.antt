@@ -1,4 +1,4 @@
--- `sheets::past` meets its contract.
+-- `text::sheet::past` meets its contract.
 use Rattle.text.specs.internal.sheet.Numbers.{numbersIn}
 use Rattle.text.proofs.sheet.Reading.{groups-inside, past-more, past-end}
 use Rattle.bits.proofs.Padding.{bytes-of}
@@ -26,7 +26,7 @@ number-at-requires c κs = tt
 groups-requires : tie.Need-groups-requires Inv-loop μ-loop
 groups-requires c κs = tt
 
--- the number's groups are inside the sheet
+-- the groups of a number are inside the sheet
 inside : (c : tie.After-groups Inv-loop μ-loop) → c .before .before .before .before .before .before .loop .place + c .groups .result ≤ length (now (c .before .before .before .before .before .before .before .before .args .sheet))
 inside c =
     let s = now (c .before .before .before .before .before .before .before .before .args .sheet) in

@@ -1,4 +1,4 @@
--- `words::put_decimal` meets its contract; the number is what falls.
+-- `text::words::put_decimal` meets its contract; `v` falls with each call.
 use Prim.Native.Nat.{ℕ, _<_}
 use mathlib.Core.Path.{_∙_}
 use native.Mathlib.Omega.{arith}
@@ -23,7 +23,7 @@ abbrev put-decimal-below : ℕ → In 1 put-decimal-kinds.ps
 put-decimal-below t =
     and 1 put-decimal-kinds.ps (falls 1 put-decimal-kinds.ps _<_ μ-put-decimal t) put-decimal.Pre
 
--- the answers to the needs, in the code's order: a single digit; the digits above the last; the last
+-- the proofs of the code's needs, in its order: a single digit; the digits above the last; the last digit
 pub +put-decimal-spec : {M : Type 1} → statement M
 +put-decimal-spec =
     close μ-put-decimal λ t.

@@ -1,4 +1,4 @@
--- `words::magnitude` meets its contract.
+-- `text::words::magnitude` meets its contract.
 use Rattle.text.proofs.words.Signs.{narrow, turned-fits, whole, whole-fits, kept-fits, same}
 use lib.IntN.{natAbs}
 use mathlib.Core.Path.{ap}

@@ -1,4 +1,4 @@
--- `words::put_digit` meets its contract.
+-- `text::words::put_digit` meets its contract.
 use borrow.Author.Needs.{needs}
 use Rattle.text.proofs.words.put_digit.Statement.{statement}
 use Rattle.text.proofs.words.put_digit.Tie as tie

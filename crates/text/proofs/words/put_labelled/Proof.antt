@@ -1,4 +1,4 @@
--- `words::put_labelled` meets its contract.
+-- `text::words::put_labelled` meets its contract.
 use Rattle.text.specs.words.Words.{decimal}
 use Rattle.text.proofs.words.Putting.{laid-on, laid-long}
 use lib.ListN.{length-append}

@@ -1,4 +1,4 @@
--- `words::put_signed` meets its contract.
+-- `text::words::put_signed` meets its contract.
 use Rattle.text.proofs.words.Putting.{laid-on, laid-long}
 use Rattle.text.proofs.words.Signs.{text-below, text-not-below}
 use lib.ListN.{length}

@@ -1,4 +1,4 @@
--- `words::put_word` meets its contract.
+-- `text::words::put_word` meets its contract.
 use Rattle.text.proofs.words.Putting.{word-more}
 use lib.ListN.{length, length-set, drop, drop-of-length-le}
 use lib.Seq.{sets}

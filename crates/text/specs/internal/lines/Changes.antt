@@ -1,4 +1,4 @@
--- The count of a listing's changes. What the code below a promise is held to; no promise names it.
+-- The count of a listing's changes. Used by contracts of the code; no promise names it.
 use mathlib.Core.List.{List}
 use Prim.Native.Nat.{ℕ}
 use lib.ListN.{getD}

@@ -1,4 +1,4 @@
--- `frame::first_one` meets its contract.
+-- `verdict::frame::first_one` meets its contract.
 use mathlib.Core.Path.{_≡_}
 use Prim.Native.Nat.{_+_, _*_, _-_}
 use lib.Count.{leadingZeros, leading-le}

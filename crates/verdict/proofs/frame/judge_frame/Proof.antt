@@ -1,4 +1,4 @@
--- `frame::judge_frame` meets its contract.
+-- `verdict::frame::judge_frame` meets its contract.
 use Rattle.grammar.specs.segment.Frame.{packetNumber}
 use mathlib.Core.Path.{_≡_, sym, _∙_}
 use Rattle.verdict.proofs.frame.Framing.{frame-short, frame-number, frame-end, frame-length}

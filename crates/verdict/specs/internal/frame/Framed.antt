@@ -1,4 +1,4 @@
--- The frame of a packet as the code answers it: a refusal, or where the fields end; and its padding. What the code below a promise is held to; no promise names it.
+-- The frame of a packet: a refusal, or the bit where the fields end; and the padding. Used by contracts of the code; no promise names these.
 use mathlib.Core.Bool.{Bool, true, false, cond}
 use mathlib.Core.List.{List, [], _∷_}
 use Prim.Native.Nat.{ℕ, _+_, _/_}

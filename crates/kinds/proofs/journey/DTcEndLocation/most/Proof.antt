@@ -1,4 +1,4 @@
--- `journey_kinds::DTcEndLocation::most` meets its contract.
+-- `kinds::journey::DTcEndLocation::most` meets its contract.
 use borrow.Author.Tests.{ne-eqb}
 use Rattle.kinds.proofs.journey.DTcEndLocation.most.Statement.{statement}
 use Rattle.kinds.proofs.journey.DTcEndLocation.most.Tie as tie

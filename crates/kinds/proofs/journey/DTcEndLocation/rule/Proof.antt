@@ -1,4 +1,4 @@
--- `journey_kinds::DTcEndLocation::rule` meets its contract.
+-- `kinds::journey::DTcEndLocation::rule` meets its contract.
 use mathlib.Core.Path.{ap, _∙_}
 use Rattle.kinds.specs.Kind.{upTo}
 use borrow.Author.Tests.{ne-eqb}

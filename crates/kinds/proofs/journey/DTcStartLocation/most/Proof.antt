@@ -1,4 +1,4 @@
--- `journey_kinds::DTcStartLocation::most` meets its contract.
+-- `kinds::journey::DTcStartLocation::most` meets its contract.
 use borrow.Author.Tests.{ne-eqb}
 use Rattle.kinds.proofs.journey.DTcStartLocation.most.Statement.{statement}
 use Rattle.kinds.proofs.journey.DTcStartLocation.most.Tie as tie

@@ -1,4 +1,4 @@
--- `journey_kinds::QLowAdhesionRate::most` meets its contract.
+-- `kinds::journey::QLowAdhesionRate::most` meets its contract.
 use borrow.Author.Tests.{ne-eqb}
 use Rattle.kinds.proofs.journey.QLowAdhesionRate.most.Statement.{statement}
 use Rattle.kinds.proofs.journey.QLowAdhesionRate.most.Tie as tie

@@ -1,4 +1,4 @@
--- `journey_kinds::QTcFront::most` meets its contract.
+-- `kinds::journey::QTcFront::most` meets its contract.
 use borrow.Author.Tests.{ne-eqb}
 use Rattle.kinds.proofs.journey.QTcFront.most.Statement.{statement}
 use Rattle.kinds.proofs.journey.QTcFront.most.Tie as tie

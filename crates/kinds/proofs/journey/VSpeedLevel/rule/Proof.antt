@@ -1,4 +1,4 @@
--- `journey_kinds::VSpeedLevel::rule` meets its contract.
+-- `kinds::journey::VSpeedLevel::rule` meets its contract.
 use borrow.Author.Tests.{ne-eqb}
 use borrow.Author.Needs.{needs}
 use Rattle.kinds.proofs.journey.VSpeedLevel.rule.Statement.{statement}
