@@ -14,11 +14,10 @@ use Rattle.format.specs.Format.{Read, accepted, write, valuesOf}
 use Rattle.format.specs.Media.{sheet}
 use Rattle.format.proofs.Lawful.{to-sheet}
 use Rattle.grammar.specs.segment.Frame.{packetNumber}
-use Rattle.grammar.specs.journey.Journey.{journeyFields}
 use Rattle.grammar.specs.declared.link.Tree.{Tree}
 use Rattle.grammar.specs.declared.link.Tree.the-variants.{Segment, Journey}
 use Rattle.grammar.specs.link.Link.{treeNumber, treeFields, treeOf, fromEitherPacket, toEitherSheet}
-use Rattle.grammar.specs.internal.link.Trees.{treeSheetFields, treePacket}
+use Rattle.grammar.specs.internal.link.Trees.{treeSheetFields, treePacket, fieldsOf, FieldsWritable}
 use Rattle.grammar.proofs.link.Trees.{link-lawful}
 use Rattle.grammar.proofs.link.Values.{tree-sheet, tree-packet-values}
 use Rattle.grammar.proofs.link.Ends.{either-sheet-size}
@@ -31,8 +30,7 @@ use Rattle.verdict.proofs.frame.Framing.{whole}
 use Rattle.verdict.proofs.Sizes.{packet-sorts}
 use Rattle.verdict.proofs.Accepted.{verdict-accepted, verdict-refused, accepted-frame, Parts, parts}
 use Rattle.convert.specs.Convert.{Outcome, refusedWith, successWith, fitted, converted, packetToSheet}
-use Rattle.convert.specs.internal.Writers.{sheetOf, SheetWritable, fieldsOf, FieldsWritable, treeToSheet}
-use Rattle.sheet_write_journey.specs.internal.Sheet.{JourneyWritable}
+use Rattle.convert.specs.internal.Writers.{sheetOf, SheetWritable, treeToSheet}
 
 -- bytes written at the start of a room that holds them make the outcome of a success
 pub done-placed : (bytes room : List ℕ) (n : ℕ) (cells : List ℕ) → n ≡ length bytes → length bytes ≤ length room → cells ≡ sets room 0 bytes
@@ -138,11 +136,6 @@ module _ (t : Tree) (s : List ℕ) where
 pub sheet-by-tree : (s room : List ℕ) → treeToSheet (treeOf (packetNumber s)) s room ≡ packetToSheet s room
 unfolding treeToSheet packetToSheet fromEitherPacket
 sheet-by-tree s room = refl
-
--- what the writer of a tree's fields requires gives what the writer of a journey requires
-pub journey-writable : {s : List ℕ} {stop : ℕ} {room : List ℕ} {start : ℕ} → FieldsWritable Journey s stop room start → JourneyWritable s stop room start
-unfolding journeyFields
-journey-writable h = record { place = h .place; accepts = h .accepts; holds = h .holds }
 
 -- a packet of no byte counts as a segment
 pub no-number : (s : List ℕ) → length s ≡ 0 → Segment ≡ treeOf (packetNumber s)

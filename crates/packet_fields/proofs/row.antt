@@ -1,3 +1,4 @@
 -- Laws of the module `row`.
+pub mod Held
 pub mod Rows
 pub mod Whole

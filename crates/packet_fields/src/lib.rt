@@ -1,5 +1,6 @@
 // Judges one field of a packet, and counts the bytes of its number in the sheet. Nothing is written.
 // Parameters: `s` is the packet, `stop` the bit where its fields end, `at` the bit of the field, `n` the sheet bytes before it.
+pub mod header;
 pub mod row;
 
 ghost use Prim.Native.Nat.{_<_};
@@ -8,6 +9,8 @@ ghost use Rattle.kinds.specs.internal.Rules.{meaning};
 ghost use Rattle.format.specs.Format.{then};
 ghost use Rattle.grammar.specs.segment.Segment as segment;
 ghost use Rattle.packet_fields.specs.internal.Judging.{Standing, Wide, Took, Over};
+use grammar::segment::layout::COUNT;
+use grammar::segment::layout::LOCATION;
 use kinds::Rule;
 use kinds::body;
 use kinds::refusals::BODY_BITS;
@@ -56,9 +59,6 @@ pub fn plain(s: &[u8], stop: usize, at: usize, n: usize, rule: Rule) -> PacketSt
 
 // ---- fast paths for N_ITER, D_LOCATION and M_CURRENT, which look up no `Rule`
 
-// Bits of N_ITER.
-const COUNT: usize = body::NIter::WIDTH as usize;
-
 // Judges N_ITER, at most `limit` (below 128), and returns its value.
 pub fn count(s: &[u8], stop: usize, at: usize, n: usize, limit: u32) -> PacketValue
     requires { ⌜ Standing (now s) stop at n × (limit < 128) ⌝ }
@@ -75,15 +75,12 @@ pub fn count(s: &[u8], stop: usize, at: usize, n: usize, limit: u32) -> PacketVa
     PacketValue::Is(v, at + COUNT, n + bytes as usize)
 }
 
-// Bits of D_LOCATION.
-const PLACE: usize = body::DLocation::WIDTH as usize;
-
 // Judges D_LOCATION, above `last` and below `lsp` (cm), and returns its value.
 pub fn location(s: &[u8], stop: usize, at: usize, n: usize, last: u32, lsp: u32) -> PacketValue
     requires { ⌜ Standing (now s) stop at n ⌝ }
     ensures { λ r. ⌜ Took (dLocation last lsp) (now (s .entry)) stop at n r ⌝ }
 {
-    if stop - at < PLACE {
+    if stop - at < LOCATION {
         return PacketValue::Refused(BODY_BITS, at as u32);
     }
     let v = bits::read_window(s, at, body::DLocation::WIDTH);
@@ -91,7 +88,7 @@ pub fn location(s: &[u8], stop: usize, at: usize, n: usize, last: u32, lsp: u32)
     if bytes == 0 {
         return PacketValue::Refused(CHANGE_LOCATION, at as u32);
     }
-    PacketValue::Is(v, at + PLACE, n + bytes as usize)
+    PacketValue::Is(v, at + LOCATION, n + bytes as usize)
 }
 
 // Bits of M_CURRENT.

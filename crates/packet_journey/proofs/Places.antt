@@ -23,7 +23,7 @@ use Rattle.packet_fields.specs.internal.Judging.{Standing, Over, Took, Gave}
 use Rattle.packet_fields.proofs.Steps.{took-some}
 use Rattle.packet_fields.specs.internal.row.Values.{rowBytes}
 use Rattle.packet_fields.proofs.row.Whole.{bytes-some}
-use Rattle.packet_journey.proofs.point_bytes.Held.{all-bytes}
+use Rattle.packet_fields.proofs.row.Held.{all-bytes}
 use Rattle.packet_journey.specs.internal.Head.{segmentHead}
 
 module _ (s : List ℕ) (stop : ℕ) {at n : ℕ} (h : Standing s stop at n) (room : 64 ≤ stop - at) {t : ℕ} (et : t ≡ fieldAt s (at + 42) 22)

@@ -15,6 +15,7 @@ use grammar::journey::CONSTRAINTS;
 use grammar::journey::layout::IDENTITY;
 use grammar::journey::layout::SEGMENT_HEAD;
 use grammar::journey::layout::VERSIONS;
+use grammar::journey::layout::VERSIONS_WIDTH;
 use kinds::body;
 use kinds::journey::NIterSp;
 use kinds::journey::QJpStatus;
@@ -41,7 +42,7 @@ fn whole_head(s: &[u8], stop: usize, at: usize, n: usize) -> PacketValue
 {
     let country = fields::size::short(bits::read_window(s, at, body::NidC::WIDTH));
     let identity = numbers::write::groups(bits::read_window(s, at + IDENTITY, body::NidSp::WIDTH));
-    let t = bits::read_window(s, at + VERSIONS, 22);
+    let t = bits::read_window(s, at + VERSIONS, VERSIONS_WIDTH);
     let major = fields::size::short(t / 16384);
     let minor = fields::size::short(t / 64 % 256);
     let bytes = country + identity + major + minor + 2;
@@ -126,7 +127,7 @@ pub fn fields(s: &[u8], stop: usize) -> PacketStep
     requires { ⌜ Standing (now s) stop 24 1 ⌝ }
     ensures { λ r. ⌜ Over journeyPart (now (s .entry)) stop 24 1 r ⌝ }
 {
-    match packet_segment::head::header_fields(s, stop) {
+    match packet_fields::header::header(s, stop) {
         PacketStep::Refused(r, place) => PacketStep::Refused(r, place),
         PacketStep::On(at, n) => body(s, stop, at, n),
     }

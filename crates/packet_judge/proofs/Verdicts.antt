@@ -14,7 +14,7 @@ use Rattle.format.proofs.Places.{rest-none, rest-some}
 use Rattle.format.proofs.Passing.{pass-read}
 use Rattle.format.proofs.Tasks.{made-count}
 use Rattle.grammar.specs.segment.Segment.{lists, body}
-use Rattle.grammar.specs.internal.segment.Parts.{kindAt, runs}
+use Rattle.grammar.specs.internal.rows.Rows.{row}
 use Rattle.verdict.specs.declared.PacketVerdict.{PacketVerdict}
 use Rattle.verdict.specs.declared.PacketVerdict.the-variants as PacketVerdict
 use Rattle.verdict.specs.internal.Verdict.{fieldsVerdict}
@@ -29,7 +29,7 @@ use Rattle.packet_judge.specs.internal.Whole.{treePart}
 
 -- the tree is that part and nothing after it
 whole-part : (t : Tree) → treeFields t ≡ treePart t end
-unfolding body lists runs kindAt journeyBody
+unfolding body lists row journeyBody
 whole-part Segment = refl
 whole-part Journey = refl
 

@@ -1,3 +1,3 @@
--- The laws of the module element.
+-- Laws of the module `element`.
 pub mod Names
 pub mod Windows

@@ -1,2 +1,2 @@
--- The laws of the module head.
+-- Laws of the module `head`.
 pub mod Places

@@ -1,13 +1,14 @@
-// The fields of a packet before its lists judged, with the bytes of their sheet counted. Nothing is written.
+// The fields of a segment's packet before its lists judged, with the bytes of their sheet counted. Nothing is written.
+// Parameters: `s` is the packet, `stop` the bit where its fields end, `at` the bit of the part, `n` the sheet bytes before it.
 ghost use mathlib.Core.Path.{_≡_};
-ghost use Prim.Native.Nat.{_-_, _≤_, _<_};
+ghost use Prim.Native.Nat.{_≤_};
 ghost use lib.ListN.{length};
-ghost use Rattle.kinds.specs.internal.Rules.{meaning};
-ghost use Rattle.grammar.specs.internal.segment.Parts.{kindAt, runs, headerPart};
+ghost use Rattle.grammar.specs.internal.rows.Rows.{row};
+ghost use Rattle.grammar.specs.internal.segment.Parts.{headerWidths, headerMost, identityWidths, offsetWidths, offsetMost};
 ghost use Rattle.packet_fields.specs.internal.Judging.{Standing, Over, Gave};
-ghost use Rattle.packet_segment.specs.internal.head.Head.{headPart, PartBytes, Passed};
+ghost use Rattle.packet_fields.specs.internal.row.Values.{fieldsAt, groupsAll, rowBytes};
+ghost use Rattle.packet_segment.specs.internal.head.Head.{bodyHead, headPart};
 use grammar::segment::layout;
-use kinds::Rule;
 use kinds::body;
 use kinds::header;
 use packet_fields::PacketStep;
@@ -15,61 +16,28 @@ use packet_fields::PacketValue;
 
 // ---- field by field
 
-// The rules of the thirteen fields, by their number.
-fn rule_of(i: u32) -> Rule
-    requires { ⌜ i < 13 ⌝ }
-    ensures { λ r. ⌜ meaning r ≡ kindAt i ⌝ }
+// Judges D_EoA_Offset, Q_UTC_Offset and M_SP_Altitude.
+fn cut_offsets(s: &[u8], stop: usize, at: usize, n: usize) -> PacketStep
+    requires { ⌜ Standing (now s) stop at n ⌝ }
+    ensures { λ r. ⌜ Over (row offsetWidths offsetMost) (now (s .entry)) stop at n r ⌝ }
 {
-    match i {
-        0 => header::NidOperational::rule(),
-        1 => header::NidEngine::rule(),
-        2 => header::TTimestampDate::rule(),
-        3 => header::TTimestampSeconds::rule(),
-        4 => header::NPacketCounter::rule(),
-        5 => body::NidC::rule(),
-        6 => body::NidSp::rule(),
-        7 => body::MSpVersion::rule(),
-        8 => body::MSpVersion::rule(),
-        9 => body::LSp::rule(),
-        10 => body::DEoAOffset::rule(),
-        11 => body::QUtcOffset::rule(),
-        _ => body::MSpAltitude::rule(),
-    }
+    let widths = grammar::segment::offset_widths();
+    let most = grammar::segment::offset_most();
+    packet_fields::row::row(s, stop, at, n, &widths, &most)
 }
 
-// The fields from first up to end, on whose values nothing depends.
-fn run(s: &[u8], stop: usize, at: usize, n: usize, first: u32, end: u32) -> PacketStep
-    requires { ⌜ Standing (now s) stop at n × (first ≤ end) × (end ≤ 13) ⌝ }
-    ensures { λ r. ⌜ Over (runs first (end - first)) (now (s .entry)) stop at n r ⌝ }
+// Judges the body's fields before the lists and returns the value of L_SP.
+fn cut_body(s: &[u8], stop: usize, at: usize, n: usize) -> PacketValue
+    requires { ⌜ Standing (now s) stop at n ⌝ }
+    ensures { λ r. ⌜ Gave bodyHead (now (s .entry)) stop at n r ⌝ }
 {
-    let mut to = at;
-    let mut m = n;
-    let mut i = first;
-    while i < end {
-        match packet_fields::plain(s, stop, to, m, rule_of(i)) {
-            PacketStep::Refused(r, place) => {
-                return PacketStep::Refused(r, place);
-            }
-            PacketStep::On(a, b) => {
-                to = a;
-                m = b;
-                i += 1;
-            }
-        }
-    }
-    PacketStep::On(to, m)
-}
-
-// The thirteen fields, with the value of L_SP.
-fn cut_head(s: &[u8], stop: usize) -> PacketValue
-    requires { ⌜ Standing (now s) stop 24 1 ⌝ }
-    ensures { λ r. ⌜ Gave headPart (now (s .entry)) stop 24 1 r ⌝ }
-{
-    match run(s, stop, layout::OPERATIONAL, 1, 0, 9) {
+    let widths = grammar::segment::identity_widths();
+    let most = grammar::segment::identity_most();
+    match packet_fields::row::row(s, stop, at, n, &widths, &most) {
         PacketStep::Refused(r, place) => PacketValue::Refused(r, place),
         PacketStep::On(at2, n2) => match packet_fields::field(s, stop, at2, n2, body::LSp::rule()) {
             PacketValue::Refused(r, place) => PacketValue::Refused(r, place),
-            PacketValue::Is(lsp, at3, n3) => match run(s, stop, at3, n3, 10, 13) {
+            PacketValue::Is(lsp, at3, n3) => match cut_offsets(s, stop, at3, n3) {
                 PacketStep::Refused(r, place) => PacketValue::Refused(r, place),
                 PacketStep::On(at4, n4) => PacketValue::Is(lsp, at4, n4),
             },
@@ -77,24 +45,27 @@ fn cut_head(s: &[u8], stop: usize) -> PacketValue
     }
 }
 
-// ---- where the bits are all there: each field at its place, counted from the packet's start
+// Judges the header and the body's fields before the lists and returns the value of L_SP.
+fn cut_head(s: &[u8], stop: usize) -> PacketValue
+    requires { ⌜ Standing (now s) stop 24 1 ⌝ }
+    ensures { λ r. ⌜ Gave headPart (now (s .entry)) stop 24 1 r ⌝ }
+{
+    match packet_fields::header::header(s, stop) {
+        PacketStep::Refused(r, place) => PacketValue::Refused(r, place),
+        PacketStep::On(at, n) => cut_body(s, stop, at, n),
+    }
+}
 
-// The bytes of a packet in which eight bytes begin with each field's first: a whole packet has no fewer.
+// ---- fast path: the bits are all present, and each field stands at a constant place from the packet's start
+
+// Least bytes of a packet for the fast path: eight bytes can be read from the first byte of each field on. A packet with all of the head has no fewer.
 const LONG: usize = layout::ALTITUDE / 8 + 9;
 
-// The bytes of the header, 0 where NID_OPERATIONAL or the seconds are refused.
+// Bytes of NID_ENGINE to N_PACKET_COUNTER in the sheet, or 0 if the seconds are refused.
 fn header_bytes(s: &[u8]) -> usize
     requires { ⌜ 38 ≤ length (now s) ⌝ }
-    ensures { λ r. ⌜ PartBytes (runs 0 5) (now (s .entry)) 24 120 r ⌝ }
+    ensures { λ r. ⌜ r ≡ rowBytes headerMost (fieldsAt (now (s .entry)) 56 headerWidths) ⌝ }
 {
-    let operational = fields::size::operational(bits::read_window(
-        s,
-        layout::OPERATIONAL,
-        header::NidOperational::WIDTH,
-    ));
-    if operational == 0 {
-        return 0;
-    }
     let seconds = fields::size::within(
         0,
         header::TTimestampSeconds::LARGEST,
@@ -118,13 +89,13 @@ fn header_bytes(s: &[u8]) -> usize
         layout::COUNTER,
         header::NPacketCounter::WIDTH,
     ));
-    operational as usize + engine as usize + date as usize + seconds as usize + counter as usize
+    engine as usize + date as usize + seconds as usize + counter as usize
 }
 
-// Those of NID_C, NID_SP and the two versions: none can be refused.
+// Bytes of NID_C, NID_SP and the two versions in the sheet; none of the four can be refused.
 fn identity_bytes(s: &[u8]) -> usize
     requires { ⌜ 38 ≤ length (now s) ⌝ }
-    ensures { λ r. ⌜ Passed (runs 5 4) (now (s .entry)) 120 178 r ⌝ }
+    ensures { λ r. ⌜ r ≡ groupsAll (fieldsAt (now (s .entry)) 120 identityWidths) ⌝ }
 {
     let country = fields::size::short(bits::read_window(s, layout::COUNTRY, body::NidC::WIDTH));
     let identity = numbers::write::groups(bits::read_window(
@@ -137,10 +108,10 @@ fn identity_bytes(s: &[u8]) -> usize
     country as usize + identity as usize + major as usize + minor as usize
 }
 
-// Those of the fields between L_SP and the lists, 0 where Q_UTC_Offset is refused.
+// Bytes of D_EoA_Offset, Q_UTC_Offset and M_SP_Altitude in the sheet, or 0 if Q_UTC_Offset is refused.
 fn offset_bytes(s: &[u8]) -> usize
     requires { ⌜ 38 ≤ length (now s) ⌝ }
-    ensures { λ r. ⌜ PartBytes (runs 10 3) (now (s .entry)) 202 253 r ⌝ }
+    ensures { λ r. ⌜ r ≡ rowBytes offsetMost (fieldsAt (now (s .entry)) 202 offsetWidths) ⌝ }
 {
     let clock = fields::size::one(
         body::QUtcOffset::LARGEST,
@@ -162,11 +133,19 @@ fn offset_bytes(s: &[u8]) -> usize
     offset as usize + clock as usize + altitude as usize
 }
 
-// The same as `cut_head`, which tells a refusal.
+// Judges the head, whose bits are all present, and returns the value of L_SP. On a refusal, calls `cut_head` to find the field at fault.
 fn whole_head(s: &[u8], stop: usize) -> PacketValue
     requires { ⌜ Standing (now s) stop 24 1 × (38 ≤ length (now s)) × (253 ≤ stop) ⌝ }
     ensures { λ r. ⌜ Gave headPart (now (s .entry)) stop 24 1 r ⌝ }
 {
+    let operational = fields::size::operational(bits::read_window(
+        s,
+        layout::OPERATIONAL,
+        header::NidOperational::WIDTH,
+    ));
+    if operational == 0 {
+        return cut_head(s, stop);
+    }
     let header = header_bytes(s);
     if header == 0 {
         return cut_head(s, stop);
@@ -184,11 +163,11 @@ fn whole_head(s: &[u8], stop: usize) -> PacketValue
     PacketValue::Is(
         lsp,
         layout::PROFILE,
-        1 + header + identity + length as usize + offsets,
+        1 + operational as usize + header + identity + length as usize + offsets,
     )
 }
 
-// The thirteen fields, with the value of L_SP.
+// Judges the thirteen fields before the lists and returns the value of L_SP.
 pub fn head(s: &[u8], stop: usize) -> PacketValue
     requires { ⌜ Standing (now s) stop 24 1 ⌝ }
     ensures { λ r. ⌜ Gave headPart (now (s .entry)) stop 24 1 r ⌝ }
@@ -200,12 +179,4 @@ pub fn head(s: &[u8], stop: usize) -> PacketValue
         return cut_head(s, stop);
     }
     whole_head(s, stop)
-}
-
-// The header alone, as packets of every number begin, field by field: so that the code of the thirteen stays in one place.
-pub fn header_fields(s: &[u8], stop: usize) -> PacketStep
-    requires { ⌜ Standing (now s) stop 24 1 ⌝ }
-    ensures { λ r. ⌜ Over headerPart (now (s .entry)) stop 24 1 r ⌝ }
-{
-    run(s, stop, layout::OPERATIONAL, 1, 0, 5)
 }

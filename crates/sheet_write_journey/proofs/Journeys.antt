@@ -1,30 +1,29 @@
 -- The whole of an accepted journey, part after part.
 use mathlib.Core.Path.{_≡_, refl}
 use mathlib.Core.List.{List, [], _∷_, _++_}
-use Prim.Native.Nat.{ℕ, _+_, _≤_}
-use lib.ListN.{length}
-use lib.Seq.{sets}
+use Prim.Native.Nat.{ℕ}
 use Rattle.bits.specs.Bits.{fieldAt}
 use Rattle.numbers.specs.internal.Groups.{Put}
 use Rattle.kinds.specs.Kinds.{nidOperational}
 use Rattle.format.specs.Format.{Format, end, field, then, times}
 use Rattle.grammar.specs.internal.rows.Rows.{row}
 use Rattle.kinds.specs.journey.Kinds.{qJpStatus, nIterSp}
-use Rattle.grammar.specs.journey.Journey.{journeyBody, journeyFields, journeySegment, constraints}
+use Rattle.grammar.specs.journey.Journey.{journeyBody, journeySegment, constraints}
+use Rattle.grammar.specs.declared.link.Tree.the-variants.{Journey}
+use Rattle.grammar.specs.link.Link.{treeFields}
 use Rattle.grammar.specs.internal.journey.Parts.{journeyBodyPart, journeyPart}
 use Rattle.grammar.specs.internal.segment.Parts.{headerWidths, headerMost}
 use Rattle.grammar.proofs.segment.Parts.{header-rows, header-fits}
-use Rattle.sheet_write_segment.specs.internal.elements.Writing.{filled, PartWritable, Wrote}
+use Rattle.sheet_write_segment.specs.internal.elements.Writing.{PartWritable, Wrote}
 use Rattle.sheet_write_segment.proofs.elements.Writing.{Along, along-here, along-on, along-none}
-use Rattle.sheet_write_journey.specs.internal.row.Row.{Row, copied}
-use Rattle.sheet_write_journey.proofs.row.Tree.{Rowing, rowing-none, rowing-as, rowing-row, rowing-field, rowing-here}
-use Rattle.sheet_write_segment.proofs.elements.Whole.{tree-writable, tree-held}
+use Rattle.sheet_write_segment.specs.internal.head.Widths.{headerFields}
+use Rattle.sheet_write_segment.specs.internal.row.Row.{Row, copied}
+use Rattle.sheet_write_segment.proofs.row.Tree.{Rowing, rowing-none, rowing-as, rowing-row, rowing-field, rowing-here}
 use Rattle.sheet_write_journey.specs.internal.rows.Widths.{headWidths}
-use Rattle.sheet_write_journey.specs.internal.Sheet.{journeyOf, JourneyWritable}
 
-parts : journeyFields constraints ≡ journeyPart end
-unfolding journeyFields journeyBody
-parts = refl
+pub whole-part : treeFields Journey ≡ journeyPart end
+unfolding journeyBody
+whole-part = refl
 
 module _ (s : List ℕ) (stop : ℕ) {p : Put} (h : PartWritable journeyPart s stop 24 p) where
   abbrev counted : ℕ → Format → Format
@@ -33,10 +32,10 @@ module _ (s : List ℕ) (stop : ℕ) {p : Put} (h : PartWritable journeyPart s s
   head-rowing : (n : ℕ) → n ≡ fieldAt s 123 8 → Rowing s stop 24 p journeyPart (times (journeySegment constraints) n) headWidths
   head-rowing n e =
       let start = rowing-as s stop 24 p (λ f. then nidOperational (row headerWidths headerMost (journeyBodyPart f))) (λ f. header-rows (journeyBodyPart f)) (rowing-none s stop 24 p h) in
-      let train = rowing-field s stop 24 p [] h nidOperational (λ u f. row headerWidths headerMost (journeyBodyPart f)) 32 refl (λ v. refl) start _ refl in
-      let header = rowing-row s stop 24 p (32 ∷ []) h journeyBodyPart headerWidths headerMost header-fits train in
-      let status = rowing-field s stop 24 p (32 ∷ headerWidths) h qJpStatus counted 3 refl (λ v. refl) header _ refl in
-      rowing-field s stop 24 p (32 ∷ headerWidths ++ 3 ∷ []) h nIterSp (times (journeySegment constraints)) 8 refl (λ v. refl) status n e
+      let operational = rowing-field s stop 24 p [] h nidOperational (λ u f. row headerWidths headerMost (journeyBodyPart f)) 32 refl (λ v. refl) start _ refl in
+      let header = rowing-row s stop 24 p (32 ∷ []) h journeyBodyPart headerWidths headerMost header-fits operational in
+      let status = rowing-field s stop 24 p headerFields h qJpStatus counted 3 refl (λ v. refl) header _ refl in
+      rowing-field s stop 24 p (headerFields ++ 3 ∷ []) h nIterSp (times (journeySegment constraints)) 8 refl (λ v. refl) status n e
 
   pub head-row : Row s 24 headWidths p
   head-row = rowing-here s stop 24 p (head-rowing _ refl)
@@ -50,10 +49,3 @@ module _ (s : List ℕ) (stop : ℕ) {p : Put} (h : PartWritable journeyPart s s
 
     pub journey-wrote : {to : ℕ} {r : Put} → Wrote (times (journeySegment constraints) n) s stop 131 q to r → Wrote journeyPart s stop 24 p to r
     journey-wrote o = along-none s stop (along-on s stop (times (journeySegment constraints) n) (λ f. f) at-segments o)
-
-module _ (s : List ℕ) (stop : ℕ) (room : List ℕ) (start : ℕ) (h : JourneyWritable s stop room start × (8 ≤ length s)) where
-  pub journey-writable : PartWritable journeyPart s stop 24 (filled room start)
-  journey-writable = tree-writable (journeyFields constraints) journeyPart parts s stop 24 room start (h .0 .accepts) (h .0 .place) (h .1) (h .0 .holds)
-
-  pub journey-held : {to : ℕ} {p : Put} → Wrote journeyPart s stop 24 (filled room start) to p → p .bytes ≡ sets room start (journeyOf s stop)
-  journey-held o = tree-held (journeyFields constraints) journeyPart parts s stop 24 room start (h .0 .accepts) o

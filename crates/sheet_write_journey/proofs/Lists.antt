@@ -18,8 +18,8 @@ use Rattle.grammar.specs.internal.journey.Parts.{segmentWidths, segmentMost, co
 use Rattle.grammar.proofs.journey.Parts.{segment-rows, segment-fits}
 use Rattle.sheet_write_segment.specs.internal.elements.Writing.{putting, PartWritable, Wrote}
 use Rattle.sheet_write_segment.proofs.elements.Writing.{Along, along-here, along-next, along-on, along-none, along-put, field-here, field-read}
-use Rattle.sheet_write_journey.specs.internal.row.Row.{Row, copied}
-use Rattle.sheet_write_journey.proofs.row.Tree.{Rowing, rowing-none, rowing-as, rowing-row, rowing-field, rowing-here}
+use Rattle.sheet_write_segment.specs.internal.row.Row.{Row, copied}
+use Rattle.sheet_write_segment.proofs.row.Tree.{Rowing, rowing-none, rowing-as, rowing-row, rowing-field, rowing-here}
 use Rattle.sheet_write_journey.specs.internal.rows.Widths.{startWidths}
 
 module _ (s : List ℕ) (stop limit : ℕ) {at : ℕ} {p : Put} (h : PartWritable (journeySegment limit) s stop at p) where

@@ -12,8 +12,8 @@ use Rattle.grammar.specs.internal.journey.Parts.{arrivalWidths, arrivalMost, st
 use Rattle.grammar.proofs.journey.Parts.{point-rows, arrival-fits, stopping-fits}
 use Rattle.sheet_write_segment.specs.internal.elements.Writing.{PartWritable, Wrote}
 use Rattle.sheet_write_segment.proofs.elements.Writing.{Along, along-none, times-next, times-on}
-use Rattle.sheet_write_journey.specs.internal.row.Row.{Row, copied}
-use Rattle.sheet_write_journey.proofs.row.Tree.{Rowing, rowing-none, rowing-row, rowing-field, rowing-as, rowing-here}
+use Rattle.sheet_write_segment.specs.internal.row.Row.{Row, copied}
+use Rattle.sheet_write_segment.proofs.row.Tree.{Rowing, rowing-none, rowing-row, rowing-field, rowing-as, rowing-here}
 use Rattle.sheet_write_journey.specs.internal.rows.Widths.{pointWidths}
 
 -- ---- a timing point is a row

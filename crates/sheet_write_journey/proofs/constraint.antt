@@ -1,2 +1,2 @@
--- The laws of the module constraint.
+-- Laws of the module `constraint`.
 pub mod Constraints

@@ -1,5 +1,3 @@
--- What the code needs and no promise names.
-pub mod Sheet
+-- Definitions that contracts of the code use; no promise names them.
 pub mod constraint
-pub mod row
 pub mod rows

@@ -1,6 +1,6 @@
 // The sheet of an accepted journey, written part by part into a room that holds all of it. What was accepted is not judged again.
+// Parameters: `packet` is the packet, `stop` the bit where its fields end, `at` the bit of the part, `room` the room, `n` the byte of `room` for the part's first number.
 pub mod constraint;
-pub mod row;
 pub mod rows;
 
 ghost use mathlib.Core.Path.{_≡_};
@@ -9,20 +9,23 @@ ghost use lib.ListN.{length};
 ghost use lib.Seq.{sets};
 ghost use Rattle.format.specs.Format.{times};
 ghost use Rattle.grammar.specs.journey.Journey.{timingPoint, temporaryConstraint, journeySegment, constraints};
+ghost use Rattle.grammar.specs.declared.link.Tree.the-variants.{Journey};
+ghost use Rattle.grammar.specs.internal.link.Trees.{fieldsOf, FieldsWritable};
 ghost use Rattle.sheet_write_segment.specs.internal.elements.Writing.{filled, PartWritable, Wrote};
-ghost use Rattle.sheet_write_journey.specs.internal.Sheet.{journeyOf, JourneyWritable};
 use crate::constraint::constraint;
-use crate::row::one;
 use crate::rows::head;
 use crate::rows::point;
 use crate::rows::start;
 use grammar::journey::layout::CONSTRAINT;
 use grammar::journey::layout::POINT;
 use grammar::journey::layout::SEGMENT_HEAD;
+use grammar::journey::layout::SEGMENTS;
+use grammar::segment::layout::COUNT;
 use kinds::body::NIter;
 use sheet_write_segment::elements::SheetSpot;
+use sheet_write_segment::row::one;
 
-// The timing points of a segment.
+// Writes the `count` timing points of a segment from the byte `n` of `room` on; returns the byte after them.
 fn points(packet: &[u8], stop: usize, at: usize, count: u32, room: &mut [u8], n: usize) -> usize
     requires { ⌜ PartWritable (times timingPoint count) (now packet) stop at (filled (now room) n) ⌝ }
     ensures { λ r. ⌜ Wrote (times timingPoint count) (now (packet .entry)) stop at (filled (now (room .entry)) n) (at + 129 * count) (filled (now (room .exit)) r) ⌝ }
@@ -38,7 +41,7 @@ fn points(packet: &[u8], stop: usize, at: usize, count: u32, room: &mut [u8], n:
     m
 }
 
-// The temporary constraints of a segment.
+// Writes the `count` temporary constraints of a segment from the byte `n` of `room` on; returns the byte after them.
 fn constraints(
     packet: &[u8],
     stop: usize,
@@ -61,7 +64,7 @@ fn constraints(
     m
 }
 
-// A segment: its identity and direction, its timing points, and its temporary constraints.
+// Writes a segment from the byte `n` of `room` on: its identity and direction, its timing points, and its temporary constraints.
 fn segment(packet: &[u8], stop: usize, at: usize, room: &mut [u8], n: usize) -> SheetSpot
     requires { ⌜ PartWritable (journeySegment constraints) (now packet) stop at (filled (now room) n) ⌝ }
     ensures { λ r. ⌜ Wrote (journeySegment constraints) (now (packet .entry)) stop at (filled (now (room .entry)) n) (r .at) (filled (now (room .exit)) (r .n)) ⌝ }
@@ -72,14 +75,14 @@ fn segment(packet: &[u8], stop: usize, at: usize, room: &mut [u8], n: usize) -> 
     let to = at + SEGMENT_HEAD + POINT * count as usize;
     let v = bits::read_window(packet, to, NIter::WIDTH);
     let next = one(room, m, v);
-    let last = constraints(packet, stop, to + 5, v, room, next);
+    let last = constraints(packet, stop, to + COUNT, v, room, next);
     SheetSpot {
-        at: to + 5 + CONSTRAINT * v as usize,
+        at: to + COUNT + CONSTRAINT * v as usize,
         n: last,
     }
 }
 
-// The segments of a journey.
+// Writes the `count` segments of a journey from the byte `n` of `room` on.
 fn segments(
     packet: &[u8],
     stop: usize,
@@ -103,11 +106,11 @@ fn segments(
     SheetSpot { at: to, n: m }
 }
 
-// Writes the numbers of a journey's fields, which end at the bit stop, from the byte start of the room on.
+// Writes the numbers of a journey's fields, which end at the bit `stop` of `packet`, from the byte `start` of `room` on.
 pub fn write_journey(packet: &[u8], stop: usize, room: &mut [u8], start: usize)
-    requires { ⌜ JourneyWritable (now packet) stop (now room) start × (8 ≤ length (now packet)) ⌝ }
-    ensures { λ _. ⌜ now (room .exit) ≡ sets (now (room .entry)) start (journeyOf (now (packet .entry)) stop) ⌝ }
+    requires { ⌜ FieldsWritable Journey (now packet) stop (now room) start × (8 ≤ length (now packet)) ⌝ }
+    ensures { λ _. ⌜ now (room .exit) ≡ sets (now (room .entry)) start (fieldsOf Journey (now (packet .entry)) stop) ⌝ }
 {
     let first = head(packet, room, start);
-    segments(packet, stop, 131, first.count, room, first.n);
+    segments(packet, stop, SEGMENTS, first.count, room, first.n);
 }

@@ -1,4 +1,4 @@
--- The laws of the module elements.
+-- Laws of the module `elements`.
 pub mod Fields
 pub mod Whole
 pub mod Writing

@@ -1,2 +1,4 @@
--- What the code needs and no promise names.
+-- Definitions that contracts of the code use; no promise names them.
 pub mod elements
+pub mod head
+pub mod row

@@ -1,153 +1,68 @@
-// The fields before the speed profile, each at a bit of its own and with its value for its number.
+// The fields before the lists of an accepted segment, copied to the sheet in rows; the header's row stands in the sheets of both trees.
 ghost use mathlib.Core.Path.{_≡_};
-ghost use Prim.Native.Nat.{_+_, _<_};
-ghost use Rattle.format.specs.Format.{then};
-ghost use Rattle.grammar.specs.internal.segment.Parts.{kindAt, runs};
-ghost use Rattle.sheet_write_segment.specs.internal.elements.Writing.{filled, PartWritable, Wrote};
+ghost use Rattle.grammar.specs.internal.segment.Parts.{identityWidths, offsetWidths};
+ghost use Rattle.sheet_write_segment.specs.internal.elements.Writing.{filled};
+ghost use Rattle.sheet_write_segment.specs.internal.head.Widths.{headerFields};
+ghost use Rattle.sheet_write_segment.specs.internal.row.Row.{Row, copied};
+use crate::row::moment;
+use crate::row::number;
+use crate::row::short;
 use grammar::segment::layout;
 use kinds::body;
 use kinds::header;
 
-// The most bits of a value that has at most two groups.
-const SHORT: u32 = 14;
-
-// The field i of width bits, put at the byte n; the place after it. The width is a constant where it is called, so nothing is left of the test.
-fn copy(
-    packet: &[u8],
-    stop: usize,
-    at: usize,
-    i: u32,
-    width: u32,
-    room: &mut [u8],
-    n: usize,
-) -> usize
-    requires { ⌜ PartWritable (then (kindAt i)) (now packet) stop at (filled (now room) n) × (kindAt i .width ≡ width) × (i < 13) ⌝ }
-    ensures { λ r. ⌜ Wrote (then (kindAt i)) (now (packet .entry)) stop at (filled (now (room .entry)) n) (at + width) (filled (now (room .exit)) r) ⌝ }
+// Writes NID_OPERATIONAL to N_PACKET_COUNTER from the byte `n` of `room` on; returns the byte after them. Both trees begin with them.
+pub fn header(packet: &[u8], room: &mut [u8], n: usize) -> usize
+    requires { ⌜ Row (now packet) 24 headerFields (filled (now room) n) ⌝ }
+    ensures { λ r. ⌜ filled (now (room .exit)) r ≡ copied (now (packet .entry)) 24 headerFields (filled (now (room .entry)) n) ⌝ }
 {
-    let v = bits::read_window(packet, at, width);
-    if width <= SHORT {
-        return numbers::write::put_short(room, n, v);
-    }
-    numbers::write::put_number(room, n, v)
-}
-
-// The header's fields after L_PACKET_ATO.
-pub fn header(packet: &[u8], stop: usize, room: &mut [u8], n: usize) -> usize
-    requires { ⌜ PartWritable (runs 0 5) (now packet) stop 24 (filled (now room) n) ⌝ }
-    ensures { λ r. ⌜ Wrote (runs 0 5) (now (packet .entry)) stop 24 (filled (now (room .entry)) n) 120 (filled (now (room .exit)) r) ⌝ }
-{
-    let n1 = copy(
+    let engine = number(
         packet,
-        stop,
         layout::OPERATIONAL,
-        0,
         header::NidOperational::WIDTH,
         room,
         n,
     );
-    let n2 = copy(
+    let stamp = number(
         packet,
-        stop,
         layout::ENGINE,
-        1,
         header::NidEngine::WIDTH,
         room,
-        n1,
+        engine,
     );
-    let n3 = copy(
+    let counter = moment(packet, layout::DATE, room, stamp);
+    short(
         packet,
-        stop,
-        layout::DATE,
-        2,
-        header::TTimestampDate::WIDTH,
-        room,
-        n2,
-    );
-    let n4 = copy(
-        packet,
-        stop,
-        layout::SECONDS,
-        3,
-        header::TTimestampSeconds::WIDTH,
-        room,
-        n3,
-    );
-    copy(
-        packet,
-        stop,
         layout::COUNTER,
-        4,
         header::NPacketCounter::WIDTH,
         room,
-        n4,
+        counter,
     )
 }
 
-// The body's fields before L_SP.
-pub fn identity(packet: &[u8], stop: usize, room: &mut [u8], n: usize) -> usize
-    requires { ⌜ PartWritable (runs 5 4) (now packet) stop 120 (filled (now room) n) ⌝ }
-    ensures { λ r. ⌜ Wrote (runs 5 4) (now (packet .entry)) stop 120 (filled (now (room .entry)) n) 178 (filled (now (room .exit)) r) ⌝ }
+// Writes NID_C, NID_SP and the two versions from the byte `n` of `room` on; returns the byte after them.
+pub fn identity(packet: &[u8], room: &mut [u8], n: usize) -> usize
+    requires { ⌜ Row (now packet) 120 identityWidths (filled (now room) n) ⌝ }
+    ensures { λ r. ⌜ filled (now (room .exit)) r ≡ copied (now (packet .entry)) 120 identityWidths (filled (now (room .entry)) n) ⌝ }
 {
-    let n1 = copy(packet, stop, layout::COUNTRY, 5, body::NidC::WIDTH, room, n);
-    let n2 = copy(
-        packet,
-        stop,
-        layout::IDENTITY,
-        6,
-        body::NidSp::WIDTH,
-        room,
-        n1,
-    );
-    let n3 = copy(
-        packet,
-        stop,
-        layout::MAJOR,
-        7,
-        body::MSpVersion::WIDTH,
-        room,
-        n2,
-    );
-    copy(
-        packet,
-        stop,
-        layout::MINOR,
-        8,
-        body::MSpVersion::WIDTH,
-        room,
-        n3,
-    )
+    let segment = short(packet, layout::COUNTRY, body::NidC::WIDTH, room, n);
+    let major = number(packet, layout::IDENTITY, body::NidSp::WIDTH, room, segment);
+    let minor = short(packet, layout::MAJOR, body::MSpVersion::WIDTH, room, major);
+    short(packet, layout::MINOR, body::MSpVersion::WIDTH, room, minor)
 }
 
-// The body's fields between L_SP and the speed profile.
-pub fn offsets(packet: &[u8], stop: usize, room: &mut [u8], n: usize) -> usize
-    requires { ⌜ PartWritable (runs 10 3) (now packet) stop 202 (filled (now room) n) ⌝ }
-    ensures { λ r. ⌜ Wrote (runs 10 3) (now (packet .entry)) stop 202 (filled (now (room .entry)) n) 253 (filled (now (room .exit)) r) ⌝ }
+// Writes D_EoA_Offset, Q_UTC_Offset and M_SP_Altitude from the byte `n` of `room` on; returns the byte after them.
+pub fn offsets(packet: &[u8], room: &mut [u8], n: usize) -> usize
+    requires { ⌜ Row (now packet) 202 offsetWidths (filled (now room) n) ⌝ }
+    ensures { λ r. ⌜ filled (now (room .exit)) r ≡ copied (now (packet .entry)) 202 offsetWidths (filled (now (room .entry)) n) ⌝ }
 {
-    let n1 = copy(
+    let clock = number(packet, layout::OFFSET, body::DEoAOffset::WIDTH, room, n);
+    let altitude = short(packet, layout::CLOCK, body::QUtcOffset::WIDTH, room, clock);
+    number(
         packet,
-        stop,
-        layout::OFFSET,
-        10,
-        body::DEoAOffset::WIDTH,
-        room,
-        n,
-    );
-    let n2 = copy(
-        packet,
-        stop,
-        layout::CLOCK,
-        11,
-        body::QUtcOffset::WIDTH,
-        room,
-        n1,
-    );
-    copy(
-        packet,
-        stop,
         layout::ALTITUDE,
-        12,
         body::MSpAltitude::WIDTH,
         room,
-        n2,
+        altitude,
     )
 }

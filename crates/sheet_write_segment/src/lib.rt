@@ -1,5 +1,8 @@
-// The sheet of an accepted packet, written part by part into a room that holds all of it. What was accepted is not judged again.
+// The sheet of an accepted segment's packet, written part by part into a room that holds all of it. What was accepted is not judged again.
+// Parameters: `packet` is the packet, `stop` the bit where its fields end, `at` the bit of the part, `room` the room, `n` the byte of `room` for the part's first number.
 pub mod elements;
+pub mod head;
+pub mod row;
 
 ghost use mathlib.Core.Path.{_≡_};
 ghost use Prim.Native.Nat.{_≤_};
@@ -8,11 +11,8 @@ ghost use lib.Seq.{sets};
 ghost use Rattle.grammar.specs.segment.Segment as segment;
 ghost use Rattle.grammar.specs.internal.segment.Parts.{startOf, threeLists};
 ghost use Rattle.grammar.specs.declared.link.Tree.the-variants.{Segment};
-ghost use Rattle.convert.specs.internal.Writers.{fieldsOf, FieldsWritable};
+ghost use Rattle.grammar.specs.internal.link.Trees.{fieldsOf, FieldsWritable};
 ghost use Rattle.sheet_write_segment.specs.internal.elements.Writing.{filled, PartWritable, Wrote};
-
-mod head;
-
 use crate::elements::SheetSpot;
 use crate::elements::element;
 use grammar::segment::Part;
@@ -20,7 +20,7 @@ use grammar::segment::WIRE_CHANGES;
 use grammar::segment::layout;
 use kinds::body;
 
-// The changes of a part: each a location that rises, and an element. The end of the segment is for the contract alone.
+// Writes the `count` changes of a part, each a location and an element, from the byte `n` of `room` on. `stop`, `lsp` and `last` are for the contract and the proof alone.
 fn changes(
     part: Part,
     packet: &[u8],
@@ -50,7 +50,7 @@ fn changes(
     SheetSpot { at: to, n: m }
 }
 
-// A part: its first element, the count of its changes, and the changes.
+// Writes a part from the byte `n` of `room` on: its first element, the count of its changes, and the changes. `limit` is for the contract alone.
 fn list(
     part: Part,
     packet: &[u8],
@@ -68,10 +68,10 @@ fn list(
     let to = first.at;
     let count = bits::read_window(packet, to, body::NIter::WIDTH);
     let m = numbers::write::put_short(room, first.n, count);
-    changes(part, packet, stop, to + 5, lsp, count, room, m)
+    changes(part, packet, stop, to + layout::COUNT, lsp, count, room, m)
 }
 
-// The three parts that have changes.
+// Writes the speed profile, the rated voltage and the current limitation from the byte `n` of `room` on.
 fn lists(packet: &[u8], stop: usize, at: usize, lsp: u32, room: &mut [u8], n: usize) -> SheetSpot
     requires { ⌜ PartWritable (threeLists lsp) (now packet) stop at (filled (now room) n) ⌝ }
     ensures { λ r. ⌜ Wrote (threeLists lsp) (now (packet .entry)) stop at (filled (now (room .entry)) n) (r .at) (filled (now (room .exit)) (r .n)) ⌝ }
@@ -108,15 +108,15 @@ fn lists(packet: &[u8], stop: usize, at: usize, lsp: u32, room: &mut [u8], n: us
     )
 }
 
-// Writes the numbers of a packet's fields, which end at the bit stop, from the byte start of the room on.
+// Writes the numbers of a segment's fields, which end at the bit `stop` of `packet`, from the byte `start` of `room` on.
 pub fn write_fields(packet: &[u8], stop: usize, room: &mut [u8], start: usize)
     requires { ⌜ FieldsWritable Segment (now packet) stop (now room) start × (8 ≤ length (now packet)) ⌝ }
     ensures { λ _. ⌜ now (room .exit) ≡ sets (now (room .entry)) start (fieldsOf Segment (now (packet .entry)) stop) ⌝ }
 {
-    let n = head::header(packet, stop, room, start);
-    let m = head::identity(packet, stop, room, n);
+    let n = head::header(packet, room, start);
+    let m = head::identity(packet, room, n);
     let lsp = bits::read_window(packet, layout::LENGTH, body::LSp::WIDTH);
     let to = numbers::write::put_number(room, m, lsp);
-    let first = head::offsets(packet, stop, room, to);
+    let first = head::offsets(packet, room, to);
     lists(packet, stop, layout::PROFILE, lsp, room, first);
 }

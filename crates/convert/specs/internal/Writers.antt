@@ -2,12 +2,11 @@
 use mathlib.Core.Path.{_≡_}
 use mathlib.Core.Bool.{Bool}
 use mathlib.Core.List.{List}
-use Prim.Native.Nat.{ℕ, _+_, _≤_}
+use Prim.Native.Nat.{ℕ, _≤_}
 use lib.ListN.{length, take, drop}
 use Rattle.bits.specs.Bits.{bytesOfBits}
 use Rattle.format.specs.Format.{Read, accepted, read, write, valuesOf}
 use Rattle.format.specs.Media.{packet, sheet}
-use Rattle.format.specs.internal.Places.{bitsBetween, Placed}
 use Rattle.grammar.specs.segment.Frame.{frame}
 use Rattle.grammar.specs.segment.Judgement.{afterNumber}
 use Rattle.grammar.specs.declared.link.Tree.{Tree}
@@ -35,15 +34,6 @@ sheetOf t s = toEitherSheet (valuesOf (treePacket t s))
 pub record SheetWritable (t : Tree) (s room : List ℕ) : Type 0 where
   pub accepts : treePacket t s ≡ accepted (valuesOf (treePacket t s))
   pub holds : length (sheetOf t s) ≤ length room
-
--- the numbers of the fields after the packet number, where the fields end at the bit stop
-abbrev pub fieldsOf : Tree → List ℕ → ℕ → List ℕ
-fieldsOf t s stop = write sheet (treeFields t) (valuesOf (read packet (treeFields t) 24 (bitsBetween s 24 stop)))
-
-pub record FieldsWritable (t : Tree) (s : List ℕ) (stop : ℕ) (room : List ℕ) (start : ℕ) : Type 0 where
-  pub place : Placed s 24 stop
-  pub accepts : read packet (treeFields t) 24 (bitsBetween s 24 stop) ≡ accepted (valuesOf (read packet (treeFields t) 24 (bitsBetween s 24 stop)))
-  pub holds : start + length (fieldsOf t s stop) ≤ length room
 
 -- the bits of a sheet's fields after the packet number
 abbrev pub bitsOfSheet : Tree → List ℕ → List Bool

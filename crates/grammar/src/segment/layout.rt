@@ -73,3 +73,9 @@ pub const WIRE: usize = WIRE_WIDTH as usize;
 
 // Bits of D_LOCATION of a change.
 pub const LOCATION: usize = body::DLocation::WIDTH as usize;
+
+// Place of the body, in bits from the packet's start.
+pub const BODY: usize = COUNTRY;
+
+// Bits of N_ITER.
+pub const COUNT: usize = body::NIter::WIDTH as usize;

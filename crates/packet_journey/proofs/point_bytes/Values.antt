@@ -10,7 +10,7 @@ use Rattle.numbers.specs.Numbers.{groupsIn}
 use Rattle.fields.proofs.size.Bytes.{one-byte}
 use Rattle.packet_fields.specs.internal.row.Values.{rowBytes}
 use Rattle.packet_journey.specs.internal.point_bytes.Windows.{latestWidths, latestMost, marksWidths, marksMost, doorsWidths, leavingWidths, eightMost}
-use Rattle.packet_journey.proofs.point_bytes.Held.{all-bytes, no-bytes, all-zero}
+use Rattle.packet_fields.proofs.row.Held.{all-bytes, no-bytes, all-zero}
 
 module _ (t : ℕ) where
   -- ---- the latest arrival

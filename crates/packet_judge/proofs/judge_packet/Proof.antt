@@ -1,4 +1,4 @@
--- `judge_packet::judge_packet` meets its contract.
+-- `packet_judge::judge_packet` meets its contract.
 use denote.Ref.{now}
 use native.Mathlib.Omega.{arith}
 use borrow.Author.Needs.{needs}

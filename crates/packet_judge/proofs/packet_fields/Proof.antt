@@ -1,4 +1,4 @@
--- `judge_packet::packet_fields` meets its contract.
+-- `packet_judge::packet_fields` meets its contract.
 use native.Mathlib.Omega.{arith}
 use denote.Ref.{now}
 use Rattle.packet_judge.proofs.Verdicts.{first, refused-whole, accepted-whole, left-whole}

@@ -1,4 +1,4 @@
--- `judge_packet::tree_frame` meets its contract.
+-- `packet_judge::tree_frame` meets its contract.
 use borrow.Author.Needs.{needs}
 use Rattle.packet_judge.proofs.tree_frame.Statement.{statement}
 use Rattle.packet_judge.proofs.tree_frame.Tie as tie

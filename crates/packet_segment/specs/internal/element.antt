@@ -1,2 +1,2 @@
--- What the code of element needs and no promise names.
+-- Definitions that contracts of `element` use; no promise names them.
 pub mod Profile

@@ -1,2 +1,2 @@
--- What the code of head needs and no promise names.
+-- Definitions that contracts of `head` use; no promise names them.
 pub mod Head

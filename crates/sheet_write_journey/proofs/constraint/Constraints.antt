@@ -17,9 +17,9 @@ use Rattle.grammar.specs.journey.Journey.{stretch, restriction, temporaryConstr
 use Rattle.grammar.proofs.journey.Tree.{by-range, by-type, end-width, level-width}
 use Rattle.sheet_write_segment.specs.internal.elements.Writing.{putting, PartWritable, Wrote}
 use Rattle.sheet_write_segment.proofs.elements.Writing.{Puts, Along, along-here, along-none, along-put, field-here}
-use Rattle.sheet_write_journey.specs.internal.row.Row.{putAll, FitAll, none, more, Row, copied}
-use Rattle.sheet_write_journey.proofs.row.Rows.{row-first, row-after, row-both}
-use Rattle.sheet_write_journey.proofs.row.Tree.{Rowing, rowing-none, rowing-field, rowing-here}
+use Rattle.sheet_write_segment.specs.internal.row.Row.{putAll, FitAll, none, more, Row, copied}
+use Rattle.sheet_write_segment.proofs.row.Rows.{row-first, row-after, row-both}
+use Rattle.sheet_write_segment.proofs.row.Tree.{Rowing, rowing-none, rowing-field, rowing-here}
 use Rattle.sheet_write_journey.specs.internal.constraint.Numbers.{startWidths, stretchWidths, restrictionAt, RestrictionFits}
 
 -- ---- the numbers of the kinds that depend on the range or the type

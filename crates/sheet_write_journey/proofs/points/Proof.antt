@@ -1,4 +1,4 @@
--- `write_journey_sheet::points` meets its contract.
+-- `sheet_write_journey::points` meets its contract.
 use mathlib.Core.Path.{_≡_, refl}
 use Prim.Native.Nat.{_+_, _*_}
 use Rattle.format.specs.Format.{times}

@@ -1,4 +1,4 @@
--- `write_journey_sheet::segment` meets its contract.
+-- `sheet_write_journey::segment` meets its contract.
 use Rattle.sheet_write_journey.proofs.Lists.{start-row, points-writable, count-read, count-fits, constraints-writable, segment-wrote}
 use native.Mathlib.Omega.{arith}
 use borrow.Author.Needs.{needs}

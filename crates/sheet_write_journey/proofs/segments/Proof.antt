@@ -1,4 +1,4 @@
--- `write_journey_sheet::segments` meets its contract.
+-- `sheet_write_journey::segments` meets its contract.
 use Rattle.format.specs.Format.{times}
 use Rattle.grammar.specs.journey.Journey.{journeySegment, constraints}
 use Rattle.sheet_write_segment.specs.internal.elements.Writing.{filled}

@@ -1,2 +1,2 @@
--- What the code of constraint needs and no promise names.
+-- Definitions that contracts of `constraint` use; no promise names them.
 pub mod Numbers

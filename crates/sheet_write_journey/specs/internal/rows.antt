@@ -1,2 +1,2 @@
--- What the code of rows needs and no promise names.
+-- Definitions that contracts of `rows` use; no promise names them.
 pub mod Widths

@@ -1,18 +1,28 @@
--- `write_sheet::changes` meets its contract.
+-- `sheet_write_segment::changes` meets its contract.
 use denote.Ref.{now}
 use mathlib.Core.Path.{refl}
-use Prim.Native.Nat.{_+_, _-_}
+use mathlib.Core.List.{List}
+use Prim.Native.Nat.{ℕ, _+_, _-_, _<_}
 use native.Mathlib.Omega.{arith}
 use lib.Dec.{lit<, lit≤}
+use Rattle.numbers.specs.internal.Groups.{Put}
 use Rattle.kinds.specs.Kinds.{dLocation}
+use Rattle.format.specs.Format.{Format, field}
 use Rattle.grammar.specs.segment.Segment.{changes}
 use Rattle.grammar.specs.internal.segment.Parts.{startOf}
-use Rattle.grammar.proofs.segment.Parts.{changes-none}
+use Rattle.grammar.proofs.segment.Parts.{changes-more, changes-none}
 use Rattle.sheet_write_segment.specs.internal.elements.Writing.{filled}
 use Rattle.sheet_write_segment.proofs.elements.Writing.{Along, along-all, along-as, along-here, along-put, along-next, along-on, along-none, field-here, field-read}
-use Rattle.sheet_write_segment.proofs.Straight.{changed, change-next}
 use Rattle.sheet_write_segment.proofs.changes.Statement.{statement}
 use Rattle.sheet_write_segment.proofs.changes.Tie as tie
+
+-- one more change: its location, and an element
+abbrev changed : (Format → Format) → ℕ → ℕ → ℕ → Format → Format
+changed start lsp n x f = start (changes start lsp x n f)
+
+change-next : (s : List ℕ) (stop : ℕ) (start : Format → Format) (lsp : ℕ) {p : Format → Format} {at to : ℕ} {x y : Put} (last n : ℕ) → 0 < n
+    → Along s stop p (changes start lsp last n) at x to y → Along s stop p (λ f. field (dLocation last lsp) λ v. changed start lsp (n - 1) v f) at x to y
+change-next s stop start lsp last n h l = along-as s stop (λ f. field (dLocation last lsp) λ v. changed start lsp (n - 1) v f) (changes-more start lsp last n h) l
 
 abbrev Inv-loop : tie.InvT-loop
 Inv-loop part packet stop at lsp count room₀ n to₀ m₀ last₀ left₀ room to m last left =

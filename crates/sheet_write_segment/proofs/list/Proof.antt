@@ -1,4 +1,4 @@
--- `write_sheet::list` meets its contract.
+-- `sheet_write_segment::list` meets its contract.
 use denote.Ref.{now}
 use mathlib.Core.Path.{refl}
 use Prim.Native.Nat.{_+_}

@@ -1,4 +1,4 @@
--- `write_sheet::lists` meets its contract.
+-- `sheet_write_segment::lists` meets its contract.
 use denote.Ref.{now}
 use borrow.Author.Needs.{needs}
 use Rattle.grammar.specs.segment.Segment.{part, profile, voltage, current, wireChanges}

@@ -1,20 +1,22 @@
--- `write_sheet::write_fields` meets its contract.
+-- `sheet_write_segment::write_fields` meets its contract.
 use denote.Ref.{now}
 use borrow.Author.Needs.{needs}
+use Rattle.grammar.specs.declared.link.Tree.the-variants.{Segment}
+use Rattle.grammar.specs.internal.segment.Parts.{segmentRows}
 use Rattle.sheet_write_segment.specs.internal.elements.Writing.{filled, PartWritable}
-use Rattle.sheet_write_segment.proofs.Sheet.{whole, all-writable, all-held, header-writable, identity-writable, length-read, length-fits, offsets-writable, lists-writable, all-wrote}
+use Rattle.sheet_write_segment.proofs.Sheet.{whole-part, fields-writable, fields-held, header-row, identity-row, length-read, length-fits, offsets-row, lists-writable, all-wrote}
 use Rattle.sheet_write_segment.proofs.write_fields.Statement.{statement}
 use Rattle.sheet_write_segment.proofs.write_fields.Tie as tie
 
 -- all of the fields may be written
-writable : (c : tie.Start) → PartWritable whole (now (c .args .packet)) (c .args .stop) 24 (filled (now (c .args .room)) (c .args .start))
-writable c = all-writable (now (c .args .packet)) (c .args .stop) (now (c .args .room)) (c .args .start) (c .pre .0) (c .pre .1)
+writable : (c : tie.Start) → PartWritable segmentRows (now (c .args .packet)) (c .args .stop) 24 (filled (now (c .args .room)) (c .args .start))
+writable c = fields-writable Segment segmentRows whole-part (now (c .args .packet)) (c .args .stop) (now (c .args .room)) (c .args .start) (c .pre)
 
 header-requires : tie.Need-header-requires
-header-requires c κs = header-writable (writable (c .before .before .before))
+header-requires c κs = header-row (writable (c .before .before .before))
 
 identity-requires : tie.Need-identity-requires
-identity-requires c κs = identity-writable (writable (c .before .before .before .before .before .before .before)) (c .before .before .before .header .ensures)
+identity-requires c κs = identity-row (writable (c .before .before .before .before .before .before .before)) (c .before .before .before .header .ensures)
 
 read-window-requires : tie.Need-read-window-requires
 read-window-requires c κs = length-read (writable (c .before .before .before .before .before .before .before .before .before .before)) (c .before .before .before .before .before .before .header .ensures) (c .before .before .identity .ensures)
@@ -25,7 +27,7 @@ put-number-requires c κs = length-fits (writable (c .before .before .before .be
 offsets-requires : tie.Need-offsets-requires
 offsets-requires c κs =
     let b = c .before .before .before .before .before .before .before .before in
-    offsets-writable (writable (b .before .before .before .before .before .before .before .before)) (b .before .before .before .before .header .ensures) (b .identity .ensures) (c .before .before .before .before .before .read-window .ensures) (c .before .before .before .put-number .ensures)
+    offsets-row (writable (b .before .before .before .before .before .before .before .before)) (b .before .before .before .before .header .ensures) (b .identity .ensures) (c .before .before .before .before .before .read-window .ensures) (c .before .before .before .put-number .ensures)
 
 lists-requires : tie.Need-lists-requires
 lists-requires c κs =
@@ -38,7 +40,7 @@ returns c =
     let e = c .before .before .before .before .before .before .before .before .before .before in
     let g = e .before .before .before .before .before in
     let b = g .before .before .before .before .before .before .before .before in
-    all-held (now (b .args .packet)) (b .args .stop) (now (b .args .room)) (b .args .start) (b .pre .0)
+    fields-held Segment segmentRows whole-part (now (b .args .packet)) (b .args .stop) (now (b .args .room)) (b .args .start) (b .pre)
     (all-wrote (writable b) (g .before .before .before .before .header .ensures) (g .identity .ensures) (e .before .before .read-window .ensures) (e .put-number .ensures) (c .before .before .before .before .before .before .offsets .ensures) (c .before .before .lists .ensures))
 
 pub write-fields-spec : {M : Type 1} → statement M

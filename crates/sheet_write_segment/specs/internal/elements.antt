@@ -1,2 +1,2 @@
--- What the code of elements needs and no promise names.
+-- Definitions that contracts of `elements` use; no promise names them.
 pub mod Writing

@@ -1,7 +1,8 @@
--- `judge_head::identity_bytes` meets its contract.
+-- `packet_segment::head::identity_bytes` meets its contract.
 use lib.Dec.{lit≤}
+use native.Mathlib.Omega.{arith}
 use denote.Ref.{now}
-use Rattle.packet_segment.proofs.head.Places.{identity-on, few-bits}
+use Rattle.packet_segment.proofs.head.Places.{few-bits}
 use borrow.Author.Needs.{needs}
 use Rattle.packet_segment.proofs.head.identity_bytes.Statement.{statement}
 use Rattle.packet_segment.proofs.head.identity_bytes.Tie as tie
@@ -17,9 +18,7 @@ short-requires-3 c κs = few-bits (now (c .before .before .before .before .befor
 
 returns : tie.Need-returns
 returns c =
-    let b = c .before .before .before .before in
-    identity-on (now (b .before .before .before .before .before .args .s)) (rw (b .before .before .before .read-window .ensures) at (b .before .before .short .ensures)) (rw (b .before .read-window2 .ensures) at (b .groups .ensures))
-    (rw (c .before .before .before .read-window3 .ensures) at (c .before .before .short2 .ensures)) (rw (c .before .read-window4 .ensures) at (c .short3 .ensures))
+    omega (arith, rw (c .before .before .before .before .before .before .before .read-window .ensures) at (c .before .before .before .before .before .before .short .ensures), rw (c .before .before .before .before .before .read-window2 .ensures) at (c .before .before .before .before .groups .ensures), rw (c .before .before .before .read-window3 .ensures) at (c .before .before .short2 .ensures), rw (c .before .read-window4 .ensures) at (c .short3 .ensures))
 
 pub identity-bytes-spec : {M : Type 1} → statement M
 identity-bytes-spec =

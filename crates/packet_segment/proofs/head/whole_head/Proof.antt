@@ -1,4 +1,4 @@
--- `judge_head::whole_head` meets its contract.
+-- `packet_segment::head::whole_head` meets its contract.
 use native.Mathlib.Omega.{arith}
 use denote.Ref.{now}
 use Rattle.packet_segment.proofs.head.Places.{head-on}
@@ -6,27 +6,24 @@ use borrow.Author.Needs.{needs}
 use Rattle.packet_segment.proofs.head.whole_head.Statement.{statement}
 use Rattle.packet_segment.proofs.head.whole_head.Tie as tie
 
-returns-4 : tie.Need-returns-4
-returns-4 c =
-    let e = c .before .before .before in
-    let b = e .before .before .before .before .before .before in
-    let h = b .pre in
-    let d = e .before .before .before in
-    head-on (now (b .args .s)) (h .0) (h .2) _ _ _ (d .before .header-bytes .ensures (d .if1 .left)) (c .before .identity-bytes .ensures)
-    (e .before .before .read-window .ensures) (e .before .if2 .left) (c .groups .ensures)
-    (e .offset-bytes .ensures (c .before .before .if3 .left))
-
-add-t9 : tie.Need-add-t9
-add-t9 c = omega (arith, returns-4 c .stands .counted)
-
-add-t10 : tie.Need-add-t10
-add-t10 c = omega (arith, returns-4 c .stands .counted)
-
-add-t12 : tie.Need-add-t12
-add-t12 c = omega (arith, returns-4 c .stands .counted)
+returns-5 : tie.Need-returns-5
+returns-5 c =
+    let b = c .before .before .before .before .before .before .before .before .before .before .before .before in
+    let e = c .before .before .before .before .before .before .before in
+    head-on (now (b .args .s)) (b .pre .0) (b .pre .2) (rw (e .before .before .before .read-window .ensures) at (e .before .before .operational .ensures)) (e .before .if1 .left) (e .header-bytes .ensures) (c .before .before .before .before .before .before .if2 .left)
+    (c .before .identity-bytes .ensures) (c .before .before .before .before .before .read-window2 .ensures) (c .before .before .before .before .if3 .left) (c .groups .ensures) (c .before .before .before .offset-bytes .ensures) (c .before .before .if4 .left)
 
 add-t13 : tie.Need-add-t13
-add-t13 c = omega (arith, returns-4 c .stands .counted)
+add-t13 c = omega (arith, returns-5 c .stands .counted)
+
+add-t14 : tie.Need-add-t14
+add-t14 c = omega (arith, returns-5 c .stands .counted)
+
+add-t16 : tie.Need-add-t16
+add-t16 c = omega (arith, returns-5 c .stands .counted)
+
+add-t17 : tie.Need-add-t17
+add-t17 c = omega (arith, returns-5 c .stands .counted)
 
 pub whole-head-spec : {M : Type 1} → statement M
 whole-head-spec =
@@ -34,8 +31,6 @@ whole-head-spec =
     (tie.spec
     (λ c κs. search needs)
     (λ c κs. search needs)
-    (λ c. search needs)
-    (λ c κs. search needs)
     (λ c κs. search needs)
     (λ c. search needs)
     (λ c κs. search needs)
@@ -43,9 +38,17 @@ whole-head-spec =
     (λ c. search needs)
     (λ c κs. search needs)
     (λ c κs. search needs)
-    add-t9
-    add-t10
     (λ c. search needs)
-    add-t12
+    (λ c κs. search needs)
+    (λ c κs. search needs)
+    (λ c. search needs)
+    (λ c κs. search needs)
+    (λ c κs. search needs)
+    (λ c. search needs)
+    (λ c. search needs)
     add-t13
-    returns-4)
+    add-t14
+    (λ c. search needs)
+    add-t16
+    add-t17
+    returns-5)

@@ -1,4 +1,4 @@
--- `write_constraint::constraint` meets its contract.
+-- `sheet_write_journey::constraint::constraint` meets its contract.
 use lib.Dec.{lit<, lit≤}
 use Rattle.sheet_write_journey.proofs.constraint.Constraints.{start-row, end-row, restriction-here, constraint-wrote}
 use borrow.Author.Needs.{needs}

@@ -1,8 +1,8 @@
--- `constraint::restriction` meets its contract.
+-- `sheet_write_journey::constraint::restriction` meets its contract.
 use mathlib.Core.Path.{_∙_}
 use lib.Dec.{lit<}
 use Rattle.bits.proofs.Fields.{window-small}
-use Rattle.sheet_write_journey.proofs.row.Rows.{all-more, all-one, more-fit, one-fits}
+use Rattle.sheet_write_segment.proofs.row.Rows.{all-more, all-one, more-fit, one-fits}
 use Rattle.sheet_write_journey.proofs.constraint.Constraints.{restriction-fits, restriction-put}
 use native.Mathlib.Omega.{arith}
 use borrow.Author.Needs.{needs}

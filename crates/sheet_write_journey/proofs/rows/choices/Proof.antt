@@ -1,6 +1,6 @@
--- `write_journey_rows::choices` meets its contract.
+-- `sheet_write_journey::rows::choices` meets its contract.
 use Rattle.bits.proofs.Fields.{window-small}
-use Rattle.sheet_write_journey.proofs.row.Rows.{all-both, all-more, fit-after, fit-first, more-fit, one-fits, window-copied, window-fits}
+use Rattle.sheet_write_segment.proofs.row.Rows.{all-both, all-more, fit-after, fit-first, more-fit, one-fits, window-copied, window-fits}
 use Rattle.sheet_write_journey.specs.internal.rows.Widths.{choiceWidths}
 use native.Mathlib.Omega.{arith}
 use borrow.Author.Needs.{needs}

@@ -1,45 +1,19 @@
--- `write_journey_rows::head` meets its contract.
+-- `sheet_write_journey::rows::head` meets its contract.
 use mathlib.Core.Path.{refl}
-use mathlib.Core.List.{[], _∷_}
-use lib.Dec.{lit<, lit≤}
-use Rattle.sheet_write_journey.proofs.row.Rows.{row-first, row-after, row-both}
+use Rattle.sheet_write_segment.specs.internal.head.Widths.{headerFields}
+use Rattle.sheet_write_segment.proofs.row.Rows.{row-first, row-after, row-both}
 use borrow.Author.Needs.{needs}
 use Rattle.sheet_write_journey.proofs.rows.head.Statement.{statement}
 use Rattle.sheet_write_journey.proofs.rows.head.Tie as tie
 
-number-requires : tie.Need-number-requires
-number-requires c κs = (row-first _ _ (32 ∷ []) _ _ (c .before .before .before .pre), lit< tt, lit≤ tt)
-
-number-requires-2 : tie.Need-number-requires-2
-number-requires-2 c κs =
-    let r1 = row-after _ _ (32 ∷ []) _ _ (56) refl (c .before .before .before .number .ensures) (c .before .before .before .before .before .before .before .pre) in
-    (row-first _ _ (24 ∷ []) _ _ r1, lit< tt, lit≤ tt)
-
-moment-requires : tie.Need-moment-requires
-moment-requires c κs =
-    let r1 = row-after _ _ (32 ∷ []) _ _ (56) refl (c .before .before .before .before .before .before .before .number .ensures) (c .before .before .before .before .before .before .before .before .before .before .before .pre) in
-    let r2 = row-after _ _ (24 ∷ []) _ _ (80) refl (c .before .before .before .number2 .ensures) r1 in
-    row-first _ _ (15 ∷ 17 ∷ []) _ _ r2
+header-requires : tie.Need-header-requires
+header-requires c κs = row-first _ _ headerFields _ _ (c .before .before .before .pre)
 
 counts-requires : tie.Need-counts-requires
-counts-requires c κs =
-    let b = c .before .before .before .before .before .before .before in
-    let r1 = row-after _ _ (32 ∷ []) _ _ (56) refl (b .before .before .before .before .number .ensures) (b .before .before .before .before .before .before .before .before .pre) in
-    let r2 = row-after _ _ (24 ∷ []) _ _ (80) refl (b .number2 .ensures) r1 in
-    row-after _ _ (15 ∷ 17 ∷ []) _ _ (112) refl (c .before .before .before .moment .ensures) r2
+counts-requires c κs = row-after _ _ headerFields _ _ 120 refl (c .before .before .before .header .ensures) (c .before .before .before .before .before .before .before .pre)
 
 returns : tie.Need-returns
-returns c =
-    let b = c .before .before .before .before .before .before in
-    (row-both _ _ (32 ∷ []) _ _ (56) refl (b .before .before .before .before .before .before .before .before .number .ensures) (row-both _ _ (24 ∷ []) _ _ (80) refl (b .before .before .before .before .number2 .ensures) (row-both _ _ (15 ∷ 17 ∷ []) _ _ (112) refl (b .moment .ensures) (c .before .before .counts .ensures .0))), c .before .before .counts .ensures .1)
+returns c = (row-both _ _ headerFields _ _ 120 refl (c .before .before .before .before .before .before .header .ensures) (c .before .before .counts .ensures .0), c .before .before .counts .ensures .1)
 
 pub head-spec : {M : Type 1} → statement M
-head-spec =
-    tie.close
-    (tie.spec
-    number-requires
-    number-requires-2
-    moment-requires
-    counts-requires
-    (λ c. search needs)
-    returns)
+head-spec = tie.close (tie.spec header-requires counts-requires (λ c. search needs) returns)

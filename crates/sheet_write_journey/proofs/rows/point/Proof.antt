@@ -1,9 +1,9 @@
--- `write_journey_rows::point` meets its contract.
+-- `sheet_write_journey::rows::point` meets its contract.
 use mathlib.Core.Path.{refl}
 use mathlib.Core.List.{[], _∷_}
 use Prim.Native.Nat.{_+_}
 use lib.Dec.{lit<, lit≤}
-use Rattle.sheet_write_journey.proofs.row.Rows.{row-first, row-after, row-both}
+use Rattle.sheet_write_segment.proofs.row.Rows.{row-first, row-after, row-both}
 use Rattle.sheet_write_journey.specs.internal.rows.Widths.{choiceWidths}
 use native.Mathlib.Omega.{arith}
 use borrow.Author.Needs.{needs}

@@ -1,4 +1,4 @@
--- The sheet of an accepted packet written into a room, part by part, as the contracts say it. No promise names it.
+-- The sheet of an accepted packet written into a room, part by part. Used by contracts of the code; no promise names these.
 use mathlib.Core.Path.{_≡_}
 use mathlib.Core.List.{List}
 use Prim.Native.Nat.{ℕ, _*_, _^_, _≤_, _<_}
@@ -11,11 +11,11 @@ use Rattle.format.specs.internal.Pass.{Task}
 use Rattle.format.specs.internal.Ways.{Way, passing, Went, Over, Ahead}
 use Rattle.format.specs.internal.Tasks.{Told}
 
--- a number put at the place that a room is written up to
+-- the room p with the number v put at the byte up to which p is written
 abbrev pub putting : Put → ℕ → Put
 putting p v = putNumber (p .bytes) (p .next) v
 
--- each value's number is put after those before it
+-- the task of the pass: each field's number is put after the numbers before it
 abbrev pub writing : Task Put (Told Put)
 writing = record { on = λ k i p. putting p (i .sheet); answer = Told.told; refusal = Told.not }
 
@@ -29,7 +29,7 @@ pub record Reads (s : List ℕ) (stop at : ℕ) : Type 0 where
 abbrev pub writer : List ℕ → ℕ → Way Put (Told Put)
 writer s stop = passing packet writing (λ at. bitsBetween s at stop) (λ at p. Reads s stop at)
 
--- all is written, and nothing past the room's end
+-- all of the numbers are written, none of them past the room's end
 abbrev pub Fits : Told Put → Type 0
 Fits (Told.told p) = p .next ≤ length (p .bytes)
 Fits (Told.not r at) = ⊥

@@ -1,3 +1,0 @@
--- The laws of the module row.
-pub mod Rows
-pub mod Tree

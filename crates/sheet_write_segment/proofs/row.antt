@@ -1,0 +1,3 @@
+-- Laws of the module `row`.
+pub mod Rows
+pub mod Tree

@@ -1,0 +1,2 @@
+-- Definitions that contracts of `row` use; no promise names them.
+pub mod Row
