@@ -4,13 +4,18 @@ left in target/ too, no word all of them."""
 import re
 import sys
 
+import documents
 import pages
-from sources import CRATES, ROOT, declares, edits, functions, modules, public_functions, replacements, sources
+from sources import CRATES, ROOT, declares, edits, functions, modules, public_functions, quoted, replacements, sources
 
 SECONDS = 120
 SENTENCE = 300
 # what an error says that is of the edit's shape, or of another declaration, and not of a fact
 SHAPES = ("can be named from here", "has no field", "was not admitted")
+
+
+class NotRun(Exception):
+    """Why a test cannot be run here. It counts neither as passed nor as failed."""
 
 
 def contracts():
@@ -51,6 +56,18 @@ def plain():
             for number, line in enumerate(path.read_text().splitlines(), 1):
                 if re.match(r"\s*(//|--)[ -]*(the same\b|.*assumes nothing)", line, re.I):
                     yield f"{path.relative_to(ROOT)}:{number}: {line.strip()}"
+
+
+def quotations():
+    """Every quotation in a comment of the definitions stands word for word in document 01, in document 02 or in a demand of the promises' page."""
+    if not documents.FOLDER.is_dir():
+        raise NotRun("../shared/documents is not there")
+    texts = list(documents.quotable())
+    for crate in CRATES:
+        for path in sources(crate, "specs", ".antt"):
+            for line, quotation in quoted(path):
+                if not documents.stands(quotation, texts):
+                    yield f"{path.relative_to(ROOT)}:{line}: {' '.join(quotation.split())}"
 
 
 def no_axioms():
@@ -221,7 +238,7 @@ def imports():
 
 
 TESTS = {
-    "sources": (contracts, headed, commented, plain, imports, appliable, up_to_date, contracted, cited, promised_files, promised_names, short_sentences, placed),
+    "sources": (contracts, headed, commented, plain, quotations, imports, appliable, up_to_date, contracted, cited, promised_files, promised_names, short_sentences, placed),
     "logs": (no_axioms, quick, refused),
 }
 
@@ -229,7 +246,11 @@ TESTS = {
 def main(words):
     passed = failed = 0
     for test in [test for word in words or TESTS for test in TESTS[word]]:
-        faults = list(test())
+        try:
+            faults = list(test())
+        except NotRun as reason:
+            print(f"not run, as {reason}: {test.__doc__.splitlines()[0]}")
+            continue
         print(f"{'FAILED' if faults else 'ok'}: {test.__doc__.splitlines()[0]}")
         for fault in faults:
             print("   ", fault)

@@ -1,10 +1,15 @@
 """What the tests and the pages read of the sources: crates, functions, declarations, must-fail edits."""
+import itertools
 import pathlib
 import re
 
 ROOT = pathlib.Path(__file__).resolve().parent.parent
 CRATES = [line.split(":")[0].strip() for line in (ROOT / "crates.txt").read_text().splitlines() if ":" in line.split("#")[0]]
 FUNCTION = re.compile(r'^(\s*)(pub )?(extern "C" )?fn (\w+)')
+# what a line of definitions or proofs has after "--", outside strings and without the marks of a heading
+COMMENT = re.compile(r'(?:[^"-]|"[^"]*"|-(?!-))*--[-= ]*(.*)')
+# a quotation mark with which a quotation begins, also inside another one
+OPENING = re.compile(r'(?<![^\s("])"(?=["\w(.-])')
 
 
 def sources(crate, folder, suffix):
@@ -57,6 +62,30 @@ def first_sentence(path):
             break
         said.append(line[3:].strip())
     return re.match(r'.*?[.!?]"?(?=\s+[A-Z"`]|$)|.*', " ".join(said)).group(0)
+
+
+def quotations(text):
+    """Each quotation of a text, after the place where it starts. It may have quotation marks inside; one without its last mark ends with the text."""
+    start = depth = 0
+    for mark in re.finditer('"', text):
+        opens = OPENING.match(text, mark.start())
+        start = mark.end() if opens and not depth else start
+        depth += 1 if opens else -1
+        if depth <= 0:
+            yield start, text[start:mark.start()]
+            depth = 0
+    if depth:
+        yield start, text[start:]
+
+
+def quoted(path):
+    """Each quotation in a comment of a file of definitions or proofs, after the number of the line where it starts. It may go on in the comment's next line."""
+    lines = enumerate(map(COMMENT.match, path.read_text().splitlines()), 1)
+    for comment, block in itertools.groupby(lines, lambda line: line[1] is not None):
+        if comment:
+            block = list(block)
+            text = "\n".join(line.group(1) for _, line in block)
+            yield from ((block[0][0] + text.count("\n", 0, start), quotation) for start, quotation in quotations(text))
 
 
 def comment_above(lines, i):

@@ -17,7 +17,7 @@ centimetres v = pos v -ℤ pos 100000
 abbrev pub altitudeField : List Item → ℕ
 altitudeField l = getD (packetValues l) 13 0
 
--- "It returns its number with length, speed or altitude 0"; "Every refusal carries its place"
+-- "It returns its number with length, speed or altitude 0"; "everything above it passes that on with a place"
 abbrev pub altitudeOfRead : Read → Altitude
 altitudeOfRead (refused r place) = record { refusal = r; place = place; altitude = pos 0 }
 altitudeOfRead (accepted l) = record { refusal = 0; place = 0; altitude = centimetres (altitudeField l) }

@@ -14,7 +14,7 @@ pub record Outcome : Type 0 where
   pub answer : Converted
   pub room : List ℕ
 
--- "It returns its number with length .. 0, and the lent room keeps every byte it had"; "Every refusal carries its place"
+-- "It returns its number with length .. 0, and the lent room keeps every byte it had"; "everything above it passes that on with a place"
 abbrev pub refusedWith : ℕ → ℕ → List ℕ → Outcome
 refusedWith r place room = record { answer = record { refusal = r; place = place; length = 0 }; room = room }
 

@@ -113,7 +113,7 @@ module _ (t : Tree) (s : List ℕ) where
     unfolding treeToSheet
     by-values = ap (λ (r : Read). converted toEitherSheet r room) accepts
 
-    -- "A sheet has at most 5,728 bytes", and a journey's at most 15,226
+    -- a segment's sheet has at most 5,728 bytes, a journey's at most 15,226
     pub sheet-short : Bytes s → n ≤ 15226
     sheet-short ok =
         let v = tree-packet-values t s (valuesOf (treePacket t s)) ok accepts .0 in

@@ -63,7 +63,7 @@ abbrev pub valuesOf : Read → List Item
 valuesOf (accepted l) = l
 valuesOf (refused r place) = []
 
--- what is answered: of the values that were read, or of a refusal, which "carries its place"
+-- what is answered: of the values that were read, or of a refusal "with a place"
 abbrev pub answerOf : {B : Type 0} → (ℕ → ℕ → B) → (List Item → B) → Read → B
 answerOf refusal value (accepted l) = value l
 answerOf refusal value (refused r place) = refusal r place

@@ -9,19 +9,19 @@ use Rattle.grammar.specs.link.Link.{fromEitherPacket}
 use Rattle.convert.specs.Convert.{Outcome, refusedWith, packetToSheet}
 use Rattle.intake.specs.declared.Intake.{Intake}
 
--- "Phase 0 gathers: `length` bytes are in the room"; "all 0: fresh"
+-- the state of phase 0: n bytes are in the room, and the next delivery is written after them; with n = 0 it is the fresh state
 abbrev pub gathering : ℕ → Intake
 gathering n = record { phase = 0; length = n; refusal = 0; place = 0 }
 
--- "Phase 1: the deliveries passed the room's end"
+-- the state of phase 1: the deliveries passed the room's end
 abbrev pub passed : Intake
 passed = record { phase = 1; length = 0; refusal = 0; place = 0 }
 
--- "Phase 2: judged, `refusal` and `place` are the verdict (0 for an accepted packet) and `length` its bytes"
+-- the state of phase 2: a packet of n bytes was judged, with r and `place` as its verdict; both are 0 for an accepted packet
 abbrev pub judgedAs : ℕ → ℕ → ℕ → Intake
 judgedAs n r place = record { phase = 2; length = n; refusal = r; place = place }
 
--- "After a verdict the next packet starts afresh"; "A phase above 2 counts as 0": the bytes that are in the room
+-- "After a verdict the next packet starts afresh": how many bytes are in the room; a phase above 2 counts as phase 0
 abbrev pub gathered : Intake → ℕ
 gathered i = cond (eqb (i .phase) 2) 0 (i .length)
 
@@ -52,7 +52,7 @@ abbrev pub judgedOf : ℕ → Read → Intake
 judgedOf n (refused r place) = judgedAs n r place
 judgedOf n (accepted l) = judgedAs n 0 0
 
--- "8 at completion, before all others, if the deliveries together exceeded the room", with the length 0; "8 is also given where `length` is more than the room has"
+-- "8 at completion, before all others, if the deliveries together exceeded the room", with the length 0; 8 is also given where the state counts more bytes than the room has
 unfoldable pub completed : Intake → List ℕ → Intake
 completed i room =
     cond (eqb (i .phase) 1) (judgedAs 0 8 0) (cond (leb (gathered i) (length room)) (judgedOf (gathered i) (fromEitherPacket (take (gathered i) room))) (judgedAs 0 8 0))

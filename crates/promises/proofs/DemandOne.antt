@@ -82,7 +82,7 @@ module _ (s : List ℕ) (ok : Bytes s) where
   unfolding altitudeOf
   altitude-of-packet-outcome = one-outcome (altitudeOf s) (altitude-ends (segments Brought.packet) (segments-on Brought.packet) s ok altitudeRefusals (altitude-listed s) altitude-most)
 
--- "a room of the largest is never refused as too short", as the C header says, for a segment and for a journey
+-- a room that holds the largest result is never refused as too short: 15,226 bytes for a sheet, 8,207 for a packet
 pub largest-sheet-room : (s room : List ℕ) → Bytes s → 15226 ≤ length room → packetToSheet s room .answer .refusal ≡ 8 → ⊥
 largest-sheet-room s room ok h e =
     never-short toEitherSheet 15226 room h (λ l c. packet-sheet-size l c .1) (packet-not-8 s) (packet-to-sheet-refused s ok room 8 (packetToSheet s room .answer .place) .0 (ap (λ (r : ℕ). (r, packetToSheet s room .answer .place)) e, omega arith))

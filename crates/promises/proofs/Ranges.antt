@@ -38,11 +38,11 @@ use Rattle.promises.proofs.Refused.{among-by, among-member, among-into}
 pub good-sheet : {l : List Item} → SegmentValues Brought.packet l → SegmentValues Brought.sheet l
 good-sheet c = to-sheet (sheetFields-lawful wireChanges (lit≤ tt)) c
 
--- "a sheet of 8 bytes"; a journey's sheet has at most 15,226
+-- a sheet of a segment or a journey has 8 to 15,226 bytes
 pub packet-sheet-size : (l : List Item) → EitherPacketValues l → (8 ≤ length (toEitherSheet l)) × (length (toEitherSheet l) ≤ 15226)
 packet-sheet-size l v = either-sheet-size (either-good-sheet v)
 
--- 17 bytes, "largest packet 8,207 bytes"
+-- a packet of a segment or a journey has 17 to 8,207 bytes
 pub sheet-packet-size : (l : List Item) → EitherSheetValues l → (17 ≤ length (toEitherPacket l)) × (length (toEitherPacket l) ≤ 8207)
 sheet-packet-size l v = either-packet-size v
 

@@ -34,7 +34,7 @@ use Rattle.promises.proofs.Values.{packet-values, sheet-values, lowered
 use Rattle.promises.proofs.Ranges.{good-sheet}
 use Rattle.promises.proofs.Refused.{among-member}
 
--- "A sheet has at most 5,728 bytes", and 23 at least
+-- a segment's sheet has 23 to 5,728 bytes
 pub segment-sheet-size : (l : List Item) → SegmentValues Brought.packet l → (23 ≤ length (toEitherSheet l)) × (length (toEitherSheet l) ≤ 5728)
 unfolding toSheet
 segment-sheet-size l c =

@@ -35,7 +35,7 @@ stands-only : (b : Brought) (l : List Item) (es : List Element) (w : SegmentStan
 stands-only Brought.packet l es w = segment-only InPacket packet-count 0 l es w
 stands-only Brought.sheet l es w = segment-only InSheet sheet-count 0 l es w
 
--- "for values that conform": exactly one list of elements is theirs
+-- exactly one list of elements stands in values that conform
 pub elements-theirs : (b : Brought) (l : List Item) → SegmentValues b l → TheirElements b l
 elements-theirs b l c = record { elements = elementsFrom 0 (profileOf (sheetNumbers l)); stand = stand b c; only = λ es w. stands-only b l es w .1 }
   where
@@ -93,7 +93,7 @@ module _ (medium : ℕ) (s : List ℕ) (t : Train) (x : ℕ) where
       let p = stands-only (c .brought) (c .values) es w in
       rw (permitted-speed-value c, p .0, p .1) (lowest-held t x (sheetNumbers (c .values)) (c .inside))
 
-  -- "a refusal .. returns its number with .. speed .. 0"
+  -- "It returns its number with .. speed .. 0"
   pub permitted-speed-none : (permittedSpeed medium s t x .refusal ≡ 0 → ⊥) → permittedSpeed medium s t x .speed ≡ 0
   permitted-speed-none n =
       either-medium medium

@@ -177,7 +177,7 @@ module _ {judge : List ℕ → Read} {Good : List Item → Type 0} {input : List
           let p = side .only s l ok e in
           record { values = l; good = p .0; whole = p .1; holds = h }
 
--- "a refusal .. returns its number with length, speed or altitude 0"
+-- "It returns its number with length, speed or altitude 0"
 pub altitude-none : (r : Read) → (altitudeOfRead r .refusal ≡ 0 → ⊥) → altitudeOfRead r .altitude ≡ pos 0
 altitude-none (refused q place) n = refl
 altitude-none (accepted l) n = absurd (n refl)

@@ -16,7 +16,7 @@ use Rattle.speed.specs.Speed.{validTrain, segmentLength}
 use Rattle.speed_question.specs.Question.{Brought, packet, sheet, mediumOf, Neither}
 use Rattle.promises.specs.Promised.{OfValues, SegmentOfValues}
 
--- "Every refusal carries its place": `said`, the refusal and the place of an answer, is r at `place`, and r is not 0, which is success
+-- "everything above it passes that on with a place": `said`, the refusal and the place of an answer, is r at `place`, and r is not 0, which is success
 abbrev pub Refuses : ℕ × ℕ → ℕ → ℕ → Type 0
 Refuses said r place = (said ≡ (r, place)) × (1 ≤ r)
 
@@ -48,7 +48,7 @@ pub data SpeedGround (medium : ℕ) (s : List ℕ) (t : Train) (x r place : ℕ)
 abbrev pub PacketToSheetGround : List ℕ → List ℕ → ℕ → ℕ → Type 0
 PacketToSheetGround s room r place = ConversionGround (EitherPacketGround s) EitherPacketValues toEitherPacket toEitherSheet s room r place
 
--- "1 to 8" and "13 is new"
+-- the refusals of packet to sheet: those of a packet, 1 to 7 and 13; "Conversions then judge 8"
 abbrev pub packetToSheetRefusals : List ℕ
 packetToSheetRefusals = 1 ∷ 2 ∷ 3 ∷ 4 ∷ 5 ∷ 6 ∷ 7 ∷ 13 ∷ 8 ∷ []
 
@@ -56,16 +56,16 @@ packetToSheetRefusals = 1 ∷ 2 ∷ 3 ∷ 4 ∷ 5 ∷ 6 ∷ 7 ∷ 13 ∷ 8 ∷ [
 abbrev pub SheetToPacketGround : List ℕ → List ℕ → ℕ → ℕ → Type 0
 SheetToPacketGround s room r place = ConversionGround (EitherSheetGround s) EitherSheetValues toEitherSheet toEitherPacket s room r place
 
--- "2, 4, 5, 8, 9 or 12"
+-- the refusals of sheet to packet: "9 before 2, 4 or 5"; "12 when a sheet's body would exceed 65,535 bits"; "Conversions then judge 8"
 abbrev pub sheetToPacketRefusals : List ℕ
 sheetToPacketRefusals = 2 ∷ 4 ∷ 5 ∷ 8 ∷ 9 ∷ 12 ∷ []
 
--- a speed question: "1 to 7, 10 or 11", and 13, of a packet; "2, 4, 5, 9, 10 or 11" of a sheet
+-- the refusals of a speed question: those of a packet, 1 to 7 and 13, or of a sheet, 2, 4, 5 and 9; "speed questions judge 10, then 11"
 abbrev pub speedRefusals : Brought → List ℕ
 speedRefusals packet = 1 ∷ 2 ∷ 3 ∷ 4 ∷ 5 ∷ 6 ∷ 7 ∷ 13 ∷ 10 ∷ 11 ∷ []
 speedRefusals sheet = 2 ∷ 4 ∷ 5 ∷ 9 ∷ 10 ∷ 11 ∷ []
 
--- "the altitude of a packet": "1 to 7", and 13
+-- the refusals of "the altitude of a packet": those of a packet, 1 to 7 and 13
 abbrev pub altitudeRefusals : List ℕ
 altitudeRefusals = packetRefusals
 

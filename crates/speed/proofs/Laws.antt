@@ -24,7 +24,7 @@ held-in-element : (t : Train) (e : Element) (stop x : ℕ) → e .start ≤ x �
 held-in-element t e stop x a b =
     rw (le-leb (e .start) x a) (by-cases (eqb (e .qFront) 0) (λ d. rw d (lt-ltb x (stop + t .length) (omega arith))) (λ d. rw d (lt-ltb x stop b)))
 
--- "At every x below L_SP some element holds"
+-- at every x below L_SP some element holds
 pub some-holds : {C : Type 0} (t : Train) (lsp x : ℕ) (e : Element) (l : List Element) → e .start ≤ x → x < lsp
     → ((v : ℕ) (m : List ℕ) → heldSpeeds t lsp x (e ∷ l) ≡ v ∷ m → C) → C
 some-holds t lsp x e [] a b k = k (elementSpeed t e) [] (rw (held-in-element t e lsp x a b))

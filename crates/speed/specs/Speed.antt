@@ -124,7 +124,7 @@ permitted t lsp x l = instead 0 (heldSpeeds t lsp x l)
 
 -- ---- "Element 0 of the profile starts at 0 and each change starts the next"
 
--- n entries, by their numbers: "Q_DIFF 2, class 4, V_DIFF 7"
+-- n entries, by their numbers: "Q_DIFF 2 (0 to 2), class 4, V_DIFF 7 (0 to 120)"
 abbrev pub entriesOf : ℕ → List ℕ → List Entry
 entriesOf zero s = []
 entriesOf (suc n) s = record { qDiff = getD s 0 0; class = getD s 1 0; vDiff = getD s 2 0 } ∷ entriesOf n (drop 3 s)
@@ -134,7 +134,7 @@ abbrev pub afterEntries : ℕ → List ℕ → List ℕ
 afterEntries zero s = s
 afterEntries (suc n) s = afterEntries n (drop 3 s)
 
--- "V_STATIC 7, Q_FRONT 1, N_ITER 5 (0 to 31), then that many specific entries"
+-- "V_STATIC 7 (0 to 120, steps of 5 km/h), Q_FRONT 1, N_ITER 5 (0 to 31), then that many specific entries"
 abbrev pub elementOf : ℕ → List ℕ → Element
 elementOf start s = record { start = start; vStatic = getD s 0 0; qFront = getD s 1 0; entries = entriesOf (getD s 2 0) (drop 3 s) }
 

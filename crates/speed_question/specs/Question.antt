@@ -12,7 +12,7 @@ use Rattle.speed.specs.declared.Train.{Train}
 use Rattle.speed.specs.Speed.{validTrain, segmentLength, speedIn}
 use Rattle.speed_question.specs.declared.Speed.{Speed}
 
--- "It returns its number with length, speed or altitude 0"; "Every refusal carries its place"
+-- "It returns its number with length, speed or altitude 0"; "everything above it passes that on with a place"
 abbrev pub noSpeed : ℕ → ℕ → Speed
 noSpeed r place = record { refusal = r; place = place; speed = 0 }
 

@@ -78,15 +78,15 @@ abbrev pub conversions : List ConversionCase
 conversions =
     record { ask = askSheetOf firstPacket; answer = bytes firstSheet }
     ∷ record { ask = askPacketOf firstSheet; answer = bytes firstPacket }
-    -- "With 54 (84 km/h) in place of 50 it makes the same packet; with 55 another"
+    -- "With 54 (84 km/h) in place of 50 it makes the same packet; (P) with 55 another"
     ∷ record { ask = askPacketOf (sheetWith (0x54 ∷ []) (0x00 ∷ [])); answer = bytes firstPacket }
     ∷ record { ask = askPacketOf (sheetWith (0x55 ∷ []) (0x00 ∷ [])); answer = bytes (packetWith 0x01 0x10 0x3F 0xF0 0x00) }
-    -- "The packet without its last byte: 3. Empty packet: 1. Empty sheet: 9. Last byte 01: 7"
+    -- "The packet without its last byte: 3. (P) Empty packet: 1. (P) Empty sheet: 9. (P) Last byte 01: 7"
     ∷ record { ask = askSheetOf (take 38 firstPacket); answer = refusal 3 0 }
     ∷ record { ask = askSheetOf []; answer = refusal 1 0 }
     ∷ record { ask = askPacketOf []; answer = refusal 9 0 }
     ∷ record { ask = askSheetOf (packetWith 0x01 0x00 0x3F 0xF0 0x01); answer = refusal 7 311 }
-    -- "604 and 605 km/h; 0 A against no limit; number 80 00: 9"
+    -- "604 and 605 km/h; (P) 0 A against no limit; (P) number 80 00: 9"
     ∷ record { ask = askPacketOf (sheetWith (0xDC ∷ 0x04 ∷ []) (0x00 ∷ [])); answer = bytes (packetWith 0x07 0x80 0x3F 0xF0 0x00) }
     ∷ record { ask = askPacketOf (sheetWith (0xDD ∷ 0x04 ∷ []) (0x00 ∷ [])); answer = refusal 4 16 }
     ∷ record { ask = askPacketOf (sheetWith (0x50 ∷ []) (0x01 ∷ [])); answer = bytes (packetWith 0x01 0x00 0x00 0x00 0x00) }

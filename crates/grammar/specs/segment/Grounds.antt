@@ -51,7 +51,7 @@ pub data PacketGround (n : ℕ) (f : Format) (s : List ℕ) (r place : ℕ) : Ty
 abbrev pub SheetGround : ℕ → List ℕ → ℕ → ℕ → Type 0
 SheetGround limit s r place = Ground sheet InSheet GroupsFault (sheetFields limit) 0 s r place
 
--- "4: a field outside its range or set", "5: a change's location ..; 4 is not given for locations of changes", "5 .. for a start that is not below the end (4 where the end is no 24-bit number)"
+-- "4: a field outside its range or set", "5: a change's location ..; 4 is not given for locations of changes", "5, at the end field, for start not below end", and 4 where the end is no number of 24 bits
 pub data FieldRefusal (k : Kind) : Type 0 where
   asValue : ((v : ℕ) → k .refusal v ≡ 4) → FieldRefusal k
   asEnd : ((v : ℕ) → k .refusal v ≡ cond (leb v (k .largest)) 5 4) → FieldRefusal k

@@ -3,16 +3,16 @@ use Prim.Native.Nat.{ℕ, zero, suc}
 use Rattle.kinds.specs.Kinds.{nidPacketAto, nidOperational, nidEngine, tTimestampDate, tTimestampSeconds, nPacketCounter, nidC, nidSp, mSpVersion, lSp, dEoAOffset, qUtcOffset, mSpAltitude, speed, qFront, nIter, qDiff, class, dLocation, mVoltage, nidCTraction, mCurrent}
 use Rattle.format.specs.Format.{Format, end, field, then}
 
--- "specific entries: Q_DIFF 2, class 4, V_DIFF 7", n of them
+-- "specific entries: Q_DIFF 2 (0 to 2), class 4, V_DIFF 7 (0 to 120)", n of them
 unfoldable pub entries : ℕ → Format → Format
 entries zero f = f
 entries (suc n) f = field qDiff λ q. then (class q) (then speed (entries n f))
 
--- "V_STATIC 7, Q_FRONT 1, N_ITER 5 (0 to 31), then that many specific entries"
+-- "V_STATIC 7 (0 to 120, steps of 5 km/h), Q_FRONT 1, N_ITER 5 (0 to 31), then that many specific entries"
 abbrev pub profile : Format → Format
 profile f = then speed (then qFront (field (nIter 31) λ n. entries n f))
 
--- "M_VOLTAGE 4, NID_CTRACTION 10"
+-- "M_VOLTAGE 4 (0 to 5), NID_CTRACTION 10"
 abbrev pub voltage : Format → Format
 voltage f = field mVoltage λ u. then (nidCTraction u) f
 

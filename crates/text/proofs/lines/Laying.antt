@@ -57,7 +57,7 @@ pub segment-laid : {room : List ℕ} {at n1 n2 : ℕ} {c1 c2 : List ℕ} (y z : 
     → Laid room at (namesText ns) n1 c1 → Laid c1 n1 (measures y ns) n2 c2 → y ≡ z → Laid room at (segmentLine z ns) n2 c2
 segment-laid y z ns e1 e2 t = rw (← t) (laid-on e1 e2)
 
--- an element's line has "FROM ", " SPEED ", " FRONT ", three numbers of at most ten digits, and the line's end
+-- an element's line has `FROM `, ` SPEED `, ` FRONT `, three numbers of at most ten digits, and the line's end
 pub element-short : (e : Element) → length (elementLine e) ≤ 50
 element-short e = simp length-append (omega (arith, decimal-short (e .start), decimal-short (e .vStatic), decimal-short (e .qFront)))
 
@@ -99,11 +99,11 @@ module _ {sheet : List ℕ} {Whole : ℕ → List ℕ → Type 0} {n place next 
 
 -- ---- all lines
 
--- a segment's line up to NID_SP has "SEGMENT ", " " and two numbers of at most ten digits
+-- a segment's line up to NID_SP has `SEGMENT `, a space and two numbers of at most ten digits
 pub names-short : (ns : List ℕ) → length (namesText ns) ≤ 29
 names-short ns = simp length-append (omega (arith, decimal-short (getD ns 6 0), decimal-short (getD ns 7 0)))
 
--- the rest of a segment's line has " LENGTH ", " ALTITUDE ", a number of at most ten digits, one with a sign, and the line's end
+-- the rest of a segment's line has ` LENGTH `, ` ALTITUDE `, a number of at most ten digits, one with a sign, and the line's end
 pub measures-short : (z : ℤ) (ns : List ℕ) → length (measures z ns) ≤ 40
 measures-short z ns = simp length-append (omega (arith, decimal-short (getD ns 10 0), signed-short z))
 

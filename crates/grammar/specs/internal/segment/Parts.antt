@@ -11,7 +11,7 @@ use Rattle.grammar.specs.segment.Segment.{profile, voltage, current, par
 use Rattle.grammar.specs.declared.segment.Part.{Part}
 use Rattle.grammar.specs.declared.segment.Part.the-variants.{Speeds, Volts, Amperes}
 
--- "specific entries: Q_DIFF 2, class 4, V_DIFF 7", one of them
+-- "specific entries: Q_DIFF 2 (0 to 2), class 4, V_DIFF 7 (0 to 120)", one of them
 abbrev pub entry : Format → Format
 entry f = field qDiff λ q. then (class q) (then speed f)
 

@@ -9,7 +9,7 @@ use Rattle.format.specs.Format.{Format, field, then}
 use Rattle.packet_fields.specs.declared.PacketStep.{PacketStep}
 use Rattle.packet_fields.specs.declared.PacketStep.the-variants.{On, Refused}
 
--- "V_STATIC 7, Q_FRONT 1, N_ITER 5 (0 to 31)", and what depends on the last
+-- "V_STATIC 7 (0 to 120, steps of 5 km/h), Q_FRONT 1, N_ITER 5 (0 to 31)", and what depends on the last
 abbrev pub profileHead : (ℕ → Format) → Format
 profileHead next = then speed (then qFront (field (nIter 31) next))
 
