@@ -1,4 +1,4 @@
-"""What the tests and the pages read of the sources: crates, functions, declarations, must-fail edits."""
+"""What the tests and the pages read of the sources: crates, functions, declarations, quotations, must-fail edits."""
 import itertools
 import pathlib
 import re
