@@ -55,7 +55,7 @@ when-some : {C : Type 0} (b : Bool) (a v : ℕ) → when b a ≡ some v → (b �
 when-some true a v e f = f refl (cc)
 when-some false a v e f = absurd (let z : _≡_ {A = ℕ} 0 1 = cc in omega arith)
 
--- ---- the same number in both
+-- ---- one number in both media
 
 pub same-lawful : (width largest : ℕ) (refusal : ℕ → ℕ) (ok : ℕ → Bool) → Narrow width → largest < 2 ^ width → ((v : ℕ) → ok v ≡ true → v ≤ largest)
     → LawfulKind (same width largest refusal ok)

@@ -19,7 +19,7 @@ ones (suc n) = ones n * 16 + 1
 abbrev pub tops : ℕ → ℕ → ℕ → ℕ
 tops n v u = bitAnd (bitAnd v (bitAnd v (ones n * 7) + ones n * u)) (ones n * 8)
 
--- the same of one digit
+-- one digit
 abbrev top : ℕ → ℕ → ℕ
 top d u = bitAnd (bitAnd d (bitAnd d 7 + u)) 8
 

@@ -108,7 +108,7 @@ module _ (s : List ℕ) (stop : ℕ) {at n : ℕ} (h : Standing s stop at n) whe
             rw (← m, ← p) (value-on (λ q f. then (class q) (then speed f)) q-took
             (over-on (past s stop class-took) (past s stop (took-some s stop speed 7 refl (class-took .stands) (lit≤ tt) (omega arith) (part entry-values 2) ed z))))
 
-  -- the same with the bytes of Q_DIFF and class together
+  -- with the bytes of Q_DIFF and class together
   module _ (room : 13 ≤ stop - at) {t : ℕ} (e : t ≡ fieldAt s at 13) {r d : ℕ} (er : r ≡ nameBytes (t / 128 / 16) (t / 128 % 16)) (ed : d ≡ bytesOf (valueInPacket speed (t % 128))) where
     q-bytes : ℕ
     q-bytes = bytesOf (valueInPacket qDiff (t / 2048))

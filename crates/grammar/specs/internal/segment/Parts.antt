@@ -1,10 +1,7 @@
 -- The parts of a segment's tree that a pass takes one by one. Used by contracts of the code; no promise names these.
 use mathlib.Core.List.{List, [], _∷_}
-use mathlib.Core.Path.{_≡_}
-use Prim.Native.Nat.{ℕ, zero, suc, _≤_, _<_}
-use lib.ListN.{getD}
-use Rattle.kinds.specs.Kind.{Kind}
-use Rattle.kinds.specs.Kinds.{nidPacketAto, nidOperational, nidEngine, tTimestampDate, tTimestampSeconds, nPacketCounter, nidC, nidSp, mSpVersion, lSp, dEoAOffset, qUtcOffset, mSpAltitude, speed, qDiff, class}
+use Prim.Native.Nat.{ℕ}
+use Rattle.kinds.specs.Kinds.{nidOperational, lSp, speed, qDiff, class}
 use Rattle.format.specs.Format.{Format, field, then}
 use Rattle.grammar.specs.internal.rows.Rows.{row}
 use Rattle.grammar.specs.segment.Segment.{profile, voltage, current, part, wireChanges}
@@ -21,33 +18,7 @@ startOf Speeds f = profile f
 startOf Volts f = voltage f
 startOf Amperes f = current f
 
--- ---- the fields before the speed profile, by their number
-
-abbrev pub headKinds : List Kind
-headKinds =
-    nidOperational ∷ nidEngine ∷ tTimestampDate ∷ tTimestampSeconds ∷ nPacketCounter
-    ∷ nidC ∷ nidSp ∷ mSpVersion ∷ mSpVersion ∷ lSp ∷ dEoAOffset ∷ qUtcOffset ∷ mSpAltitude ∷ []
-
-unfoldable pub kindAt : ℕ → Kind
-kindAt i = getD headKinds i mSpAltitude
-
--- the fields from first to before end, none of which is NID_OPERATIONAL or L_SP
-pub record Run (first end : ℕ) : Type 0 where
-  pub some : 1 ≤ first
-  pub ordered : first ≤ end
-  pub last : end ≤ 13
-  pub apart : (i : ℕ) → first ≤ i → i < end → i ≡ 9 → ⊥
-
--- n fields from the field i on, on whose values nothing depends
-unfoldable pub runs : ℕ → ℕ → Format → Format
-unfolding kindAt
-runs i zero f = f
-runs i (suc n) f = then (kindAt i) (runs (suc i) n f)
-
--- the fields of the header after L_PACKET_ATO
-abbrev pub headerPart : Format → Format
-headerPart f = runs 0 5 f
-
+-- the three lists of changes
 abbrev pub threeLists : ℕ → Format → Format
 threeLists lsp f = part profile 31 lsp (part voltage wireChanges lsp (part current wireChanges lsp f))
 
@@ -85,17 +56,6 @@ offsetRows lsp f = row offsetWidths offsetMost (threeLists lsp f)
 -- the body's fields
 abbrev pub bodyRows : Format → Format
 bodyRows f = row identityWidths identityMost (field lSp λ lsp. offsetRows lsp f)
-
--- the body's fields up to the speed profile, and the lists
-abbrev pub bodyPart : Format → Format
-bodyPart f = runs 5 4 (field lSp λ lsp. runs 10 3 (threeLists lsp f))
-
-abbrev pub segmentPart : Format → Format
-segmentPart f = then nidOperational (runs 1 8 (field lSp λ lsp. runs 10 3 (threeLists lsp f)))
-
--- a sheet's fields: the packet number first
-abbrev pub sheetPart : Format → Format
-sheetPart f = then nidPacketAto (segmentPart f)
 
 -- the fields after L_PACKET_ATO, in rows, with whatever follows
 abbrev pub segmentRows : Format → Format
