@@ -7,6 +7,7 @@ use native.Mathlib.Omega.{arith}
 use lib.Dec.{lit≤}
 use lib.ListN.{length}
 use Rattle.bits.specs.Bits.{fieldAt}
+use Rattle.bits.specs.internal.Windows.{fieldsAt}
 use Rattle.bits.proofs.Fields.{field-small}
 use Rattle.numbers.specs.Numbers.{groupsIn}
 use Rattle.numbers.proofs.Counting.{count-some}
@@ -20,7 +21,7 @@ use Rattle.grammar.specs.internal.segment.Parts.{headerWidths, headerMost, iden
 use Rattle.grammar.proofs.segment.Parts.{header-fits, identity-fits, offset-fits}
 use Rattle.packet_fields.specs.declared.PacketValue.the-variants as PacketValue
 use Rattle.packet_fields.specs.internal.Judging.{Standing, Took, Gave}
-use Rattle.packet_fields.specs.internal.row.Values.{fieldsAt, groupsAll, rowBytes}
+use Rattle.packet_fields.specs.internal.row.Values.{groupsAll, rowBytes}
 use Rattle.packet_fields.proofs.Steps.{took-some, past}
 use Rattle.packet_fields.proofs.row.Held.{Held, all-bytes, no-bytes, held-within, any-held, bytes-held, bytes-over}
 use Rattle.packet_fields.proofs.row.Whole as whole
