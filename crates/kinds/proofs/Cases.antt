@@ -1,6 +1,8 @@
 -- The cases that document 01 spells out, as facts of the field kinds: how speeds and currents are lowered, and which number each refused value gets.
 use mathlib.Core.Path.{_≡_, refl}
 use mathlib.Core.Bool.{false, and-false}
+use mathlib.Core.List.{[], _∷_, map}
+use mathlib.Core.Option.{some}
 use Prim.Native.Nat.{ℕ, zero, suc, _/_, _%_, _^_, _<_, _≤_}
 use native.Mathlib.Nat.{pow-succ', div-div-eq-div-mul}
 use native.Mathlib.Omega.{arith}
@@ -9,7 +11,7 @@ use lib.Dec.{ltb, leb·zero}
 use Rattle.bits.proofs.Tests.{by-cases}
 use Rattle.kinds.specs.declared.Field.the-variants.{Is, Refused}
 use Rattle.kinds.specs.Tables.{place}
-use Rattle.kinds.specs.Kinds.{digit, digits, speed, dLocation, mVoltage, nidCTraction, mCurrent}
+use Rattle.kinds.specs.Kinds.{digit, digits, speed, ncCdDiff, dLocation, mVoltage, nidCTraction, mCurrent}
 use Rattle.kinds.specs.Judged.{numberInSheet}
 
 -- "604 gives 120 and 605 is refused"
@@ -44,6 +46,16 @@ current-none = refl
 pub volts-600 : numberInSheet mVoltage 600 ≡ Refused 4
 unfolding place
 volts-600 = refl
+
+-- 002: "No element→0", 25000 V→1, 15000 V→2, 3000 V→3, 1500 V→4, 750 V→5: the packet's value of each voltage, from the lowest on
+pub volts-values : map (λ a. mVoltage .lower a) (0 ∷ 750 ∷ 1500 ∷ 3000 ∷ 15000 ∷ 25000 ∷ []) ≡ map some (0 ∷ 5 ∷ 4 ∷ 3 ∷ 2 ∷ 1 ∷ [])
+unfolding place
+volts-values = refl
+
+-- 002: "80→0, 100→1, 130→2, 150→3, 165→4, 180→5, 210→6, 225→7, 245→8, 275→9, 300→10": the packet's value of each cant figure, from the highest on
+pub cants-values : map (λ a. ncCdDiff .lower a) (300 ∷ 275 ∷ 245 ∷ 225 ∷ 210 ∷ 180 ∷ 165 ∷ 150 ∷ 130 ∷ 100 ∷ 80 ∷ []) ≡ map some (10 ∷ 9 ∷ 8 ∷ 7 ∷ 6 ∷ 5 ∷ 4 ∷ 3 ∷ 2 ∷ 1 ∷ 0 ∷ [])
+unfolding place
+cants-values = refl
 
 -- "002's text type would also admit A to E; they are refused": a digit that is none refuses the number, wherever it stands
 pub operational-digit : (i n v : ℕ) → i < n → digit (v / 16 ^ i % 16) ≡ false → digits n v ≡ false
