@@ -6,6 +6,8 @@ mod carried;
 #[cfg(test)]
 mod desk;
 #[cfg(test)]
+mod desk_bytes;
+#[cfg(test)]
 mod desk_cants;
 #[cfg(test)]
 mod desk_constraints;
