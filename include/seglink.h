@@ -6,8 +6,8 @@
 // Q_TC_Range 0 uses the start, 1 the end, 2 both, 3 neither. A field that is not used is 0. No type uses the current: it is 1,023 in the packet
 // and 0 in the sheet. A constraint's speed, like a segment's, is lowered to a multiple of 5 km/h on its way to the packet.
 //
-// Any bytes may be handed over, in any number. The caller keeps three rules: no pointer is null, even if its length is 0; the room shares no byte
-// with the input; each bool is 0 or 1.
+// Any bytes may be handed over, in any number. A pointer may be null if its length is 0; this is tested for each operation, and not proved.
+// The caller keeps two rules: the room shares no byte with the input; each bool is 0 or 1, as C has it unless a bool's byte is overwritten.
 // No operation keeps a pointer, has a state of its own or stops the program, so any number of threads may call the operations.
 #ifndef SEGLINK_H
 #define SEGLINK_H
@@ -56,7 +56,7 @@ enum {
     SEGLINK_PAST_END = 11,       // x is at or past L_SP
     SEGLINK_LONG_BODY = 12,      // a sheet's body would exceed 65,535 bits
     SEGLINK_BITS_LEFT = 13,      // bits of the body are left after the last field
-    SEGLINK_TOO_EARLY = 14,      // an intake's sheet is asked for before a completion or after the next delivery, or with the packet's room cut short
+    SEGLINK_TOO_EARLY = 14,      // an intake's sheet is asked for before a completion, after the next delivery or in phase 2 with a refusal or place that no completion gives; or with the packet's room cut short
     SEGLINK_UNKNOWN_KIND = 15    // the kind is neither 0 nor 1
 };
 
@@ -105,6 +105,7 @@ typedef struct {
 // state and the room, lends both at each call and takes the state back. All 0 is fresh; any four numbers may be handed over.
 // Phase 0, and each above 2, gathers: `length` bytes of a packet are in the room. Phase 1: the deliveries passed the room's end. Phase 2 is judged:
 // `refusal` and `place` are the verdict, 0 and 0 for an accepted packet, and `length` is the count of the packet's bytes, 0 if the refusal is 8.
+// In phase 2, a refusal that no completion gives (any but 0 to 8 and 13), and a place other than 0 with the refusal 0, 1, 2, 3 or 8, are no verdict.
 typedef struct {
     uint32_t phase, length, refusal, place;
 } seglink_intake;
@@ -140,8 +141,9 @@ seglink_intake seglink_intake_deliver(seglink_intake intake, const uint8_t *deli
 seglink_intake seglink_intake_complete(seglink_intake intake, const uint8_t *room, size_t room_len);
 
 // Answers as seglink_packet_to_sheet for the packet that was judged; `taken` is the room that took the packet. The sheet may be asked for, any number
-// of times, until the next delivery that has bytes or the next completion. At any other time, and if `taken` has fewer bytes than an accepted
-// packet, the refusal is 14. If the verdict was a refusal, the answer is its number and place again. A refusal leaves the room as it was.
+// of times, until the next delivery that has bytes or the next completion. At any other time, in phase 2 without a verdict, and if `taken` has
+// fewer bytes than an accepted packet, the refusal is 14 at 0. If the verdict was a refusal, the answer is its number and place again. A refusal
+// leaves the room as it was.
 seglink_converted seglink_intake_sheet(seglink_intake intake, const uint8_t *taken, size_t taken_len, uint8_t *room, size_t room_len);
 
 #ifdef __cplusplus

@@ -1,4 +1,5 @@
-// Calls the static library from C: both conversions of segments and journeys, the intake, the questions' refusals, speeds by kind and by cant deficiency.
+// Calls the static library from C: both conversions of segments and journeys, the intake, the questions' refusals, speeds by kind and by cant
+// deficiency, and null with length 0.
 // Checks the answers against packets, sheets, states, places and speeds that are written here from the build definition. 'time' measures times instead.
 #define _POSIX_C_SOURCE 200809L
 #include <stdio.h>
@@ -1475,12 +1476,25 @@ static const struct { seglink_intake before; struct step step; } WILD_STATES[] =
     {{0, 39, 0, 0}, {"phase 0 asked", ASKS(desk_sheet, 45, 30), EARLY}},
     {{1, 39, 7, 306}, {"phase 1 asked", ASKS(desk_sheet, 45, 30), EARLY}},
     {{3, 39, 7, 306}, {"phase 3 asked", ASKS(desk_sheet, 45, 30), EARLY}},
-    {{2, 39, 0, 77}, {"a verdict of 0 with a place asked", ASKS(desk_sheet, 45, 30), GIVEN(25)}},
     {{2, 38, 0, 0}, {"a verdict of 0 on a packet a byte short asked", ASKS(desk_sheet, 45, 30), REFUSED(3, 0)}},
     {{2, 46, 0, 0}, {"a length past the room's end asked", ASKS(desk_sheet, 45, 30), EARLY}},
     {{2, 0xFFFFFFFF, 0, 0}, {"length 4,294,967,295 asked", ASKS(desk_sheet, 45, 30), EARLY}},
-    {{2, 0xFFFFFFFF, 99, 7}, {"refusal 99 asked", ASKS(desk_sheet, 45, 30), REFUSED(99, 7)}},
-    {{2, 39, 0xFFFFFFFF, 0xFFFFFFFF}, {"refusal 4,294,967,295 asked", ASKS(desk_sheet, 0, 0), REFUSED(0xFFFFFFFF, 0xFFFFFFFF)}},
+    {{2, 39, 0, 77}, {"refusal 0 at 77 asked", ASKS(desk_sheet, 45, 30), EARLY}},
+    {{2, 39, 1, 1}, {"refusal 1 at 1 asked", ASKS(desk_sheet, 45, 30), EARLY}},
+    {{2, 39, 2, 5}, {"refusal 2 at 5 asked", ASKS(desk_sheet, 45, 30), EARLY}},
+    {{2, 39, 3, 0x80000000}, {"refusal 3 at 2,147,483,648 asked", ASKS(desk_sheet, 45, 30), EARLY}},
+    {{2, 39, 8, 39}, {"refusal 8 at 39 asked", ASKS(desk_sheet, 45, 30), EARLY}},
+    {{2, 39, 9, 0}, {"refusal 9 asked", ASKS(desk_sheet, 45, 30), EARLY}},
+    {{2, 39, 12, 0}, {"refusal 12 asked", ASKS(desk_sheet, 45, 30), EARLY}},
+    {{2, 39, 14, 3}, {"refusal 14 at 3 asked", ASKS(desk_sheet, 45, 30), EARLY}},
+    {{2, 39, 77, 5}, {"refusal 77 at 5 asked", ASKS(desk_sheet, 45, 30), EARLY}},
+    {{2, 39, 0x0000010D, 305}, {"refusal 269 at 305 asked", ASKS(desk_sheet, 45, 30), EARLY}},
+    {{2, 39, 0xFFFFFFFF, 0xFFFFFFFF}, {"refusal 4,294,967,295 asked", ASKS(desk_sheet, 0, 0), EARLY}},
+    {{2, 39, 3, 0}, {"refusal 3 asked", ASKS(desk_sheet, 45, 30), REFUSED(3, 0)}},
+    {{2, 39, 4, 0}, {"refusal 4 at 0 asked", ASKS(desk_sheet, 45, 30), REFUSED(4, 0)}},
+    {{2, 0xFFFFFFFF, 7, 0xFFFFFFFF}, {"refusal 7 at 4,294,967,295 asked", ASKS(desk_sheet, 0, 0), REFUSED(7, 0xFFFFFFFF)}},
+    {{2, 39, 8, 0}, {"refusal 8 asked", ASKS(desk_sheet, 45, 30), REFUSED(8, 0)}},
+    {{2, 39, 13, 305}, {"refusal 13 at 305 asked", ASKS(desk_sheet, 45, 30), REFUSED(13, 305)}},
     {{7, 8, 9, 10}, {"no bytes to phase 7", DELIVERS(noise, 0, 0, NOWHERE), {7, 8, 9, 10}}},
     {{1, 8, 9, 10}, {"no bytes to phase 1", DELIVERS(noise, 0, 0, NOWHERE), {1, 8, 9, 10}}},
     {{2, 99, 9, 10}, {"no bytes to phase 2", DELIVERS(noise, 0, 0, NOWHERE), {2, 99, 9, 10}}},
@@ -1572,6 +1586,77 @@ static void intakes(void)
     counted();
 }
 
+// ---- Null with length 0, for each slice of each operation
+
+static const uint8_t EMPTY[1] = {0xA5};
+
+static void same_answer(const char *name, seglink_converted got, seglink_converted wanted)
+{
+    check(name, "the refusal", got.refusal, wanted.refusal);
+    check(name, "the place", got.place, wanted.place);
+    check(name, "the length", got.length, wanted.length);
+}
+
+// Checks a conversion of nothing, of `in` in no room, and of nothing in no room: the answers are those for an empty array.
+static void null_conversions(const char *name, conversion *convert, const struct bytes *in)
+{
+    uint8_t room[1] = {0xA5};
+    same_answer(name, convert(NULL, 0, room, 1), convert(EMPTY, 0, room, 1));
+    same_answer(name, convert(in->byte, in->length, NULL, 0), convert(in->byte, in->length, room, 0));
+    same_answer(name, convert(NULL, 0, NULL, 0), convert(EMPTY, 0, room, 0));
+    check(name, "the byte of the room", room[0], 0xA5);
+}
+
+static void null_questions(void)
+{
+    static const seglink_train train = {.length = 200, .cant = 150};
+    static const struct bytes nothing;
+    static const uint32_t refusals[] = {SEGLINK_SHORT_PACKET, SEGLINK_SHEET_FORM, SEGLINK_UNKNOWN_KIND};
+    for (uint32_t kind = 0; kind < 3; ++kind) {
+        seglink_speed got = seglink_permitted_speed(kind, NULL, 0, train, 0);
+        check("a speed question about null", "the refusal", got.refusal, refusals[kind]);
+        check("a speed question about null", "the place", got.place, 0);
+        check("a speed question about null", "the speed", got.speed, 0);
+        speed_asked("a speed question about an empty array", kind, &nothing, train, 0, got);
+    }
+    seglink_altitude got = seglink_altitude_of_packet(NULL, 0), wanted = seglink_altitude_of_packet(EMPTY, 0);
+    check("the altitude of null", "the refusal", got.refusal, wanted.refusal);
+    check("the altitude of null", "the place", got.place, wanted.place);
+    check("the altitude of null", "the altitude", (size_t)got.altitude, (size_t)wanted.altitude);
+}
+
+// Checks one state of an intake: a delivery of null, a delivery to no room, a completion in no room, and questions with null for each room.
+static void null_intake(seglink_intake intake)
+{
+    static const char name[] = "an intake with null";
+    uint8_t room[64], lent[64];
+    memset(room, 0xA5, sizeof room);
+    memset(lent, 0xA5, sizeof lent);
+    state(name, seglink_intake_deliver(intake, NULL, 0, room, sizeof room), intake);
+    state(name, seglink_intake_deliver(intake, NULL, 0, NULL, 0), intake);
+    state(name, seglink_intake_deliver(intake, desk_packet.byte, 1, NULL, 0), seglink_intake_deliver(intake, desk_packet.byte, 1, room, 0));
+    state(name, seglink_intake_complete(intake, NULL, 0), seglink_intake_complete(intake, room, 0));
+    same_answer(name, seglink_intake_sheet(intake, NULL, 0, lent, sizeof lent), seglink_intake_sheet(intake, room, 0, lent, sizeof lent));
+    same_answer(name, seglink_intake_sheet(intake, desk_packet.byte, desk_packet.length, NULL, 0), seglink_intake_sheet(intake, desk_packet.byte, desk_packet.length, lent, 0));
+    same_answer(name, seglink_intake_sheet(intake, NULL, 0, NULL, 0), seglink_intake_sheet(intake, room, 0, lent, 0));
+    for (size_t i = 0; i < sizeof room; ++i)
+        check(name, "a byte of a room", room[i] + lent[i], 2 * 0xA5);
+}
+
+static void nulls(void)
+{
+    static const uint32_t lengths[] = {0, 1, 39, 0xFFFFFFFF}, refusals[] = {0, 1, 7, 8, 13, 77};
+    null_conversions("packet to sheet with null", seglink_packet_to_sheet, &desk_packet);
+    null_conversions("packet to sheet with null", seglink_packet_to_sheet, &journey_packet);
+    null_conversions("sheet to packet with null", seglink_sheet_to_packet, &desk_sheet);
+    null_conversions("sheet to packet with null", seglink_sheet_to_packet, &journey_sheet);
+    null_questions();
+    for (uint32_t phase = 0; phase < 4; ++phase)
+        for (size_t i = 0; i < sizeof lengths / sizeof *lengths; ++i)
+            for (size_t j = 0; j < sizeof refusals / sizeof *refusals; ++j)
+                null_intake((seglink_intake){phase, lengths[i], refusals[j], 0});
+}
+
 // Checks the answers about the largest segment, whose lists are all full.
 static void largest_asked(const struct fields *s)
 {
@@ -1611,6 +1696,7 @@ static int all_checks(struct fields *s)
     speeds_by_kind();
     journeys(s);
     intakes();
+    nulls();
     printf("%u passed, %u failed\n", passed, failed);
     return failed == 0 ? 0 : 1;
 }

@@ -38,7 +38,8 @@ pub enum Event {
     WildLengthCompleted,
     WildLengthAsked,
     WildRefusal,
-    WildSheet,
+    WildPlace,
+    WildVerdict,
     UnknownSmall,
     UnknownLarge,
     UnknownAnswered,
@@ -55,7 +56,7 @@ pub enum Event {
 }
 
 /// Each event with its words, in the order of the type.
-pub const EVENTS: [(Event, &str); 49] = [
+pub const EVENTS: [(Event, &str); 50] = [
     (Event::InParts, "packets accepted in several deliveries"),
     (Event::ByteByByte, "packets accepted byte by byte"),
     (Event::NothingOnTheWay, "deliveries of no bytes before a completion"),
@@ -90,8 +91,9 @@ pub const EVENTS: [(Event, &str); 49] = [
     (Event::WildLengthDelivered, "deliveries with a length past the room's end"),
     (Event::WildLengthCompleted, "completions with a length past the room's end: 8"),
     (Event::WildLengthAsked, "questions with a length past the room's end: 14"),
-    (Event::WildRefusal, "questions in a state with a number that is no refusal: that number"),
-    (Event::WildSheet, "sheets given in a state that no call returned"),
+    (Event::WildRefusal, "questions in phase 2 with a refusal that no completion gives: 14"),
+    (Event::WildPlace, "questions in phase 2 with a place that no completion gives: 14"),
+    (Event::WildVerdict, "questions about a verdict that no call gave: its refusal"),
     (Event::UnknownSmall, "speed questions of kind 2 or 3: 15"),
     (Event::UnknownLarge, "speed questions of a larger kind: 15"),
     (Event::UnknownAnswered, "speed questions of an unknown kind that its own would answer: 15"),

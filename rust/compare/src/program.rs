@@ -86,6 +86,11 @@ impl Operation {
     }
 }
 
+/// Returns whether a completion can give this refusal, or 0, at this place.
+pub fn completion_gives(refusal: u32, place: u32) -> bool {
+    Operation::Completion.refusals(false).contains(&refusal) && (place == 0 || PLACED.contains(&refusal))
+}
+
 /// A question to one operation. The train and x matter to a speed alone.
 pub struct Question<'a> {
     pub operation: Operation,

@@ -18,6 +18,8 @@ const DELIVERIES: usize = 60;
 /// The answer that a question about the sheet must get.
 enum Sheet {
     Early,
+    /// 14, in phase 2 with a refusal that no completion gives.
+    NoVerdict,
     Refused(Answer),
     /// The sheet of the packet judged last.
     Judged,
@@ -79,12 +81,11 @@ fn size_for(random: &mut Random, packets: &[Vec<u8>]) -> usize {
     }
 }
 
-/// Draws the first state: fresh, or one time in four after a verdict that no call gave.
+/// Draws the first state: fresh, or one time in four of phase 2 with a refusal that no completion gives.
 fn start(random: &mut Random) -> Result<(Intake, Sheet), String> {
     if random.one_in(4) {
         let (refusal, place) = (random.of_any_size().max(NO_REFUSAL), random.of_any_size());
-        let state = judged(random.of_any_size(), refusal, place);
-        return Ok((state, Sheet::Refused(Answer::refused(refusal, place))));
+        return Ok((judged(random.of_any_size(), refusal, place), Sheet::NoVerdict));
     }
     let fresh = gathering(0);
     require(Archive::fresh() == fresh && Second::fresh() == fresh, "fresh is not all 0")?;
@@ -253,7 +254,7 @@ impl Sequence {
         match self.sheet {
             Sheet::Refused(refused) => refused,
             Sheet::Judged if taken >= self.judged.len() => Archive::packet_to_sheet(&self.judged, room),
-            Sheet::Judged | Sheet::Early => Answer::refused(14, 0),
+            Sheet::Judged | Sheet::Early | Sheet::NoVerdict => Answer::refused(14, 0),
         }
     }
 
@@ -261,14 +262,14 @@ impl Sequence {
         let (given, again) = (answer.refusal == 0, self.since.questions > 0);
         let (packet, events) = match self.sheet {
             Sheet::Early => (&self.joined, self.early()),
+            Sheet::NoVerdict => (&self.joined, vec![(Event::WildRefusal, true)]),
             Sheet::Refused(Answer { refusal, .. }) => (
                 &self.judged,
                 vec![
-                    (Event::RefusedAgain, refusal < NO_REFUSAL && refusal != 8),
+                    (Event::RefusedAgain, refusal != 8),
                     (Event::RefusedTwice, again),
                     (Event::LongAgain, refusal == 8),
                     (Event::RefusedCutShort, taken < self.judged.len()),
-                    (Event::WildRefusal, refusal >= NO_REFUSAL),
                 ],
             ),
             Sheet::Judged => (

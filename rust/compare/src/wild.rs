@@ -1,9 +1,9 @@
 //! Calls to an intake in any state, also in states that no call returns: any phase, length, refusal and place.
 
-use crate::check::LARGEST_SHEET;
+use crate::check::{require, LARGEST_SHEET};
 use crate::event::Event;
 use crate::intakes::Intakes;
-use crate::program::{Intake, NO_REFUSAL};
+use crate::program::{completion_gives, Answer, Intake, NO_REFUSAL};
 use crate::random::Random;
 use crate::rooms::Rooms;
 use crate::tally::Tally;
@@ -42,7 +42,11 @@ fn any_state(random: &mut Random, lengths: &[usize]) -> Intake {
     Intake {
         phase: if random.one_in(6) { random.of_any_size() } else { random.pick(&[0, 1, JUDGED, JUDGED, 3, 4]) },
         length: if random.one_in(6) { random.of_any_size() } else { length },
-        refusal: if random.one_in(2) { 0 } else { random.of_any_size() },
+        refusal: match random.between(0, 3) {
+            0 | 1 => 0,
+            2 => random.between(1, NO_REFUSAL),
+            _ => random.of_any_size(),
+        },
         place: if random.one_in(2) { 0 } else { random.of_any_size() },
     }
 }
@@ -76,12 +80,17 @@ fn completed(intakes: &mut Intakes, tally: &mut Tally) -> Result<(), String> {
 fn asked(intakes: &Intakes, taken: usize, mut lent: Rooms, tally: &mut Tally) -> Result<(), String> {
     let Intake { phase, length, refusal, place } = intakes.state;
     let answer = intakes.sheet(taken, &mut lent)?;
-    let judged = phase == JUDGED && refusal == 0;
+    let verdict = phase == JUDGED && completion_gives(refusal, place);
+    let (early, again) = (answer == Answer::refused(14, 0), answer == Answer::refused(refusal, place));
+    require(verdict || early, "both answered a question in a state without a verdict")?;
+    require(!verdict || refusal == 0 || again, "both gave another refusal than the verdict's")?;
+    let none = phase == JUDGED && !verdict;
     tally.count_events(&[
         (Event::WildPhaseAsked, phase > JUDGED),
-        (Event::WildLengthAsked, judged && length as usize > taken),
-        (Event::WildRefusal, phase == JUDGED && refusal >= NO_REFUSAL),
-        (Event::WildSheet, judged && place > 0 && answer.refusal == 0),
+        (Event::WildLengthAsked, verdict && refusal == 0 && length as usize > taken),
+        (Event::WildRefusal, none && !completion_gives(refusal, 0)),
+        (Event::WildPlace, none && completion_gives(refusal, 0)),
+        (Event::WildVerdict, verdict && refusal > 0),
     ]);
     Ok(())
 }

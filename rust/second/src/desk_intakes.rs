@@ -173,15 +173,32 @@ fn every_state_has_its_outcome() {
     for length in [10, u32::MAX] {
         assert_eq!(gathering(length).deliver(&[1], &mut room), PASSED);
         assert_eq!(gathering(length).complete(&room), LONG);
-        assert_eq!(judged(length, 0, 5).sheet(&room, &mut [0; 9]), EARLY);
+        assert_eq!(judged(length, 0, 0).sheet(&room, &mut [0; 9]), EARLY);
         assert_eq!(judged(length, 0, 5).deliver(&[4], &mut room), gathering(1));
     }
     let past = Intake { phase: 1, length: 3, refusal: 4, place: 5 };
     assert_eq!(past.deliver(&[], &mut room), past);
     assert_eq!(past.deliver(&[1], &mut room), PASSED);
     assert_eq!(past.complete(&room), LONG);
-    assert_eq!(judged(3, 99, u32::MAX).sheet(&[], &mut room), Err(Told { refusal: 99, place: u32::MAX }));
     assert_eq!(room, [4, FILL, FILL, FILL, FILL, FILL, FILL, 1, 2]);
+}
+
+#[test]
+fn a_refusal_or_place_that_no_completion_gives_is_no_verdict() {
+    let mut room = [FILL; 25];
+    for (refusal, place) in
+        [(0, 1), (1, 1), (2, 5), (3, u32::MAX), (8, 39), (9, 0), (12, 0), (14, 0), (15, 0), (77, 5), (u32::MAX, 0)]
+    {
+        assert_eq!(judged(39, refusal, place).sheet(&sample(), &mut room), EARLY, "{refusal} at {place}");
+    }
+    for (refusal, place) in [(1, 0), (2, 0), (3, 0), (4, 24), (5, u32::MAX), (6, 0), (7, 306), (8, 0), (13, 305)] {
+        assert_eq!(judged(39, refusal, place).sheet(&sample(), &mut room), Err(Told { refusal, place }));
+    }
+    assert_eq!(room, [FILL; 25]);
+    let unjudged = judged(39, 77, 5);
+    assert_eq!(unjudged.deliver(&[], &mut room), unjudged);
+    assert_eq!(unjudged.complete(&sample()), judged(0, 1, 0));
+    assert_eq!(unjudged.deliver(&[4], &mut room), gathering(1));
 }
 
 #[test]

@@ -7,6 +7,12 @@ use crate::refusal::{Refusal, Refused};
 const PASSED: u32 = 1;
 const JUDGED: u32 = 2;
 
+/// Refusals of a completion that come with a place.
+const PLACED: [Refusal; 5] = [Refusal::Field, Refusal::Location, Refusal::Bits, Refusal::Padding, Refusal::Left];
+
+/// Refusals of a completion whose place is 0.
+const PLACELESS: [Refusal; 4] = [Refusal::Short, Refusal::Number, Refusal::Size, Refusal::Room];
+
 /// State between two calls, which the caller keeps; any four numbers may be handed over.
 #[derive(Clone, Copy, Debug, Default, PartialEq, Eq)]
 pub struct Intake {
@@ -16,7 +22,7 @@ pub struct Intake {
     pub place: u32,
 }
 
-/// Number and place of a verdict: any two numbers in a state that no call returned.
+/// Number and place of a refusal; a state that no call returned can have any place.
 #[derive(Clone, Copy, Debug, PartialEq, Eq)]
 pub struct Told {
     pub refusal: u32,
@@ -31,6 +37,8 @@ enum Stage {
     Passed,
     /// A packet of this many bytes was accepted, or a packet was refused.
     Judged(Result<usize, Told>),
+    /// Phase 2, with a refusal or a place that no completion gives.
+    NoVerdict,
 }
 
 impl Intake {
@@ -60,25 +68,36 @@ impl Intake {
         match self.stage() {
             Stage::Judged(Ok(length)) => taken.get(..length).map_or(early, |packet| packet_to_sheet(packet, room).map_err(told)),
             Stage::Judged(Err(refused)) => Err(refused),
-            Stage::Gathering(_) | Stage::Passed => early,
+            Stage::Gathering(_) | Stage::Passed | Stage::NoVerdict => early,
         }
     }
 
     fn stage(self) -> Stage {
-        match (self.phase, self.refusal) {
-            (PASSED, _) => Stage::Passed,
-            (JUDGED, 0) => Stage::Judged(Ok(self.length as usize)),
-            (JUDGED, refusal) => Stage::Judged(Err(Told { refusal, place: self.place })),
+        match self.phase {
+            PASSED => Stage::Passed,
+            JUDGED => self.judged(),
             _ => Stage::Gathering(self.length as usize),
         }
     }
 
-    /// Returns how many bytes of the next packet are in the room: 0 after a verdict, nothing after the deliveries passed the room's end.
+    /// Returns the stage of phase 2.
+    fn judged(self) -> Stage {
+        let Intake { length, refusal, place, .. } = self;
+        let is = |given: &Refusal| *given as u32 == refusal;
+        match place {
+            0 if refusal == 0 => Stage::Judged(Ok(length as usize)),
+            0 if PLACELESS.iter().any(is) => Stage::Judged(Err(Told { refusal, place })),
+            _ if PLACED.iter().any(is) => Stage::Judged(Err(Told { refusal, place })),
+            _ => Stage::NoVerdict,
+        }
+    }
+
+    /// Returns how many bytes of the next packet are in the room: 0 in phase 2, nothing after the deliveries passed the room's end.
     fn gathered(self) -> Option<usize> {
         match self.stage() {
             Stage::Gathering(length) => Some(length),
             Stage::Passed => None,
-            Stage::Judged(_) => Some(0),
+            Stage::Judged(_) | Stage::NoVerdict => Some(0),
         }
     }
 }

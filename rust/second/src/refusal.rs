@@ -29,7 +29,8 @@ pub enum Refusal {
     Body = 12,
     /// Bits of the body are left after the last field.
     Left = 13,
-    /// An intake's sheet is asked for before a completion or after the next delivery, or with the packet's room cut short.
+    /// An intake's sheet is asked for before a completion or after the next delivery, in phase 2 with a refusal or a place that no
+    /// completion gives, or with the packet's room cut short.
     Early = 14,
     /// The kind of a segment is neither 0, a packet, nor 1, a sheet.
     Kind = 15,

@@ -1,4 +1,5 @@
 //! The functions of the static library as C declares them, and a safe function for each: the only unsafe code of the crate.
+//! Rust's types keep what the header asks of a caller: a slice's pointer is not null, also if the slice is empty; a bool is 0 or 1.
 #![allow(unsafe_code)]
 
 use crate::Train;

@@ -31,8 +31,9 @@ pub enum Refusal {
     LongBody = 12,
     /// 13: bits of the body are left after the last field.
     BitsLeft = 13,
-    /// 14: an intake's sheet is asked for before a completion or after the next delivery, or with the packet's room cut short. An
-    /// [`Intake`](crate::Intake) never cuts it short.
+    /// 14: an intake's sheet is asked for before a completion, after the next delivery or in phase 2 with a refusal or place that no
+    /// completion gives; or with the packet's room cut short. An [`Intake`](crate::Intake) has only states that the library returned, and
+    /// never cuts its room short.
     TooEarly = 14,
     /// 15: the kind is neither 0 nor 1. A [`Segment`](crate::Segment) never has another.
     UnknownKind = 15,
@@ -65,7 +66,8 @@ const GROUNDS: [(Refusal, &str); 15] = [
     (Refusal::BitsLeft, "bits of the body are left after the last field"),
     (
         Refusal::TooEarly,
-        "an intake's sheet is asked for before a completion or after the next delivery, or with the packet's room cut short",
+        "an intake's sheet is asked for before a completion, after the next delivery or in phase 2 with a refusal or place that no \
+         completion gives; or with the packet's room cut short",
     ),
     (Refusal::UnknownKind, "the kind is neither 0 nor 1"),
 ];
