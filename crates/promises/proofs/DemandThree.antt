@@ -18,7 +18,7 @@ use Rattle.speed.specs.declared.Train.{Train}
 use Rattle.speed_question.specs.declared.Speed.{Speed}
 use Rattle.speed_question.specs.Question.{Brought, mediumOf, permittedSpeed}
 use Rattle.convert.specs.Convert.{successWith, sheetToPacket}
-use Rattle.promises.specs.Promised.{SegmentValues, segmentOf, ConvertibleSheet, Answerable, answerInFives, GreatestFive, Agreeing, Done, result}
+use Rattle.promises.specs.Promised.{SegmentValues, segmentOf, ConvertibleSheet, Answerable, answerInFives, Agreeing, Done, result, Lowered}
 use Rattle.promises.proofs.Agreeing.{packets-agree, agreeing-packets}
 use Rattle.promises.proofs.DemandTwo.{sheet-converted, sheet-result}
 use Rattle.promises.proofs.Speeds.{permitted-speed-value}
@@ -56,11 +56,6 @@ lowered-speed l t x c =
     let m : List Item = givenBack (sheetFields wireChanges) l in
     let taken : fromPacket wireChanges (toPacket wireChanges l) ≡ accepted m = ap (fromPacket wireChanges) (sym (lowered-packet l)) ∙ packet-taken m (lowered-good c) in
     rw (taken, sheet-taken l c) (asked-lowered t x l c)
-
--- the speeds that the operations answer from a sheet and from its packet
-pub record Lowered (s packet : List ℕ) (t : Train) (x : ℕ) : Type 0 where
-  pub answered : permittedSpeed 0 packet t x .refusal ≡ 0
-  pub greatest : GreatestFive (permittedSpeed 1 s t x .speed) (permittedSpeed 0 packet t x .speed)
 
 -- a question that is answered from a converted sheet is answered from its packet, with the greatest multiple of 5 not above
 pub speed-again : (s room : List ℕ) (t : Train) (x : ℕ) → Bytes s → Done (sheetToPacket s room) → Answerable 1 s t x

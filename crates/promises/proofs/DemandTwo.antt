@@ -19,8 +19,8 @@ use Rattle.grammar.proofs.link.Ends.{number-kept}
 use Rattle.speed_question.specs.Question.{Brought}
 use Rattle.altitude.specs.declared.Altitude.{Altitude}
 use Rattle.altitude.specs.Altitude.{centimetres, altitudeOf}
-use Rattle.convert.specs.Convert.{successWith, fitted, converted, packetToSheet, sheetToPacket}
-use Rattle.promises.specs.Promised.{SegmentOfValues, AltitudeOf, ConvertiblePacket, ConvertibleSheet, Done, result, spelled, spelledBits, spelledPacket, Lowering}
+use Rattle.convert.specs.Convert.{successWith, converted, packetToSheet, sheetToPacket}
+use Rattle.promises.specs.Promised.{SegmentOfValues, AltitudeOf, ConvertiblePacket, ConvertibleSheet, Done, result, spelled, spelledBits, spelledPacket, Again}
 use Rattle.promises.proofs.Standing.{altitude-stands}
 use Rattle.promises.proofs.Refused.{segments-on, altitude-values, altitude-answered as answered-altitude}
 use Rattle.promises.proofs.Values.{either-lowered, either-lowered-good, either-good-sheet, segments, either-packets, either-sheets, side-result, side-converted, placed-result, numbers-spelled, bits-spelled, lowering}
@@ -69,16 +69,6 @@ packet-again s room back ok d h =
     ∙ ap (λ (x : List ℕ). successWith x back) (sym (c .whole))
 
 -- "Sheet written and read again: the same sheet, speeds lowered to multiples of 5 km/h and currents to multiples of 10 A."
-pub record Again (s room back : List ℕ) : Type 0 where
-  -- the sheet's values, and these values lowered
-  pub values : List Item
-  pub lower : List Item
-  pub whole : s ≡ toEitherSheet values
-  pub good : EitherSheetValues values
-  pub goodLower : EitherPacketValues lower
-  pub lowers : Lowering linkFields values lower
-  pub again : packetToSheet (result (sheetToPacket s room)) back ≡ fitted (toEitherSheet lower) back
-
 pub sheet-again : (s room back : List ℕ) → Bytes s → Done (sheetToPacket s room) → Again s room back
 unfolding packetToSheet
 sheet-again s room back ok d =

@@ -116,7 +116,7 @@ module _ (medium : ℕ) (s : List ℕ) (t : Train) (x : ℕ) where
     abbrev answer : Read → ℕ × ℕ
     answer j = said (answerOf noSpeed (speedOfValues t x) j)
 
-    pub permitted-speed-refused : (r place : ℕ) → Refuses (said (permittedSpeed medium s t x)) r place ↔ SpeedGround medium s t x r place
+    pub permitted-speed-refused : (r place : ℕ) → Refuses (permittedSpeed medium s t x .refusal, permittedSpeed medium s t x .place) r place ↔ SpeedGround medium s t x r place
     permitted-speed-refused r place = (only, given)
       where
         inside : (b : Brought) → medium ≡ mediumOf b → (l : List Item) → readAs b s ≡ accepted l → said (speedOfValues t x l) ≡ (r, place) → 1 ≤ r → SpeedGround medium s t x r place

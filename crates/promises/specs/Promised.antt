@@ -16,14 +16,14 @@ use Rattle.format.specs.Conforming.{Conforming, InPacket, InSheet}
 use Rattle.format.specs.Grounds.{Front, Among}
 use Rattle.grammar.specs.segment.Segment.{sheetFields, wireChanges}
 use Rattle.grammar.specs.segment.Judgement.{fromPacket, fromSheet, toPacket, toSheet}
-use Rattle.grammar.specs.link.Link.{linkFields, toEitherPacket, toEitherSheet}
+use Rattle.grammar.specs.link.Link.{linkFields, linkBits, toEitherPacket, toEitherSheet}
 use Rattle.grammar.specs.link.Grounds.{EitherPacketValues, EitherSheetValues}
 use Rattle.speed.specs.declared.Train.{Train}
 use Rattle.speed.specs.Speed.{Element, validTrain, segmentLength, inFives}
 use Rattle.speed.specs.Standing.{SegmentStands}
 use Rattle.speed_question.specs.declared.Speed.{Speed}
-use Rattle.speed_question.specs.Question.{Brought, packet, sheet, mediumOf}
-use Rattle.convert.specs.Convert.{Outcome}
+use Rattle.speed_question.specs.Question.{Brought, packet, sheet, mediumOf, permittedSpeed}
+use Rattle.convert.specs.Convert.{Outcome, fitted, packetToSheet, sheetToPacket}
 
 -- whether an item is a good value of a field, in a packet or in a sheet
 abbrev pub goodIn : Brought → Kind → Item → Type 0
@@ -134,6 +134,31 @@ pub record Agreeing (l m : List Item) : Type 0 where
   pub lower : List Item
   pub first : Lowering linkFields l lower
   pub second : Lowering linkFields m lower
+
+-- ---- what is read and written again
+
+-- "Sheet written and read again: the same sheet, speeds lowered to multiples of 5 km/h and currents to multiples of 10 A."
+pub record Again (s room back : List ℕ) : Type 0 where
+  -- the sheet's values, and these values lowered
+  pub values : List Item
+  pub lower : List Item
+  pub whole : s ≡ toEitherSheet values
+  pub good : EitherSheetValues values
+  pub goodLower : EitherPacketValues lower
+  pub lowers : Lowering linkFields values lower
+  pub again : packetToSheet (result (sheetToPacket s room)) back ≡ fitted (toEitherSheet lower) back
+
+-- "the speed from its packet is the greatest multiple of 5 not above the speed from the sheet": the speeds that the operation answers from the sheet s and from its packet
+pub record Lowered (s packet : List ℕ) (t : Train) (x : ℕ) : Type 0 where
+  pub answered : permittedSpeed 0 packet t x .refusal ≡ 0
+  pub greatest : GreatestFive (permittedSpeed 1 s t x .speed) (permittedSpeed 0 packet t x .speed)
+
+-- l are values of a sheet whose body has `bits` bits, whose packet has `packet` bytes and whose sheet has `sheet` bytes; 96 bits of the header stand after L_PACKET_ATO
+pub record Reaches (l : List Item) (bits packet sheet : ℕ) : Type 0 where
+  pub values : EitherSheetValues l
+  pub body : length (linkBits l) ≡ 96 + bits
+  pub packetBytes : length (toEitherPacket l) ≡ packet
+  pub sheetBytes : length (toEitherSheet l) ≡ sheet
 
 -- ---- the values that a question is about
 

@@ -1,4 +1,4 @@
--- An input for each refusal that an operation lists, in the order of the list; for a question on speed, its answer.
+-- An input for each refusal that an operation lists, in the order of the list; for a question on speed, its answer; the smallest and the largest journey.
 use mathlib.Core.Bool.{false}
 use mathlib.Core.List.{List, [], _∷_, _++_, map}
 use Prim.Native.Nat.{ℕ, zero, suc}
@@ -38,13 +38,25 @@ abbrev pub convertedPackets : List (List ℕ)
 convertedPackets = refusedPackets ++ firstPacket ∷ []
 
 -- n copies of a list, one after the other
-abbrev times : ℕ → List ℕ → List ℕ
+abbrev times : {A : Type 0} → ℕ → List A → List A
 times zero l = []
 times (suc n) l = l ++ times n l
 
 -- "a sheet's body would exceed 65,535 bits": a journey of 17 segments with 31 timing points each, 69,167 bits
 abbrev tooManyBits : List ℕ
 tooManyBits = 4 ∷ replicate 6 0 ++ 17 ∷ times 17 (replicate 5 0 ++ 31 ∷ replicate 496 0 ++ 0 ∷ [])
+
+-- "a journey of no segment": Q_JP_Status, N_ITER_SP and the header's five fields, each 0
+abbrev pub smallest : List Item
+smallest = item 4 ∷ replicate 7 (item 0)
+
+-- a segment of a journey with n constraints, every number 0; "the current .. is 1,023 in the packet"
+abbrev segmentWith : ℕ → List Item
+segmentWith n = replicate 6 (item 0) ++ item n ∷ times n (replicate 7 (item 0) ++ record { sheet = 0; packet = 1023 } ∷ [])
+
+-- "at most 65,535 bits": a journey of 44 segments with 856 constraints
+abbrev pub largest : List Item
+largest = item 4 ∷ replicate 6 (item 0) ++ item 44 ∷ times 27 (segmentWith 31) ++ segmentWith 19 ++ times 16 (segmentWith 0)
 
 -- 9, "sheet ends too soon": no byte. 12: too many bits
 abbrev pub convertedSheets : List (List ℕ)

@@ -70,7 +70,7 @@ module _ (i : Intake) (taken room : List ℕ) where
     bytes = bytes-front (i .length) taken ok
 
     -- "Each refusal is given then and not otherwise"
-    pub asked-refused : (r place : ℕ) → Refuses (answerSaid (asked i taken room)) r place ↔ AskedGround i taken room r place
+    pub asked-refused : (r place : ℕ) → Refuses (asked i taken room .answer .refusal, asked i taken room .answer .place) r place ↔ AskedGround i taken room r place
     asked-refused r place = (only, given)
       where
         only : Refuses (answerSaid (asked i taken room)) r place → AskedGround i taken room r place

@@ -14,7 +14,7 @@ use Rattle.convert.specs.Convert.{refusedWith}
 use Rattle.intake.specs.declared.Intake.{Intake}
 use Rattle.intake.specs.Intake.{gathered, holds, Delivered, delivered, asked}
 use Rattle.promises.specs.deliveries.Refused.{Judged}
-use Rattle.promises.specs.deliveries.Calls.{Call, deliver, complete, ask, called, calledAll, fromFresh, opens, opensAll, canBeAsked}
+use Rattle.promises.specs.deliveries.Calls.{Call, deliver, complete, ask, called, calledAll, stateAfter, opens, opensAll, canBeAsked}
 use Rattle.promises.proofs.deliveries.Completed.{completed-judged}
 use Rattle.promises.proofs.deliveries.Asked.{asked-14, asked-returns}
 
@@ -47,14 +47,14 @@ opened-all b x (c ∷ cs) o = opened-all (opens b c) (called x c) cs (opened-on 
 
 module _ (room : List ℕ) (cs : List Call) where
   abbrev state : Intake
-  state = fromFresh room cs .intake
+  state = stateAfter room cs
 
   opened : Opened (canBeAsked cs) state
   opened = opened-all false _ cs (record { judged = λ e. absurd (let z : _≡_ {A = ℕ} 0 1 = cc in omega arith); gathers = λ e p. omega arith })
 
   -- "At any other time asking is refused": 14 exactly then, or "after a verdict that was no refusal, with the packet's room cut short"
   pub calls-14 : (taken out : List ℕ) → Bytes taken
-      → (asked state taken out .answer .refusal ≡ 14) ↔ ((canBeAsked cs ≡ false) ⊎ ((state .refusal ≡ 0) × (length taken < state .length)))
+      → (asked (stateAfter room cs) taken out .answer .refusal ≡ 14) ↔ ((canBeAsked cs ≡ false) ⊎ ((stateAfter room cs .refusal ≡ 0) × (length taken < stateAfter room cs .length)))
   calls-14 taken out ok = (λ d. only (asked-14 state taken out ok .0 d), λ g. asked-14 state taken out ok .1 (given g))
     where
       only : (Judged state → ⊥) ⊎ ((state .refusal ≡ 0) × (length taken < state .length)) → (canBeAsked cs ≡ false) ⊎ ((state .refusal ≡ 0) × (length taken < state .length))
@@ -66,5 +66,5 @@ module _ (room : List ℕ) (cs : List Call) where
       given (inr p) = inr p
 
   -- "where the verdict was a refusal, asking returns that number again", until the next delivery with bytes or the next completion
-  pub calls-returned : canBeAsked cs ≡ true → 1 ≤ state .refusal → (taken out : List ℕ) → asked state taken out ≡ refusedWith (state .refusal) (state .place) out
+  pub calls-returned : canBeAsked cs ≡ true → 1 ≤ stateAfter room cs .refusal → (taken out : List ℕ) → asked (stateAfter room cs) taken out ≡ refusedWith (stateAfter room cs .refusal) (stateAfter room cs .place) out
   calls-returned e h taken out = asked-returns state taken out (opened .judged e) h

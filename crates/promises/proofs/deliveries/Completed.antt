@@ -29,7 +29,7 @@ bytes-front zero s ok = tt
 bytes-front (suc n) [] ok = tt
 bytes-front (suc n) (b ∷ s) ok = (ok .0, bytes-front n s (ok .1))
 
-abbrev pub verdictSaid : Intake → ℕ × ℕ
+abbrev verdictSaid : Intake → ℕ × ℕ
 verdictSaid o = (o .refusal, o .place)
 
 module _ (i : Intake) (room : List ℕ) where
@@ -70,7 +70,7 @@ module _ (i : Intake) (room : List ℕ) where
     bytes = bytes-front (gathered i) room ok
 
     -- "Each refusal is given then and not otherwise"
-    pub completed-refused : (r place : ℕ) → Refuses (verdictSaid (completed i room)) r place ↔ CompletionGround i room r place
+    pub completed-refused : (r place : ℕ) → Refuses (completed i room .refusal, completed i room .place) r place ↔ CompletionGround i room r place
     completed-refused r place = (only, given)
       where
         read : (q : Read) → fromEitherPacket s ≡ q → verdictSaid (judgedOf (gathered i) q) ≡ (r, place) → 1 ≤ r → EitherPacketGround s r place

@@ -2,6 +2,7 @@
 use mathlib.Core.Bool.{Bool, true, false}
 use mathlib.Core.List.{List, [], _∷_}
 use Prim.Native.Nat.{ℕ}
+use Rattle.intake.specs.declared.Intake.{Intake}
 use Rattle.intake.specs.Intake.{gathering, Delivered, delivered, completed}
 
 -- a delivery, the completion, or the question for the sheet, which takes the state by value and "changes nothing"
@@ -21,9 +22,9 @@ abbrev pub calledAll : Delivered → List Call → Delivered
 calledAll x [] = x
 calledAll x (c ∷ cs) = calledAll (called x c) cs
 
--- the state and the room after all calls from a fresh state
-abbrev pub fromFresh : List ℕ → List Call → Delivered
-fromFresh room cs = calledAll (record { intake = gathering 0; room = room }) cs
+-- the state after all calls from a fresh state
+abbrev pub stateAfter : List ℕ → List Call → Intake
+stateAfter room cs = calledAll (record { intake = gathering 0; room = room }) cs .intake
 
 -- "From completion until the next delivery with bytes, or the next completion, the sheet can be asked for": whether it can after one call, by whether it could before
 abbrev pub opens : Bool → Call → Bool

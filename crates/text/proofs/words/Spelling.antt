@@ -6,12 +6,7 @@ use native.Mathlib.Nat.{pow-suc}
 use native.Mathlib.Omega.{arith}
 use lib.Dec.{ltb}
 use Rattle.bits.proofs.Tests.{by-cases}
-use Rattle.text.specs.words.Words.{digitByte, digitsOf, decimal}
-
--- the number that decimal digits spell after digits that spell n
-abbrev pub spelt : ℕ → List ℕ → ℕ
-spelt n [] = n
-spelt n (b ∷ s) = spelt (10 * n + (b - 48)) s
+use Rattle.text.specs.words.Words.{digitByte, digitsOf, decimal, spelt}
 
 spelt-append : (n : ℕ) (s t : List ℕ) → spelt n (s ++ t) ≡ spelt (spelt n s) t
 spelt-append n [] t = refl

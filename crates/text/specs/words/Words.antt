@@ -2,7 +2,7 @@
 use mathlib.Core.Path.{_≡_}
 use mathlib.Core.Bool.{cond}
 use mathlib.Core.List.{List, [], _∷_, _++_}
-use Prim.Native.Nat.{ℕ, zero, suc, _+_, _/_, _%_}
+use Prim.Native.Nat.{ℕ, zero, suc, _+_, _*_, _-_, _/_, _%_}
 use Prim.Native.Char.{code}
 use Prim.Native.String.{String, [] as none, _∷_ as _followed_}
 use lib.Dec.{ltb}
@@ -27,6 +27,11 @@ digitsOf (suc n) v = let more : List ℕ = digitsOf n (v / 10) ++ (digitByte (v 
 -- "Numbers are below 4,294,967,296": at most ten decimal digits
 unfoldable pub decimal : ℕ → List ℕ
 decimal v = digitsOf 10 v
+
+-- the number that decimal digits spell after digits that spell n
+abbrev pub spelt : ℕ → List ℕ → ℕ
+spelt n [] = n
+spelt n (b ∷ s) = spelt (10 * n + (b - 48)) s
 
 -- "signed altitude in cm": a number with its sign
 abbrev pub signedDecimal : ℤ → List ℕ
