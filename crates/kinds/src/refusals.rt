@@ -39,7 +39,8 @@ pub const LONG_BODY: u32 = 12;
 // Bits of the body are left after the last field.
 pub const BITS_LEFT: u32 = 13;
 
-// An intake's sheet is asked for before a completion or after the next delivery, or with the packet's room cut short.
+// An intake's sheet is asked for before a completion, after the next delivery or in phase 2 with a refusal or place that no completion gives;
+// or with the packet's room cut short.
 pub const TOO_EARLY: u32 = 14;
 
 // A speed question brings neither a packet, 0, nor a sheet, 1.
