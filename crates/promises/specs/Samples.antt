@@ -46,15 +46,15 @@ times (suc n) l = l ++ times n l
 abbrev tooManyBits : List ℕ
 tooManyBits = 4 ∷ replicate 6 0 ++ 17 ∷ times 17 (replicate 5 0 ++ 31 ∷ replicate 496 0 ++ 0 ∷ [])
 
--- "a journey of no segment": Q_JP_Status, N_ITER_SP and the header's five fields, each 0
+-- a journey of no segment: Q_JP_Status, N_ITER_SP and the header's five fields, each 0
 abbrev pub smallest : List Item
 smallest = item 4 ∷ replicate 7 (item 0)
 
--- a segment of a journey with n constraints, every number 0; "the current .. is 1,023 in the packet"
+-- a segment of a journey with n constraints, every number 0: "A field the type does not use is 0 in packet and sheet, current 1,023 and 0"
 abbrev segmentWith : ℕ → List Item
 segmentWith n = replicate 6 (item 0) ++ item n ∷ times n (replicate 7 (item 0) ++ record { sheet = 0; packet = 1023 } ∷ [])
 
--- "at most 65,535 bits": a journey of 44 segments with 856 constraints
+-- a body of 65,535 bits: a journey of 44 segments with 856 constraints
 abbrev pub largest : List Item
 largest = item 4 ∷ replicate 6 (item 0) ++ item 44 ∷ times 27 (segmentWith 31) ++ segmentWith 19 ++ times 16 (segmentWith 0)
 
