@@ -24,7 +24,7 @@ pub enum Part {
 // Most changes of the rated voltage, and most changes of the current limitation.
 pub const WIRE_CHANGES: u32 = 31;
 
-// Returns the widths in bits of NID_ENGINE to N_PACKET_COUNTER.
+// Returns the widths in bits of NID_ENGINE to N_Packet_Counter.
 pub fn header_widths() -> [u32; 4]
     ensures { λ r. ⌜ r ≡ headerWidths ⌝ }
 {
@@ -36,7 +36,7 @@ pub fn header_widths() -> [u32; 4]
     ]
 }
 
-// Returns the largest values of NID_ENGINE to N_PACKET_COUNTER.
+// Returns the largest values of NID_ENGINE to N_Packet_Counter.
 pub fn header_most() -> [u32; 4]
     ensures { λ r. ⌜ r ≡ headerMost ⌝ }
 {

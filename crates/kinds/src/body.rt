@@ -211,7 +211,7 @@ impl NcDiff {
     }
 }
 
-// D_LOCATION of a change, in cm: above the last location and below L_SP.
+// D_Location of a change, in cm: above the last location and below L_SP.
 pub struct DLocation;
 
 impl DLocation {

@@ -107,7 +107,7 @@ impl TTimestampSeconds {
     }
 }
 
-// N_PACKET_COUNTER, the packet counter.
+// N_Packet_Counter, the packet counter.
 pub struct NPacketCounter;
 
 impl NPacketCounter {

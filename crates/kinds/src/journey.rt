@@ -161,7 +161,7 @@ impl QTpInformation {
     }
 }
 
-// Q_DayLightSaving, 0 or 1.
+// Q_Day_Light_Saving, 0 or 1.
 pub struct QDayLightSaving;
 
 impl QDayLightSaving {

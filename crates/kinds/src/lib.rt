@@ -30,7 +30,7 @@ pub enum Rule {
         largest: u32,
         refusal: u32,
     },
-    // D_LOCATION of a change: above `last` and below `lsp`.
+    // D_Location of a change: above `last` and below `lsp`.
     Location {
         last: u32,
         lsp: u32,

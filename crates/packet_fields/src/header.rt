@@ -5,7 +5,7 @@ use crate::PacketStep;
 use grammar::segment::layout;
 use kinds::header::NidOperational;
 
-// Judges NID_OPERATIONAL to N_PACKET_COUNTER field by field; one byte of the sheet, the packet number's, is counted before them.
+// Judges NID_OPERATIONAL to N_Packet_Counter field by field; one byte of the sheet, the packet number's, is counted before them.
 pub fn header(s: &[u8], stop: usize) -> PacketStep
     requires { ⌜ Standing (now s) stop 24 1 ⌝ }
     ensures { λ r. ⌜ Over headerRows (now (s .entry)) stop 24 1 r ⌝ }

@@ -57,7 +57,7 @@ pub fn plain(s: &[u8], stop: usize, at: usize, n: usize, rule: Rule) -> PacketSt
     }
 }
 
-// ---- fast paths for N_ITER, D_LOCATION and M_CURRENT, which look up no `Rule`
+// ---- fast paths for N_ITER, D_Location and M_CURRENT, which look up no `Rule`
 
 // Judges N_ITER, at most `limit` (below 128), and returns its value.
 pub fn count(s: &[u8], stop: usize, at: usize, n: usize, limit: u32) -> PacketValue
@@ -75,7 +75,7 @@ pub fn count(s: &[u8], stop: usize, at: usize, n: usize, limit: u32) -> PacketVa
     PacketValue::Is(v, at + COUNT, n + bytes as usize)
 }
 
-// Judges D_LOCATION, above `last` and below `lsp` (cm), and returns its value.
+// Judges D_Location, above `last` and below `lsp` (cm), and returns its value.
 pub fn location(s: &[u8], stop: usize, at: usize, n: usize, last: u32, lsp: u32) -> PacketValue
     requires { ⌜ Standing (now s) stop at n ⌝ }
     ensures { λ r. ⌜ Took (dLocation last lsp) (now (s .entry)) stop at n r ⌝ }

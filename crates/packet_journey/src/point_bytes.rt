@@ -22,7 +22,7 @@ pub fn latest_bytes(t: u32) -> u32
     numbers::write::groups(t / 131072) + numbers::write::groups(seconds)
 }
 
-// Bytes of T_Arrival_Window to Q_DayLightSaving in the sheet, or 0 if one is refused. `t` is their 17 bits.
+// Bytes of T_Arrival_Window to Q_Day_Light_Saving in the sheet, or 0 if one is refused. `t` is their 17 bits.
 // Only the window has more than one byte.
 pub fn marks_bytes(t: u32) -> u32
     requires { ⌜ t < 131072 ⌝ }

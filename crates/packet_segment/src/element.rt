@@ -45,7 +45,7 @@ fn cut_entry(s: &[u8], stop: usize, at: usize, n: usize) -> PacketStep
     }
 }
 
-// Above the bytes of an entry in the sheet: `FAULT + d` says that the field `d` bits into the entry is refused.
+// More than the sheet bytes of any entry. `FAULT + d` says that the field `d` bits into the entry is refused.
 const FAULT: usize = 16;
 
 // The first six bits of an entry, Q_DIFF and class, are its name. The bit `n` is set if the name `n` is allowed.

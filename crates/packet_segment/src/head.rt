@@ -59,10 +59,10 @@ fn cut_head(s: &[u8], stop: usize) -> PacketValue
 
 // ---- fast path: the bits are all present, and each field stands at a constant place from the packet's start
 
-// Least bytes of a packet for the fast path: eight bytes can be read from the first byte of each field on. A packet with all of the head has no fewer.
+// Least bytes of a packet for the fast path: eight bytes can be read from the first byte of each field before the lists. A packet that has all those fields is as long.
 const LONG: usize = layout::ALTITUDE / 8 + 9;
 
-// Bytes of NID_ENGINE to N_PACKET_COUNTER in the sheet, or 0 if the seconds are refused.
+// Bytes of NID_ENGINE to N_Packet_Counter in the sheet, or 0 if the seconds are refused.
 fn header_bytes(s: &[u8]) -> usize
     requires { ⌜ 38 ≤ length (now s) ⌝ }
     ensures { λ r. ⌜ r ≡ rowBytes headerMost (fieldsAt (now (s .entry)) 56 headerWidths) ⌝ }

@@ -78,7 +78,7 @@ fn lists(sheet: &[u8], room: &mut [u8], p: PacketSpot, lsp: u32) -> PacketSpot
     list(Part::Amperes, sheet, room, two, lsp, WIRE_CHANGES)
 }
 
-// Puts NID_ENGINE to N_PACKET_COUNTER, 64 bits.
+// Puts NID_ENGINE to N_Packet_Counter, 64 bits.
 fn header_row(sheet: &[u8], room: &mut [u8], p: PacketSpot) -> PacketSpot
     requires { ⌜ Ready (rows.row headerWidths headerMost) (now sheet) (now room) p ⌝ }
     ensures { λ r. ⌜ Wrote (rows.row headerWidths headerMost) (now (sheet .entry)) (now (room .entry)) p (now (room .exit)) r × (r .at ≡ p .at + 64) ⌝ }

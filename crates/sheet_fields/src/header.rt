@@ -6,7 +6,7 @@ use crate::SheetStep;
 use crate::operational;
 use crate::row::row;
 
-// Judges NID_ENGINE to N_PACKET_COUNTER at the byte `at`, with `n` bits counted before them.
+// Judges NID_ENGINE to N_Packet_Counter at the byte `at`, with `n` bits counted before them.
 fn header_row(s: &[u8], at: usize, n: u32) -> SheetStep
     requires { ⌜ Standing (now s) at ⌝ }
     ensures { λ r. ⌜ Over (rows.row parts.headerWidths parts.headerMost) (now (s .entry)) at n r ⌝ }
@@ -16,7 +16,7 @@ fn header_row(s: &[u8], at: usize, n: u32) -> SheetStep
     row(s, at, n, &widths, &most)
 }
 
-// Judges NID_OPERATIONAL to N_PACKET_COUNTER at the byte `at`, with `n` bits counted before them.
+// Judges NID_OPERATIONAL to N_Packet_Counter at the byte `at`, with `n` bits counted before them.
 pub fn header(s: &[u8], at: usize, n: u32) -> SheetStep
     requires { ⌜ Standing (now s) at ⌝ }
     ensures { λ r. ⌜ Over parts.headerRows (now (s .entry)) at n r ⌝ }

@@ -89,7 +89,7 @@ pub fn single(s: &[u8], at: usize, n: u32, width: u32, largest: u32) -> SheetVal
     ranged(s, at, n, width, 0, largest, FIELD_VALUE)
 }
 
-// Judges D_LOCATION, above `last` and below `lsp` (cm), and returns its value.
+// Judges D_Location, above `last` and below `lsp` (cm), and returns its value.
 pub fn location(s: &[u8], at: usize, n: u32, last: u32, lsp: u32) -> SheetValue
     requires { ⌜ Standing (now s) at ⌝ }
     ensures { λ r. ⌜ Took (kind.dLocation last lsp) (now (s .entry)) at n r ⌝ }

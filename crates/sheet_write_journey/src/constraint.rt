@@ -21,7 +21,8 @@ fn start(packet: &[u8], at: usize, room: &mut [u8], n: usize) -> usize
     numbers::write::put_number(room, third, t % 16777216)
 }
 
-// Writes Q_FRONT, the speed, the adhesion and the current, 1, 7, 3 and 10 bits, from the byte `n` of `room` on; returns the byte after them. For speed there is no branch on the type: an unused speed is 0 in both media, and the current is always 0.
+// Writes Q_FRONT, the speed, the adhesion and the current, 1, 7, 3 and 10 bits, from the byte `n` of `room` on; returns the byte after them.
+// For speed, no branch depends on the type: an unused speed is 0 in both media, and the sheet's current is always 0.
 fn restriction(packet: &[u8], at: usize, room: &mut [u8], n: usize) -> usize
     requires { ⌜ RestrictionFits (now packet) at (filled (now room) n) ⌝ }
     ensures { λ r. ⌜ filled (now (room .exit)) r ≡ putAll (filled (now (room .entry)) n) (restrictionAt (now (packet .entry)) at) ⌝ }

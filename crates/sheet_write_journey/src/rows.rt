@@ -95,7 +95,7 @@ fn closing(packet: &[u8], at: usize, room: &mut [u8], n: usize) -> usize
     one(room, second, t % 2)
 }
 
-// Writes a timing point, NID_TP to Q_Automatic_Closing, from the byte `n` of `room` on; returns the byte after it. The fields equal their numbers at every kind of stop.
+// Writes a timing point, NID_TP to Q_Automatic_Closing, from the byte `n` of `room` on; returns the byte after it. The fields equal their numbers whatever Q_Stop_Skip_Passes is.
 pub fn point(packet: &[u8], at: usize, room: &mut [u8], n: usize) -> usize
     requires { ⌜ Row (now packet) at pointWidths (filled (now room) n) ⌝ }
     ensures { λ r. ⌜ filled (now (room .exit)) r ≡ copied (now (packet .entry)) at pointWidths (filled (now (room .entry)) n) ⌝ }

@@ -11,7 +11,7 @@ use grammar::segment::layout;
 use kinds::body;
 use kinds::header;
 
-// Writes NID_OPERATIONAL to N_PACKET_COUNTER from the byte `n` of `room` on; returns the byte after them. Both trees begin with them.
+// Writes NID_OPERATIONAL to N_Packet_Counter from the byte `n` of `room` on; returns the byte after them. Both trees begin with them.
 pub fn header(packet: &[u8], room: &mut [u8], n: usize) -> usize
     requires { ⌜ Row (now packet) 24 headerFields (filled (now room) n) ⌝ }
     ensures { λ r. ⌜ filled (now (room .exit)) r ≡ copied (now (packet .entry)) 24 headerFields (filled (now (room .entry)) n) ⌝ }

@@ -11,12 +11,13 @@ use speed::Train;
 // `NONE` and every larger number stand for no speed. Speeds are below it, so the lower of a speed and no speed is the speed, and no flag is needed.
 pub const NONE: u32 = 1024;
 
-// An entry by cant deficiency is one number, distance * SPEEDS + speed. `NO_FIGURE` stands for no entry.
+// An entry by cant deficiency is one number, distance * SPEEDS + speed. `NO_FIGURE` and every larger number stand for no entry.
 const NO_FIGURE: u64 = 4398046511104;
 
+// More than any speed in km/h.
 const SPEEDS: u64 = 1024;
 
-// Distances are modulo this.
+// Distances, in mm, are counted modulo `DISTANCES`.
 const DISTANCES: u64 = 18014398509481984;
 
 // Added to a figure for each Q_DIFF: more than any cant deficiency.

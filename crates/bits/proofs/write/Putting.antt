@@ -1,4 +1,4 @@
--- One field more after the bits that are put: the number of what waits, and the bytes.
+-- One field more after the bits that are put: the number of the bits that are kept, and the bytes.
 use mathlib.Core.Path.{_≡_, refl, sym, ap, ap₂, _∙_}
 use mathlib.Core.Bool.{Bool}
 use mathlib.Core.List.{List, [], _∷_, _++_}
@@ -81,7 +81,7 @@ bytes-pack (suc n) t =
     rw (f, high (number p) (8 * n) b, mod-eq-of-lt s)
     (ap (λ (r : List ℕ). number p ∷ r) (bytes-low n (number p) (number q) ∙ bytes-pack n (drop 8 t)))
 
--- ---- what waits
+-- ---- the bits that are kept
 
 number-zeros : (n : ℕ) → number (zeros n) ≡ 0
 number-zeros n = sym (ap number (zero-bits n)) ∙ number-bits n 0 ∙ zero-mod (2 ^ n)
@@ -97,7 +97,7 @@ top t n h = rw (fill-zeros t n h, number-append t (zeros (n - length t)), number
 sixty-four : (t : List Bool) → number (fill 64 t) < 2 ^ 64
 sixty-four t = rw (length-fill 64 t) at (number-small (fill 64 t))
 
--- a field after the bits that wait
+-- a field after the bits that are kept
 join : (t : List Bool) (w v : ℕ) → length t + w ≤ 64 → v < 2 ^ w → number (fill 64 (t ++ bitsOf w v)) ≡ number (fill 64 t) + v * 2 ^ (64 - (length t + w))
 join t w v h l =
     let d : ℕ = 64 - (length t + w) in
@@ -106,7 +106,7 @@ join t w v h l =
     top (t ++ bitsOf w v) 64 (omega arith)
     ∙ rw (n, number-append t (bitsOf w v), length-bits w v, number-bits w v, mod-eq-of-lt l, top t 64 (omega arith), e, pow-add 2 w d) (omega arith)
 
--- what waits once m whole bytes are out
+-- the bits that are kept once m whole bytes are stored
 shift : (t : List Bool) (m : ℕ) → m ≤ 8 → length t ≤ 64 → number (fill 64 t) * 2 ^ (m * 8) % 2 ^ 64 ≡ number (fill 64 (drop (8 * m) t))
 shift t m h l =
     let d : ℕ = 64 - 8 * m in

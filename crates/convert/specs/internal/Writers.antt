@@ -1,4 +1,4 @@
--- What the conversions of one tree and their writers are held to, once everything is judged; no promise names it.
+-- What the conversions of one tree and their writers must do, once everything is judged; no promise names it.
 use mathlib.Core.Path.{_≡_}
 use mathlib.Core.Bool.{Bool}
 use mathlib.Core.List.{List}

@@ -41,7 +41,7 @@ body limit =
     then nidC (then nidSp (then mSpVersion (then mSpVersion
     (field lSp λ lsp. then dEoAOffset (then qUtcOffset (then mSpAltitude (lists limit lsp)))))))
 
--- "Header, 120 bits": its fields after L_PACKET_ATO, NID_OPERATIONAL 32, NID_ENGINE 24, T_Timestamp 15 + 17, N_PACKET_COUNTER 8
+-- "Header, 120 bits": its fields after L_PACKET_ATO, NID_OPERATIONAL 32, NID_ENGINE 24, T_Timestamp 15 + 17, N_Packet_Counter 8
 abbrev pub header : Format → Format
 header f = then nidOperational (then nidEngine (then tTimestampDate (then tTimestampSeconds (then nPacketCounter f))))
 

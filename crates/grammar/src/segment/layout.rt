@@ -17,7 +17,7 @@ pub const DATE: usize = ENGINE + header::NidEngine::WIDTH as usize;
 // Place of T_Timestamp_Seconds, in bits from the packet's start.
 pub const SECONDS: usize = DATE + header::TTimestampDate::WIDTH as usize;
 
-// Place of N_PACKET_COUNTER, in bits from the packet's start.
+// Place of N_Packet_Counter, in bits from the packet's start.
 pub const COUNTER: usize = SECONDS + header::TTimestampSeconds::WIDTH as usize;
 
 // Place of NID_C, in bits from the packet's start.
@@ -71,7 +71,7 @@ pub const WIRE_WIDTH: u32 = body::MVoltage::WIDTH + body::NidCTraction::WIDTH;
 // `WIRE_WIDTH` as `usize`, to add to a place.
 pub const WIRE: usize = WIRE_WIDTH as usize;
 
-// Bits of D_LOCATION of a change.
+// Bits of D_Location of a change.
 pub const LOCATION: usize = body::DLocation::WIDTH as usize;
 
 // Place of the body, in bits from the packet's start.

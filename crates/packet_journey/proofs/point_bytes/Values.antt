@@ -23,7 +23,7 @@ module _ (t : ℕ) where
       let p : t / 131072 % 32768 ≡ t / 131072 = omega arith in
       all-bytes latestMost (lowParts latestWidths t) (omega arith, (omega arith, tt)) (rw p (omega (arith, ea, eb)))
 
-  -- ---- T_Arrival_Window to Q_DayLightSaving
+  -- ---- T_Arrival_Window to Q_Day_Light_Saving
 
   pub alignment-none : 2 < t / 32 % 4 → 0 ≡ rowBytes marksMost (lowParts marksWidths t)
   alignment-none h = no-bytes marksMost (lowParts marksWidths t) (λ k. omega (arith, h, k .1 .0))

@@ -95,8 +95,7 @@ within (d ∷ ds) p rest e =
     let later = within ds (p ++ d) (drop (length d) rest) (same-holds p rest d n fits ∙ rw l at e) in
     rw (put p rest d some now) (later ∙ rw (same-count p rest d n fits, append-assoc p d (flatten ds), drop-drop n (length d) rest, l)))
 
--- the deliveries end past the room's end, and some of their bytes were written
--- if the room does not hold all deliveries: those before the first that passes its end, which the room begins with after the bytes p
+-- if the room does not hold all deliveries: the deliveries before the first that passes its end; the room begins with the bytes p and these deliveries
 record Beyond (ds : List (List ℕ)) (p rest : List ℕ) : Type 0 where
   pub before : List (List ℕ)
   pub first : List ℕ

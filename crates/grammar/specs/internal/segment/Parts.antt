@@ -24,7 +24,7 @@ threeLists lsp f = part profile 31 lsp (part voltage wireChanges lsp (part curre
 
 -- ---- the fields before the speed profile, in rows: their widths and their largest values
 
--- NID_ENGINE to N_PACKET_COUNTER, after NID_OPERATIONAL
+-- NID_ENGINE to N_Packet_Counter, after NID_OPERATIONAL
 abbrev pub headerWidths : List ℕ
 headerWidths = 24 ∷ 15 ∷ 17 ∷ 8 ∷ []
 

@@ -10,7 +10,7 @@ latestWidths = 15 ∷ 17 ∷ []
 abbrev pub latestMost : List ℕ
 latestMost = 32767 ∷ 86400 ∷ []
 
--- T_Arrival_Window to Q_DayLightSaving, with Q_Stop_Skip_Passes among them
+-- T_Arrival_Window to Q_Day_Light_Saving, with Q_Stop_Skip_Passes among them
 abbrev pub marksWidths : List ℕ
 marksWidths = 10 ∷ 2 ∷ 2 ∷ 2 ∷ 1 ∷ []
 

@@ -3,7 +3,7 @@ use mathlib.Core.List.{List, _∷_, _++_}
 use Prim.Native.Nat.{ℕ}
 use Rattle.grammar.specs.internal.segment.Parts.{headerWidths, identityWidths, offsetWidths}
 
--- NID_OPERATIONAL to N_PACKET_COUNTER, as every packet begins
+-- NID_OPERATIONAL to N_Packet_Counter, as every packet begins
 abbrev pub headerFields : List ℕ
 headerFields = 32 ∷ headerWidths
 
