@@ -1,4 +1,4 @@
--- `elements::by_cant` meets its contract.
+-- `speed_element::by_cant` meets its contract.
 use Prim.Native.Nat.{_/_}
 use borrow.Author.Needs.{needs}
 use borrow.Author.Tests.{le-leb, lt-leb}

@@ -1,4 +1,4 @@
--- `elements::counted` meets its contract.
+-- `speed_element::counted` meets its contract.
 use native.Mathlib.Omega.{arith}
 use Rattle.speed_element.proofs.Lowest.{both-most, counted-as}
 use borrow.Author.Needs.{needs}

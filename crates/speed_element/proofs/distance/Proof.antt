@@ -1,4 +1,4 @@
--- `elements::distance` meets its contract.
+-- `speed_element::distance` meets its contract.
 use native.Mathlib.Omega.{arith}
 use borrow.Author.Needs.{needs}
 use Rattle.speed_element.proofs.distance.Statement.{statement}

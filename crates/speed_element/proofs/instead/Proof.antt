@@ -1,4 +1,4 @@
--- `elements::instead` meets its contract.
+-- `speed_element::instead` meets its contract.
 use borrow.Author.Tests.{lt-ltb, le-ltb}
 use Rattle.speed_element.proofs.instead.Statement.{statement}
 use Rattle.speed_element.proofs.instead.Tie as tie

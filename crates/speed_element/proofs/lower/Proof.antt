@@ -1,4 +1,4 @@
--- `elements::lower` meets its contract.
+-- `speed_element::lower` meets its contract.
 use native.Mathlib.Omega.{arith}
 use Rattle.speed_element.proofs.lower.Statement.{statement}
 use Rattle.speed_element.proofs.lower.Tie as tie

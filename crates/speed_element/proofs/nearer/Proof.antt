@@ -1,4 +1,4 @@
--- `elements::nearer` meets its contract.
+-- `speed_element::nearer` meets its contract.
 use native.Mathlib.Omega.{arith}
 use Rattle.speed_element.proofs.nearer.Statement.{statement}
 use Rattle.speed_element.proofs.nearer.Tie as tie

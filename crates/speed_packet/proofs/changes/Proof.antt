@@ -1,4 +1,4 @@
--- `ask_packet::changes` meets its contract.
+-- `speed_packet::changes` meets its contract.
 use denote.Ref.{now}
 use native.Mathlib.Omega.{arith}
 use Rattle.speed_element.proofs.Reading.{Ending, ending-all, ending-next}

@@ -1,4 +1,4 @@
--- `ask_packet::length_of` meets its contract.
+-- `speed_packet::length_of` meets its contract.
 use mathlib.Core.Path.{sym, _∙_}
 use denote.Ref.{now}
 use lib.Dec.{lit≤, lit<}

@@ -1,4 +1,4 @@
--- `ask_packet::next` meets its contract.
+-- `speed_packet::next` meets its contract.
 use mathlib.Core.Path.{refl}
 use native.Mathlib.Omega.{arith}
 use denote.Ref.{now}

@@ -1,4 +1,4 @@
--- `ask_packet::permitted` meets its contract.
+-- `speed_packet::permitted` meets its contract.
 use denote.Ref.{now}
 use Rattle.speed_packet.proofs.Head.{profile-readable, speed-asked}
 use borrow.Author.Needs.{needs}

@@ -1,4 +1,4 @@
--- `ask_packet::profile` meets its contract.
+-- `speed_packet::profile` meets its contract.
 use mathlib.Core.Path.{refl}
 use Prim.Native.Nat.{_+_}
 use native.Mathlib.Omega.{arith}

@@ -1,4 +1,4 @@
--- `filling::put` meets its contract.
+-- `bits::write::put` meets its contract.
 use denote.Ref.{now}
 use Rattle.bits.proofs.write.Putting.{filling}
 use borrow.Author.Needs.{needs}

@@ -1,4 +1,4 @@
--- `filling::store_eight` meets its contract.
+-- `bits::write::store_eight` meets its contract.
 use denote.Ref.{now}
 use Rattle.bits.proofs.write.Putting.{bytes-halves}
 use borrow.Author.Needs.{needs}

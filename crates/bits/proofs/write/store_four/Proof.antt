@@ -1,4 +1,4 @@
--- `filling::store_four` meets its contract.
+-- `bits::write::store_four` meets its contract.
 use denote.Ref.{now}
 use Rattle.bits.proofs.write.Putting.{bytes-halves}
 use borrow.Author.Needs.{needs}

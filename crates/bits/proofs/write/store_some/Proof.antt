@@ -1,4 +1,4 @@
--- `filling::store_some` meets its contract. The loop's invariant: what is left to set, from the byte j on, stands at the top of rest. The measure is what is left of the slice.
+-- `bits::write::store_some` meets its contract. The loop's invariant: what is left to set, from the byte j on, stands at the top of rest. The measure is what is left of the slice.
 use mathlib.Core.Path.{_≡_, refl, sym, _∙_}
 use Prim.Native.Nat.{ℕ, suc, _+_, _*_, _-_, _/_, _%_, _^_, _≤_, _<_}
 use native.Mathlib.Nat.{mod-eq-of-lt, mul-one}

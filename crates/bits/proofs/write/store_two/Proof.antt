@@ -1,4 +1,4 @@
--- `filling::store_two` meets its contract.
+-- `bits::write::store_two` meets its contract.
 use Prim.Native.Nat.{suc, _+_}
 use mathlib.Core.Path.{_≡_}
 use native.Mathlib.Nat.{div-one}

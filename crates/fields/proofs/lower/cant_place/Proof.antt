@@ -1,4 +1,4 @@
--- `lowering::cant_place` meets its contract.
+-- `fields::lower::cant_place` meets its contract.
 use mathlib.Core.Path.{sym, ap, _∙_}
 use mathlib.Core.List.{List}
 use Prim.Native.Nat.{ℕ, _<_}

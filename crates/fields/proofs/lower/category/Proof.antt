@@ -1,4 +1,4 @@
--- `lowering::category` meets its contract.
+-- `fields::lower::category` meets its contract.
 use Rattle.fields.proofs.lower.Lowering.{category-in, category-out}
 use native.Mathlib.Omega.{arith}
 use Rattle.fields.proofs.lower.category.Statement.{statement}

@@ -1,4 +1,4 @@
--- `lowering::class_place` meets its contract.
+-- `fields::lower::class_place` meets its contract.
 use mathlib.Core.Path.{_∙_}
 use Rattle.fields.proofs.lower.Lowering.{class-other}
 use borrow.Author.Needs.{needs}

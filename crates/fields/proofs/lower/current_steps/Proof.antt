@@ -1,4 +1,4 @@
--- `lowering::current_steps` meets its contract.
+-- `fields::lower::current_steps` meets its contract.
 use Rattle.fields.proofs.lower.Lowering.{current-in, current-out}
 use native.Mathlib.Omega.{arith}
 use borrow.Author.Needs.{needs}

@@ -1,4 +1,4 @@
--- `lowering::speed_steps` meets its contract.
+-- `fields::lower::speed_steps` meets its contract.
 use Rattle.fields.proofs.lower.Lowering.{speed-in, speed-out}
 use native.Mathlib.Omega.{arith}
 use Rattle.fields.proofs.lower.speed_steps.Statement.{statement}

@@ -1,4 +1,4 @@
--- `lowering::volts_place` meets its contract.
+-- `fields::lower::volts_place` meets its contract.
 use mathlib.Core.Path.{_≡_, refl, sym, _∙_}
 use mathlib.Core.Option.{none, some}
 use Prim.Native.Nat.{_≤_, _-_}

@@ -1,4 +1,4 @@
--- `raise::class` meets its contract.
+-- `fields::raise::class` meets its contract.
 use mathlib.Core.Path.{_∙_}
 use Rattle.fields.proofs.raise.Raised.{class-place, class-raised}
 use borrow.Author.Needs.{needs}

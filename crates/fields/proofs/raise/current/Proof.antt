@@ -1,4 +1,4 @@
--- `raise::current` meets its contract.
+-- `fields::raise::current` meets its contract.
 use native.Mathlib.Omega.{arith}
 use borrow.Author.Tests.{ne-eqb}
 use Rattle.fields.proofs.raise.Raised.{current-small}

@@ -1,4 +1,4 @@
--- `raise::volts` meets its contract.
+-- `fields::raise::volts` meets its contract.
 use mathlib.Core.Path.{refl}
 use borrow.Author.Needs.{needs}
 use borrow.Author.Tests.{ltb-true}

@@ -1,4 +1,4 @@
--- `counts::after` meets its contract.
+-- `fields::size::after` meets its contract.
 use native.Mathlib.Omega.{arith}
 use Rattle.kinds.specs.Kinds.{dEndAfter}
 use Rattle.fields.proofs.size.Bytes.{bytes-some, bytes-none, after-low, after-high, after-in}

@@ -1,4 +1,4 @@
--- `counts::after_refusal` meets its contract.
+-- `fields::size::after_refusal` meets its contract.
 use native.Mathlib.Omega.{arith}
 use borrow.Author.Tests.{le-leb, lt-leb}
 use Rattle.fields.proofs.size.after_refusal.Statement.{statement}

@@ -1,4 +1,4 @@
--- `counts::by` meets its contract.
+-- `fields::size::by` meets its contract.
 use borrow.Author.Needs.{needs}
 use Rattle.fields.proofs.size.by.Statement.{statement}
 use Rattle.fields.proofs.size.by.Tie as tie

@@ -1,4 +1,4 @@
--- `counts::cant` meets its contract.
+-- `fields::size::cant` meets its contract.
 use native.Mathlib.Omega.{arith}
 use Rattle.kinds.specs.Kinds.{ncCdDiff}
 use borrow.Author.Tests.{lt-ltb, le-ltb}

@@ -1,4 +1,4 @@
--- `counts::class` meets its contract.
+-- `fields::size::class` meets its contract.
 use native.Mathlib.Omega.{arith}
 use lib.Dec.{eqb, leb}
 use Rattle.fields.proofs.size.Bytes.{both-small, class-out, class-in}

@@ -1,4 +1,4 @@
--- `counts::current` meets its contract.
+-- `fields::size::current` meets its contract.
 use native.Mathlib.Omega.{arith}
 use Rattle.kinds.specs.Kinds.{mCurrent}
 use Rattle.fields.proofs.size.Bytes.{bytes-some, current-none, current-out, current-allowed}

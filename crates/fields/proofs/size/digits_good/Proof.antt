@@ -1,4 +1,4 @@
--- `counts::digits_good` meets its contract.
+-- `fields::size::digits_good` meets its contract.
 use native.Mathlib.Omega.{arith}
 use lib.Bits.{and-le-r}
 use Rattle.fields.proofs.size.Nibbles.{tops-digits}

@@ -1,4 +1,4 @@
--- `counts::location` meets its contract.
+-- `fields::size::location` meets its contract.
 use native.Mathlib.Omega.{arith}
 use Rattle.kinds.specs.Kinds.{dLocation}
 use Rattle.fields.proofs.size.Bytes.{bytes-some, bytes-none, location-low, location-high, location-in}

@@ -1,4 +1,4 @@
--- `counts::most_class` meets its contract.
+-- `fields::size::most_class` meets its contract.
 use Rattle.fields.proofs.size.Bytes.{other-class}
 use borrow.Author.Needs.{needs}
 use Rattle.fields.proofs.size.most_class.Statement.{statement}

@@ -1,4 +1,4 @@
--- `counts::no_current` meets its contract.
+-- `fields::size::no_current` meets its contract.
 use borrow.Author.Tests.{ne-eqb}
 use Rattle.numbers.specs.Numbers.{groupsIn}
 use Rattle.fields.proofs.size.no_current.Statement.{statement}

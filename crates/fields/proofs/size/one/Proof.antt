@@ -1,4 +1,4 @@
--- `counts::one` meets its contract.
+-- `fields::size::one` meets its contract.
 use native.Mathlib.Omega.{arith}
 use Rattle.kinds.specs.Kind.{range}
 use Rattle.fields.proofs.size.Bytes.{bytes-some, bytes-none, high-out, both-in, one-byte}

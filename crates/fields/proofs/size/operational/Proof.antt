@@ -1,4 +1,4 @@
--- `counts::operational` meets its contract.
+-- `fields::size::operational` meets its contract.
 use mathlib.Core.Path.{sym, _∙_}
 use Rattle.kinds.specs.Kinds.{nidOperational}
 use Rattle.fields.proofs.size.Bytes.{bytes-some, bytes-none}

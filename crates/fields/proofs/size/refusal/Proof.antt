@@ -1,4 +1,4 @@
--- `counts::refusal` meets its contract.
+-- `fields::size::refusal` meets its contract.
 use borrow.Author.Needs.{needs}
 use Rattle.fields.proofs.size.refusal.Statement.{statement}
 use Rattle.fields.proofs.size.refusal.Tie as tie

@@ -1,4 +1,4 @@
--- `counts::short` meets its contract.
+-- `fields::size::short` meets its contract.
 use native.Mathlib.Omega.{arith}
 use Rattle.fields.proofs.size.Bytes.{one-byte, two-bytes}
 use Rattle.fields.proofs.size.short.Statement.{statement}

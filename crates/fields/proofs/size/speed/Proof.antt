@@ -1,4 +1,4 @@
--- `counts::speed` meets its contract.
+-- `fields::size::speed` meets its contract.
 use native.Mathlib.Omega.{arith}
 use Rattle.kinds.specs.Kinds.{speed}
 use borrow.Author.Tests.{le-leb, lt-leb, lt-ltb, le-ltb}

@@ -1,4 +1,4 @@
--- `counts::traction` meets its contract.
+-- `fields::size::traction` meets its contract.
 use native.Mathlib.Omega.{arith}
 use Rattle.kinds.specs.Kinds.{mostTraction, nidCTraction}
 use Rattle.fields.proofs.size.Bytes.{bytes-some, bytes-none, high-out, both-in, traction-small}

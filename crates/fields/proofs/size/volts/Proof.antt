@@ -1,4 +1,4 @@
--- `counts::volts` meets its contract.
+-- `fields::size::volts` meets its contract.
 use native.Mathlib.Omega.{arith}
 use Rattle.kinds.specs.Kinds.{mVoltage}
 use borrow.Author.Tests.{lt-ltb, le-ltb, eq-eqb, ne-eqb}

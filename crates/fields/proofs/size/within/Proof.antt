@@ -1,4 +1,4 @@
--- `counts::within` meets its contract.
+-- `fields::size::within` meets its contract.
 use native.Mathlib.Omega.{arith}
 use Rattle.kinds.specs.Kind.{range}
 use Rattle.fields.proofs.size.Bytes.{bytes-some, bytes-none, low-out, high-out, both-in}

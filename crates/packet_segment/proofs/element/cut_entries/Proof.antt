@@ -1,4 +1,4 @@
--- `judge_element::cut_entries` meets its contract.
+-- `packet_segment::element::cut_entries` meets its contract.
 use borrow.Author.Needs.{needs}
 use native.Mathlib.Omega.{arith}
 use Prim.Native.Nat.{_-_}

@@ -1,4 +1,4 @@
--- `judge_element::cut_entry` meets its contract.
+-- `packet_segment::element::cut_entry` meets its contract.
 use lib.Dec.{lit≤}
 use Rattle.kinds.specs.Kinds.{class, speed}
 use Rattle.format.specs.Format.{then}

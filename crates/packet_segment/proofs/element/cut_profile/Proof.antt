@@ -1,4 +1,4 @@
--- `judge_element::cut_profile` meets its contract.
+-- `packet_segment::element::cut_profile` meets its contract.
 use lib.Dec.{lit≤, lit<}
 use Rattle.format.proofs.Ways.{gave-on, gave-off, gave-took}
 use borrow.Author.Needs.{needs}

@@ -1,4 +1,4 @@
--- `judge_element::cut_wire` meets its contract.
+-- `packet_segment::element::cut_wire` meets its contract.
 use lib.Dec.{lit≤}
 use Rattle.kinds.specs.Kinds.{nidCTraction}
 use Rattle.format.specs.Format.{then}

@@ -1,4 +1,4 @@
--- `judge_element::element` meets its contract.
+-- `packet_segment::element::element` meets its contract.
 use borrow.Author.Needs.{needs}
 use Rattle.packet_segment.proofs.element.element.Statement.{statement}
 use Rattle.packet_segment.proofs.element.element.Tie as tie

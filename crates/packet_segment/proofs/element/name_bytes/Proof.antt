@@ -1,4 +1,4 @@
--- `judge_element::name_bytes` meets its contract.
+-- `packet_segment::element::name_bytes` meets its contract.
 use Rattle.packet_segment.proofs.element.Names.{name-off, name-on}
 use borrow.Author.Needs.{needs}
 use Rattle.packet_segment.proofs.element.name_bytes.Statement.{statement}

@@ -1,4 +1,4 @@
--- `judge_element::profile` meets its contract.
+-- `packet_segment::element::profile` meets its contract.
 use Rattle.grammar.specs.segment.Segment.{entries}
 use Rattle.format.proofs.Ways.{part-on, part-off}
 use borrow.Author.Needs.{needs}

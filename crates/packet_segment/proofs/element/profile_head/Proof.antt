@@ -1,4 +1,4 @@
--- `judge_element::profile_head` meets its contract.
+-- `packet_segment::element::profile_head` meets its contract.
 use native.Mathlib.Omega.{arith}
 use denote.Ref.{now}
 use Rattle.packet_segment.proofs.element.Windows.{head-off, head-on}

@@ -1,4 +1,4 @@
--- `judge_element::whole_entries` meets its contract.
+-- `packet_segment::element::whole_entries` meets its contract.
 use Prim.Native.Nat.{_*_, _-_, _≤_, _<_}
 use native.Mathlib.Omega.{arith}
 use denote.Ref.{now}

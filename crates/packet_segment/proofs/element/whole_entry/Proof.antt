@@ -1,4 +1,4 @@
--- `judge_element::whole_entry` meets its contract.
+-- `packet_segment::element::whole_entry` meets its contract.
 use mathlib.Core.Path.{refl}
 use Prim.Native.Nat.{_/_, _%_}
 use native.Mathlib.Omega.{arith}

@@ -1,4 +1,4 @@
--- `judge_element::wire` meets its contract.
+-- `packet_segment::element::wire` meets its contract.
 use native.Mathlib.Omega.{arith}
 use mathlib.Core.Path.{refl}
 use denote.Ref.{now}

@@ -1,4 +1,4 @@
--- `write_element::element` meets its contract.
+-- `sheet_write_segment::elements::element` meets its contract.
 use borrow.Author.Needs.{needs}
 use Rattle.sheet_write_segment.proofs.elements.element.Statement.{statement}
 use Rattle.sheet_write_segment.proofs.elements.element.Tie as tie

@@ -1,4 +1,4 @@
--- `elements::entry` meets its contract.
+-- `sheet_write_segment::elements::entry` meets its contract.
 use denote.Ref.{now}
 use mathlib.Core.Path.{_∙_}
 use Prim.Native.Nat.{_/_, _%_}

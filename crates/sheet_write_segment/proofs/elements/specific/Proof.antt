@@ -1,4 +1,4 @@
--- `write_element::specific` meets its contract.
+-- `sheet_write_segment::elements::specific` meets its contract.
 use denote.Ref.{now}
 use mathlib.Core.Path.{_≡_, refl}
 use Prim.Native.Nat.{_+_, _*_, _-_}

@@ -1,4 +1,4 @@
--- `elements::speeds` meets its contract.
+-- `sheet_write_segment::elements::speeds` meets its contract.
 use denote.Ref.{now}
 use mathlib.Core.Path.{_∙_}
 use Prim.Native.Nat.{_%_}

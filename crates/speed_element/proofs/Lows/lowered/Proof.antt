@@ -1,4 +1,4 @@
--- `elements::Lows::lowered` meets its contract.
+-- `speed_element::Lows::lowered` meets its contract.
 use Rattle.speed_element.proofs.Lowest.{speed-worked}
 use borrow.Author.Needs.{needs}
 use Rattle.speed_element.proofs.Lows.lowered.Statement.{statement}

@@ -1,4 +1,4 @@
--- `elements::Lows::with` meets its contract.
+-- `speed_element::Lows::with` meets its contract.
 use native.Mathlib.Omega.{arith}
 use Rattle.speed_element.proofs.Lowest.{entry-more, low-with}
 use borrow.Author.Needs.{needs}

@@ -1,4 +1,4 @@
--- `elements::Open::holds` meets its contract.
+-- `speed_element::Open::holds` meets its contract.
 use native.Mathlib.Omega.{arith}
 use Rattle.speed_element.proofs.Lowest.{too-early, delayed, at-once}
 use borrow.Author.Needs.{needs}
