@@ -106,8 +106,8 @@ fn tree_to_packet(tree: Tree, sheet: &[u8], room: &mut [u8]) -> Converted
             if room.len() < length {
                 return refused(SHORT_ROOM, 0);
             }
-            let at = tree_header(tree, sheet, &mut room[..15], bits as u32);
-            write_body(tree, sheet, at, &mut room[15..], bytes);
+            let at = tree_header(tree, sheet, &mut room[..layout::HEADER_BYTES], bits as u32);
+            write_body(tree, sheet, at, &mut room[layout::HEADER_BYTES..], bytes);
             done(length as u32)
         }
     }

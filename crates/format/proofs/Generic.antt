@@ -6,7 +6,7 @@ use native.Mathlib.Omega.{arith}
 use lib.ListN.{length}
 use Rattle.kinds.specs.declared.Item.{Item}
 use Rattle.kinds.specs.Kind.{Kind}
-use Rattle.format.specs.Format.{Format, end, field, Read, accepted, refused, FieldStep, step, stop, Medium, with, follow, read, write}
+use Rattle.format.specs.Format.{Format, end, field, Read, accepted, refused, FieldStep, step, stoppedWith, Medium, with, follow, read, write}
 use Rattle.format.specs.Conforming.{Conforming, done, also}
 
 -- what a medium has to meet: a good value that was put is taken, and what is taken was put so and not otherwise
@@ -23,7 +23,7 @@ with-accepted i (refused r n) l e = absurd (never e)
 
 follow-accepted : {A : Type 0} (n : ℕ) (r : FieldStep A) (next : Item → List A → Read) (l : List Item) → follow n r next ≡ accepted l
     → (i : Item) × (s : List A) × (t : List Item) × (r ≡ step i s) × (next i s ≡ accepted t) × (l ≡ i ∷ t)
-follow-accepted n (stop r) next l e = absurd (never e)
+follow-accepted n (stoppedWith r) next l e = absurd (never e)
 follow-accepted n (step i s) next l e = let p = with-accepted i (next i s) l e in (i, s, p .0, refl, p .1, p .2)
 
 module _ {A : Type 0} (m : Medium A) (Good : Kind → Item → Type 0) (Ok : List A → Type 0) (law : LawfulMedium m Good Ok) where

@@ -23,7 +23,7 @@ use Rattle.kinds.specs.declared.Field.{Field}
 use Rattle.kinds.specs.declared.Field.the-variants.{Is, Refused}
 use Rattle.kinds.specs.Kind.{Kind}
 use Rattle.kinds.specs.Judged.{valueInPacket, numberInSheet, fieldWith}
-use Rattle.format.specs.Format.{Format, end, field, Read, accepted, refused, FieldStep, step, stop, Medium, with, follow, read, write}
+use Rattle.format.specs.Format.{Format, end, field, Read, accepted, refused, FieldStep, step, stoppedWith, Medium, with, follow, read, write}
 use Rattle.format.specs.Media.{stepped, takeBits, packet, takeGroups, sheet}
 use Rattle.format.specs.Conforming.{Conforming, done, also, InPacket, InSheet}
 use Rattle.format.specs.Grounds.{Front, here, past, Every, atEnd, each, BitsFault, GroupsFault, Ground, atField, leftOver, Written, Ending, answered, grounded, OneJudgement}
@@ -32,8 +32,8 @@ use Rattle.format.proofs.Media.{packet-lawful, sheet-lawful}
 
 -- a medium that refuses exactly at its faults
 pub record Faulting {A : Type 0} (m : Medium A) (Fault : Kind → List A → ℕ → Type 0) (Ok : List A → Type 0) : Type 0 where
-  pub stops : (k : Kind) (s : List A) (r : ℕ) → Ok s → m .take k s ≡ stop r → Fault k s r
-  pub faults : (k : Kind) (s : List A) (r : ℕ) → Ok s → Fault k s r → m .take k s ≡ stop r
+  pub stops : (k : Kind) (s : List A) (r : ℕ) → Ok s → m .take k s ≡ stoppedWith r → Fault k s r
+  pub faults : (k : Kind) (s : List A) (r : ℕ) → Ok s → Fault k s r → m .take k s ≡ stoppedWith r
 
 -- values that conform to the whole tree are a front of it
 pub all-front : {Good : Kind → Item → Type 0} {f : Format} {l : List Item} → Conforming Good f l → Front Good f l end
@@ -72,8 +72,8 @@ with-refused i (refused q m) r n e k = k e
 
 -- what was refused, at this field or after it
 follow-refused : {A C : Type 0} (m : ℕ) (t : FieldStep A) (next : Item → List A → Read) (r n : ℕ) → follow m t next ≡ refused r n
-    → (t ≡ stop r → m ≡ n → C) → ((i : Item) (s : List A) → t ≡ step i s → next i s ≡ refused r n → C) → C
-follow-refused m (stop q) next r n e at after = let p : q ≡ r = cc in at (rw p) (cc)
+    → (t ≡ stoppedWith r → m ≡ n → C) → ((i : Item) (s : List A) → t ≡ step i s → next i s ≡ refused r n → C) → C
+follow-refused m (stoppedWith q) next r n e at after = let p : q ≡ r = cc in at (rw p) (cc)
 follow-refused m (step i s) next r n e at after = with-refused i (next i s) r n e λ f. after i s refl f
 
 module _ {A : Type 0} {m : Medium A} {Good : Kind → Item → Type 0} {Fault : Kind → List A → ℕ → Type 0} {Ok : List A → Type 0}
@@ -172,18 +172,18 @@ module _ {A : Type 0} {m : Medium A} {Good : Kind → Item → Type 0} {Fault : 
 -- ---- the two media
 
 -- a field that was judged and refused
-stepped-stop : {A C : Type 0} (f : Field) (s : List A) (r : ℕ) → stepped f s ≡ stop r → (f ≡ Refused r → C) → C
+stepped-stop : {A C : Type 0} (f : Field) (s : List A) (r : ℕ) → stepped f s ≡ stoppedWith r → (f ≡ Refused r → C) → C
 stepped-stop (Is i) s r e k = absurd (let z : _≡_ {A = ℕ} 0 1 = cc in omega arith)
 stepped-stop (Refused q) s r e k = let p : q ≡ r = cc in k (rw p)
 
 -- bits
 
-bits-stops : (k : Kind) (s : List Bool) (r : ℕ) → Unit {0} → takeBits k s ≡ stop r → BitsFault k s r
+bits-stops : (k : Kind) (s : List Bool) (r : ℕ) → Unit {0} → takeBits k s ≡ stoppedWith r → BitsFault k s r
 bits-stops k s r ok e =
     let w = k .width in
     let v = number (take w s) in
     by-cases (ltb (length s) w)
-    (λ d. let f : _≡_ {A = FieldStep Bool} (stop 6) (stop r) = rw d at e in BitsFault.unfitting (ltb-true (length s) w d) (cc))
+    (λ d. let f : _≡_ {A = FieldStep Bool} (stoppedWith 6) (stoppedWith r) = rw d at e in BitsFault.unfitting (ltb-true (length s) w d) (cc))
     λ d. stepped-stop (valueInPacket k v) (drop w s) r (rw d at e) λ p.
     by-cases (k .allowed v)
     (λ a. let f : Is (record { sheet = k .raise v; packet = v }) ≡ Refused r = rw a at p in absurd (let z : _≡_ {A = ℕ} 0 1 = cc in omega arith))
@@ -194,7 +194,7 @@ bits-stops k s r ok e =
     let bits : bitsOf w v ≡ take w s = rw n at (bits-number (take w s)) in
     BitsFault.unallowed v (drop w s) fits (rw (bits, take-append-drop)) a (cc)
 
-bits-faults : (k : Kind) (s : List Bool) (r : ℕ) → Unit {0} → BitsFault k s r → takeBits k s ≡ stop r
+bits-faults : (k : Kind) (s : List Bool) (r : ℕ) → Unit {0} → BitsFault k s r → takeBits k s ≡ stoppedWith r
 bits-faults k s r ok (BitsFault.unfitting h e) = rw (e, lt-ltb (length s) (k .width) h)
 bits-faults k s r ok (BitsFault.unallowed v more fits whole a e) =
     let w = k .width in
@@ -218,12 +218,12 @@ lowered-none : {C : Type 0} (k : Kind) (a : ℕ) (o : Option ℕ) (r : ℕ) → 
 lowered-none k a none r e f = f refl (cc)
 lowered-none k a (some v) r e f = absurd (let z : _≡_ {A = ℕ} 0 1 = cc in omega arith)
 
-groups-stops : (k : Kind) (s : List ℕ) (r : ℕ) → Bytes s → takeGroups k s ≡ stop r → GroupsFault k s r
+groups-stops : (k : Kind) (s : List ℕ) (r : ℕ) → Bytes s → takeGroups k s ≡ stoppedWith r → GroupsFault k s r
 groups-stops k s r ok e = go (numberIn s) refl
   where
     go : (n : Number) → numberIn s ≡ n → GroupsFault k s r
     go Bad d =
-        let f : _≡_ {A = FieldStep ℕ} (stop 9) (stop r) = rw d at e in
+        let f : _≡_ {A = FieldStep ℕ} (stoppedWith 9) (stoppedWith r) = rw d at e in
         GroupsFault.numberless (λ a b.
         let v : numberIn s ≡ Value a = rw (b .whole) (number-again a (b .more) (b .below)) in
         let z : _≡_ {A = ℕ} 0 1 = cc in omega arith) (cc)
@@ -233,10 +233,10 @@ groups-stops k s r ok e = go (numberIn s) refl
         let b = number-only s a ok d in
         GroupsFault.unallowed a (record { below = b .small; more = drop (length (groupsIn a)) s; whole = b .bytes }) l q
 
-groups-faults : (k : Kind) (s : List ℕ) (r : ℕ) → Bytes s → GroupsFault k s r → takeGroups k s ≡ stop r
+groups-faults : (k : Kind) (s : List ℕ) (r : ℕ) → Bytes s → GroupsFault k s r → takeGroups k s ≡ stoppedWith r
 groups-faults k s r ok (GroupsFault.numberless n e) = go (numberIn s) refl
   where
-    go : (n : Number) → numberIn s ≡ n → takeGroups k s ≡ stop r
+    go : (n : Number) → numberIn s ≡ n → takeGroups k s ≡ stoppedWith r
     go Bad d = rw (d, e)
     go (Value a) d =
         let b = number-only s a ok d in

@@ -22,12 +22,12 @@ use Rattle.kinds.specs.declared.Field.{Field}
 use Rattle.kinds.specs.declared.Field.the-variants.{Is, Refused}
 use Rattle.kinds.specs.Kind.{Kind}
 use Rattle.kinds.specs.Judged.{valueInPacket, numberInSheet, fieldWith}
-use Rattle.format.specs.Format.{Format, accepted, FieldStep, step, stop, read, write}
+use Rattle.format.specs.Format.{Format, accepted, FieldStep, step, stoppedWith, read, write}
 use Rattle.format.specs.Media.{stepped, takeBits, putBits, packet, takeGroups, putGroups, sheet}
 use Rattle.format.specs.Conforming.{Conforming, InPacket, InSheet}
 use Rattle.format.proofs.Generic.{LawfulMedium, read-write, write-read}
 
-stopped : {A C : Type 0} {r : ℕ} {i : Item} {t : List A} → _≡_ {A = FieldStep A} (stop r) (step i t) → C
+stopped : {A C : Type 0} {r : ℕ} {i : Item} {t : List A} → _≡_ {A = FieldStep A} (stoppedWith r) (step i t) → C
 stopped e = absurd (let z : _≡_ {A = ℕ} 0 1 = cc in omega arith)
 
 -- a field judged that went on

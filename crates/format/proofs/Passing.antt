@@ -19,7 +19,7 @@ use Rattle.kinds.specs.declared.Field.{Field}
 use Rattle.kinds.specs.declared.Field.the-variants as Judged
 use Rattle.kinds.specs.Kind.{Kind}
 use Rattle.kinds.specs.Judged.{valueInPacket, numberInSheet}
-use Rattle.format.specs.Format.{Format, end, field, Read, accepted, refused, FieldStep, step, stop, Medium, with, follow, read, answerOf}
+use Rattle.format.specs.Format.{Format, end, field, Read, accepted, refused, FieldStep, step, stoppedWith, Medium, with, follow, read, answerOf}
 use Rattle.format.specs.Media as media
 use Rattle.format.specs.Media.{takeBits, putBits, takeGroups, putGroups, packet, sheet}
 use Rattle.format.specs.internal.Places as places
@@ -47,14 +47,14 @@ module _ {A X B : Type 0} (m : Medium A) (t : Task X B) where
           ≡ answerOf (t .refusal) (λ l. t .answer (made t (field k next) l x))
           (follow at u (λ i v. read m (next (i .packet)) (at + length (m .put k i)) v))
       go more (step i v) = more i v ∙ with-one i (read m (next (i .packet)) (at + length (m .put k i)) v)
-      go more (stop r) = refl
+      go more (stoppedWith r) = refl
 
 -- ---- a medium seen at places
 
 -- the medium's step, from a field taken at a place
 abbrev pub stepAt : {A : Type 0} → (ℕ → List A) → Taken → FieldStep A
 stepAt view (Taken.Is i to) = step i (view to)
-stepAt view (Taken.Refused r) = stop r
+stepAt view (Taken.Refused r) = stoppedWith r
 
 -- what is taken at a place is what the medium takes of what stands there, and the place after it is as far as what is put for it
 pub record Seen {A : Type 0} (m : Medium A) (view : ℕ → List A) (took : Kind → ℕ → Taken) (Here : ℕ → Type 0) : Type 0 where

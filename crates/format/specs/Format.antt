@@ -27,7 +27,7 @@ pub data Read : Type 0 where
 -- "field by field in order": what reading one field gives, its value and what is left, or a refusal's number
 pub data FieldStep (A : Type 0) : Type 0 where
   step : Item → List A → FieldStep A
-  stop : ℕ → FieldStep A
+  stoppedWith : ℕ → FieldStep A
 
 -- how a medium takes a field in front, and puts one; and the refusal where something is left after the last: "13 .. for body bits left", "9 for bytes left"
 pub record Medium (A : Type 0) : Type 0 where
@@ -44,7 +44,7 @@ module _ {A : Type 0} where
   -- "field by field in order": what one field gives, and then the others; "the first bit of the field at fault", "the first byte of the number"
   abbrev pub follow : ℕ → FieldStep A → (Item → List A → Read) → Read
   follow at (step i s) next = with i (next i s)
-  follow at (stop r) next = refused r at
+  follow at (stoppedWith r) next = refused r at
 
   -- "field by field in order", each after what is put for the one before it; then the refusal for what is left: "the place is the first one left"
   abbrev pub read : Medium A → Format → ℕ → List A → Read

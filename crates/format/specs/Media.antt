@@ -13,16 +13,16 @@ use Rattle.kinds.specs.declared.Field.{Field}
 use Rattle.kinds.specs.declared.Field.the-variants.{Is, Refused}
 use Rattle.kinds.specs.Kind.{Kind}
 use Rattle.kinds.specs.Judged.{valueInPacket, numberInSheet}
-use Rattle.format.specs.Format.{FieldStep, step, stop, Medium}
+use Rattle.format.specs.Format.{FieldStep, step, stoppedWith, Medium}
 
 -- "field by field in order": a field judged, and what is left after it
 abbrev pub stepped : {A : Type 0} → Field → List A → FieldStep A
 stepped (Is i) s = step i s
-stepped (Refused r) s = stop r
+stepped (Refused r) s = stoppedWith r
 
 -- "6: a field doesn't fit in the body's remaining bits", "6 before 4 or 5"
 abbrev pub takeBits : Kind → List Bool → FieldStep Bool
-takeBits k s = cond (ltb (length s) (k .width)) (stop 6) (stepped (valueInPacket k (number (take (k .width) s))) (drop (k .width) s))
+takeBits k s = cond (ltb (length s) (k .width)) (stoppedWith 6) (stepped (valueInPacket k (number (take (k .width) s))) (drop (k .width) s))
 
 -- "each field most significant bit first"
 abbrev pub putBits : Kind → Item → List Bool
@@ -35,7 +35,7 @@ packet = record { take = takeBits; put = putBits; left = 13 }
 -- "9: sheet ends too soon, .. or a number is not in its shortest form", "9 before 2, 4 or 5"
 abbrev pub numbered : Kind → Number → List ℕ → FieldStep ℕ
 numbered k (Value a) s = stepped (numberInSheet k a) (drop (length (groupsIn a)) s)
-numbered k Bad s = stop (refusalOf Bad)
+numbered k Bad s = stoppedWith (refusalOf Bad)
 
 -- "A sheet is judged number by number"
 abbrev pub takeGroups : Kind → List ℕ → FieldStep ℕ

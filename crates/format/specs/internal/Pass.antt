@@ -6,7 +6,7 @@ use Rattle.kinds.specs.declared.Item.{Item}
 use Rattle.kinds.specs.declared.Field.{Field}
 use Rattle.kinds.specs.declared.Field.the-variants as Judged
 use Rattle.kinds.specs.Kind.{Kind}
-use Rattle.format.specs.Format.{Format, end, field, FieldStep, step, stop, Medium}
+use Rattle.format.specs.Format.{Format, end, field, FieldStep, step, stoppedWith, Medium}
 use Rattle.format.specs.internal.Places.{Taken}
 
 -- what a pass makes of a value, what it answers where all is taken, and what of a refusal at a place
@@ -18,7 +18,7 @@ pub record Task (X B : Type 0) : Type 0 where
 -- the answer from what the next field gives
 abbrev pub ofStep : {A B : Type 0} → (ℕ → B) → FieldStep A → (Item → List A → B) → B
 ofStep refusal (step i s) go = go i s
-ofStep refusal (stop r) go = refusal r
+ofStep refusal (stoppedWith r) go = refusal r
 
 -- the answer from a field taken at a place, and from a field's value judged
 abbrev pub ofTaken : {B : Type 0} → (ℕ → B) → Taken → (Item → ℕ → B) → B

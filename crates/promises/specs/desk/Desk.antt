@@ -96,7 +96,7 @@ journeySheetBytes = 0x04 ∷ replicate 7 0
 
 -- a journey of one segment with one timing point: the bytes of its latest arrival's seconds, its Q_Stop_Skip_Passes, and the bytes after the daylight saving
 abbrev pub pointSheet : List ℕ → ℕ → List ℕ → List ℕ
-pointSheet seconds stop rest = 0x04 ∷ replicate 6 0 ++ 0x01 ∷ replicate 5 0 ++ 0x01 ∷ 0x00 ∷ 0x00 ∷ seconds ++ 0x00 ∷ 0x00 ∷ stop ∷ 0x00 ∷ 0x00 ∷ rest
+pointSheet seconds stopSkipPasses rest = 0x04 ∷ replicate 6 0 ++ 0x01 ∷ replicate 5 0 ++ 0x01 ∷ 0x00 ∷ 0x00 ∷ seconds ++ 0x00 ∷ 0x00 ∷ stopSkipPasses ∷ 0x00 ∷ 0x00 ∷ rest
 
 -- a journey with different values in its fields: two segments, three timing points, and a constraint of each type.
 -- Any two fields of a timing point that have equal widths differ in one of the three points.

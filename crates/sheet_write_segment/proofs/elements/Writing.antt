@@ -15,7 +15,7 @@ use Rattle.numbers.specs.internal.Groups.{Put}
 use Rattle.kinds.specs.declared.Item.{Item}
 use Rattle.kinds.specs.Kind.{Kind}
 use Rattle.kinds.specs.Judged.{valueInPacket}
-use Rattle.format.specs.Format.{Format, end, field, times, FieldStep, step, stop, Medium}
+use Rattle.format.specs.Format.{Format, end, field, times, FieldStep, step, stoppedWith, Medium}
 use Rattle.format.specs.internal.Places.{Taken, Placed, takenAt, bitsTaken}
 use Rattle.format.specs.internal.Pass.{ofStep, pass}
 use Rattle.format.specs.internal.Ways.{Got, Took, Left, Ahead}
@@ -44,7 +44,7 @@ module _ {A : Type 0} (m : Medium A) where
       go : ((i : Item) (u : List A) → Grows (putting p (i .sheet)) (pass m writing (next (i .packet)) (putting p (i .sheet)) (at + length (m .put k i)) u))
           → (x : FieldStep A) → Grows p (ofStep (λ r. writing .refusal r at) x (λ i u. pass m writing (next (i .packet)) (putting p (i .sheet)) (at + length (m .put k i)) u))
       go more (step i u) = grows-put p (i .sheet) (pass m writing (next (i .packet)) (putting p (i .sheet)) (at + length (m .put k i)) u) (more i u)
-      go more (stop r) = tt
+      go more (stoppedWith r) = tt
 
 fits-now : (p : Put) (r : Told Put) → Grows p r → Fits r → p .next ≤ length (p .bytes)
 fits-now p (Told.told q) g h = omega (arith, g .0, g .1, h)
