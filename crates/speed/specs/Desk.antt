@@ -56,6 +56,18 @@ severalLimits = segmentWith (140 ∷ 0 ∷ 3 ∷ 2 ∷ 2 ∷ 125 ∷ 2 ∷ 2 ∷
 abbrev pub shortElement : List ℕ
 shortElement = segmentWith (60 ∷ 0 ∷ 0 ∷ 2 ∷ 500 ∷ 100 ∷ 1 ∷ 0 ∷ 600 ∷ 140 ∷ 1 ∷ 0 ∷ [])
 
+-- 140 km/h, from 500 on 100 with Q_FRONT 0, and from 600 on 140
+abbrev pub delayedChange : List ℕ
+delayedChange = segmentWith (140 ∷ 1 ∷ 0 ∷ 2 ∷ 500 ∷ 100 ∷ 0 ∷ 0 ∷ 600 ∷ 140 ∷ 1 ∷ 0 ∷ [])
+
+-- 100 km/h; instead 90 in G position, 130 in P position, 115 for passengers; at most 85 in P position
+abbrev pub otherCategories : List ℕ
+otherCategories = segmentWith (100 ∷ 0 ∷ 4 ∷ 1 ∷ 1 ∷ 90 ∷ 1 ∷ 0 ∷ 130 ∷ 1 ∷ 2 ∷ 115 ∷ 2 ∷ 0 ∷ 85 ∷ 0 ∷ [])
+
+-- 100 km/h; instead 90 in G position, 130 in P position
+abbrev pub lowestFirst : List ℕ
+lowestFirst = segmentWith (100 ∷ 0 ∷ 2 ∷ 1 ∷ 1 ∷ 90 ∷ 1 ∷ 0 ∷ 130 ∷ 0 ∷ [])
+
 -- the table of all questions on speed
 abbrev pub speeds : List SpeedCase
 speeds =
@@ -99,4 +111,13 @@ speeds =
     ∷ record { train = plain; x = 599; numbers = shortElement; answer = 60 }
     ∷ record { train = plain; x = 699; numbers = shortElement; answer = 60 }
     ∷ record { train = plain; x = 700; numbers = shortElement; answer = 140 }
+    -- "the train's length": of another train, and for a change that ends
+    ∷ record { train = trainOf 300 80 false false false; x = 799; numbers = changeNumbers 0 0; answer = 100 }
+    ∷ record { train = trainOf 300 80 false false false; x = 800; numbers = changeNumbers 0 0; answer = 140 }
+    ∷ record { train = plain; x = 799; numbers = delayedChange; answer = 100 }
+    ∷ record { train = plain; x = 800; numbers = delayedChange; answer = 140 }
+    -- "take the lowest of those instead", in whatever order they stand; every category with Q_DIFF 1 and with Q_DIFF 2
+    ∷ record { train = trainOf 200 80 true true false; x = 0; numbers = lowestFirst; answer = 90 }
+    ∷ record { train = trainOf 200 80 false false true; x = 0; numbers = otherCategories; answer = 115 }
+    ∷ record { train = trainOf 200 80 true false false; x = 0; numbers = otherCategories; answer = 85 }
     ∷ []

@@ -1,11 +1,12 @@
 -- The desk cases of document 01 that are marked (P), in one table: what a public operation says, and what it must say.
+use mathlib.Core.Bool.{false}
 use mathlib.Core.List.{List, [], _∷_, _++_, map}
 use Prim.Native.Nat.{ℕ, zero, suc, _+_}
 use lib.IntN.{pos, negsuc}
 use lib.ListN.{length, replicate, take, drop}
 use Rattle.grammar.specs.segment.Desk.{Question, askSheetOf, askPacketOf, Reply, bytes, refusal, firstPacket, firstSheet, conversions}
 use Rattle.speed.specs.declared.Train.{Train}
-use Rattle.speed.specs.Desk.{plain, canted}
+use Rattle.speed.specs.Desk.{trainOf, plain, canted}
 use Rattle.convert.specs.Convert.{Outcome, packetToSheet, sheetToPacket}
 use Rattle.speed_question.specs.declared.Speed.{Speed}
 use Rattle.speed_question.specs.Question.{permittedSpeed}
@@ -248,6 +249,10 @@ desk =
     -- "is accepted: 39 bytes, length 1 cm, altitude -100,000, 80 km/h, no current limit"
     ++ record { said = altitudeSaid (altitudeOf firstPacket); due = altitudeSaid (record { refusal = 0; place = 0; altitude = negsuc 99999 }) }
     ∷ told 0 firstPacket plain 0 0 80 ∷ told 0 firstPacket plain 1 11 0
+    -- "a length (1 to 150,000 cm), a cant deficiency (one of the eleven mm figures)"
+    ∷ told 0 firstPacket (trainOf 1 80 false false false) 0 0 80 ∷ told 0 firstPacket (trainOf 0 80 false false false) 0 10 0
+    ∷ told 0 firstPacket (trainOf 150000 300 false false false) 0 0 80 ∷ told 0 firstPacket (trainOf 150001 300 false false false) 0 10 0
+    ∷ told 0 firstPacket (canted 81) 0 10 0
     -- A7: "15, first of all, for a kind that is neither", where 0 is answered, refused with 1, or with 11
     ∷ told 2 firstPacket plain 0 15 0 ∷ told 4294967295 firstPacket plain 0 15 0 ∷ told 2 [] plain 0 15 0 ∷ told 4294967295 firstPacket plain 1 15 0
     -- "whether it brings a packet or a sheet": a sheet, and the same bytes as a packet
