@@ -30,7 +30,7 @@ pub const SHEET_FORM: u32 = 9;
 // The train's length or cant deficiency is not allowed.
 pub const TRAIN_VALUE: u32 = 10;
 
-// Location x of a speed question is at or past L_SP.
+// Location x of a speed question is at or past L_SP of the last segment.
 pub const PAST_END: u32 = 11;
 
 // A sheet's body would exceed 65,535 bits.
@@ -43,5 +43,8 @@ pub const BITS_LEFT: u32 = 13;
 // or with the packet's room cut short.
 pub const TOO_EARLY: u32 = 14;
 
-// A speed question brings neither a packet, 0, nor a sheet, 1.
+// A speed question brings neither packets, 0, nor sheets, 1.
 pub const UNKNOWN_KIND: u32 = 15;
+
+// A speed question brings a run of no segment or of more than 4.
+pub const RUN_COUNT: u32 = 16;

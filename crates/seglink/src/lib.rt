@@ -28,18 +28,22 @@ pub extern "C" fn seglink_sheet_to_packet(sheet: &[u8], room: &mut [u8]) -> Conv
     convert_sheet::sheet_to_packet(sheet, room)
 }
 
-// Answers the permitted speed of `train` at `x` cm from the start of `segment`, a packet (`medium` 0) or a sheet (`medium` 1):
-// 0, 0 and the speed in km/h; or a refusal's number, its place and 0.
+// Answers the permitted speed of `train` at `x` cm from the start of the last of a run of `count` segments, 1 to 4, packets (`medium` 0) or
+// sheets (`medium` 1), in order of travel: 0, 0 and the speed in km/h; or a refusal's number, its place and 0. Segments past the count are not read.
 #[no_mangle]
-pub extern "C" fn seglink_permitted_speed(
+pub extern "C" fn seglink_permitted_speed<'a>(
     medium: u32,
-    segment: &[u8],
+    count: u32,
+    first: &'a [u8],
+    second: &'a [u8],
+    third: &'a [u8],
+    fourth: &'a [u8],
     train: Train,
     x: u32,
 ) -> Speed
-    ensures { λ r. ⌜ r ≡ permittedSpeed medium (now (segment .entry)) train x ⌝ }
+    ensures { λ r. ⌜ r ≡ permittedSpeed medium count (now (first .entry)) (now (second .entry)) (now (third .entry)) (now (fourth .entry)) train x ⌝ }
 {
-    speed_question::permitted_speed(medium, segment, train, x)
+    speed_question::permitted_speed(medium, count, first, second, third, fourth, train, x)
 }
 
 // Answers the altitude of a packet's segment: 0, 0 and the altitude in signed centimetres; or a refusal's number, its place and 0.

@@ -1,7 +1,7 @@
 -- A permitted speed is at most 604 km/h: every speed of a sheet is, and the permitted speed is one of them.
 use mathlib.Core.Path.{_≡_, refl}
 use mathlib.Core.Bool.{Bool, true, false, cond, _&&_}
-use mathlib.Core.List.{List, [], _∷_}
+use mathlib.Core.List.{List, [], _∷_, _++_}
 use Prim.Native.Nat.{ℕ, zero, suc, _+_, _≤_, min}
 use native.Mathlib.Omega.{arith}
 use lib.Dec.{eqb}
@@ -11,10 +11,12 @@ use Rattle.kinds.specs.Kinds.{speed, nIter}
 use Rattle.fields.proofs.Lawful.{speed-lawful}
 use Rattle.format.specs.Format.{Format, field, sheetNumbers}
 use Rattle.format.specs.Conforming.{Conforming, also, InSheet}
-use Rattle.grammar.specs.segment.Segment.{entries, profile, changes, part, lists, sheetFields, wireChanges}
+use Rattle.grammar.specs.segment.Segment.{entries, profile, changes, part, lists}
 use Rattle.speed.specs.declared.Train.{Train}
-use Rattle.speed.specs.Speed.{Entry, Element, belongs, isNotAbove, notAbove, greatestFigure, isOf, figureSpeeds, cantSpeeds, namedSpeeds, lowest, instead, elementSpeed, endBefore, holds, heldSpeeds, entriesOf, afterEntries, elementOf, afterElement, changesFrom, elementsFrom, segmentLength, profileOf, speedIn}
+use Rattle.speed.specs.Speed.{Entry, Element, belongs, isNotAbove, notAbove, greatestFigure, isOf, figureSpeeds, cantSpeeds, namedSpeeds, lowest, instead, elementSpeed, endBefore, holds, heldSpeeds, entriesOf, afterEntries, elementOf, afterElement, changesFrom, elementsFrom, segmentLength, profileOf}
+use Rattle.speed.specs.Run.{Each, numbersOf, runElements, runEnd, lastStart, heldInRun, speedInRun}
 use Rattle.speed.proofs.Lowering.{same-is, apart, at-lists}
+use Rattle.speed.proofs.Runs.{SheetValues}
 
 -- ---- speeds of at most 604
 
@@ -131,10 +133,21 @@ module _ (from lsp : ℕ) (f : Format) where
       let e = profile-within (from + 0) (field (nIter 31) λ n. changes profile lsp 0 n f) l c in
       (e .fine .0, e .fine .1, rw (e .there) (counted-within (e .rest) (e .good)))
 
--- "km/h, 0 to 604"
-pub speed-most : (t : Train) (x : ℕ) (l : List Item) → Conforming InSheet (sheetFields wireChanges) l → speedIn t x (sheetNumbers l) ≤ 604
+-- the elements of two lists, one after the other
+both-within : (l m : List Element) → ElementsWithin l → ElementsWithin m → ElementsWithin (l ++ m)
+both-within [] m a b = b
+both-within (e ∷ l) m a b = (a .0, a .1, both-within l m (a .2) b)
+
+run-within : (from : ℕ) (r : List (List Item)) → Each SheetValues r → ElementsWithin (runElements from (numbersOf r))
 unfolding lists
-speed-most t x l c =
-    at-lists l c λ i g here there p.
-    instead-within 0 (heldSpeeds t (segmentLength (sheetNumbers l)) x (elementsFrom 0 (profileOf (sheetNumbers l)))) (omega arith)
-    (held-within t (segmentLength (sheetNumbers l)) x (elementsFrom 0 (profileOf (sheetNumbers l))) (rw (p .here) (elements-within 0 (i .packet) _ (p .rest) (p .good))))
+run-within from [] c = tt
+run-within from (l ∷ r) c =
+    at-lists l (c .0) λ i g here there p.
+    both-within (elementsFrom from (profileOf (sheetNumbers l))) (runElements (from + segmentLength (sheetNumbers l)) (numbersOf r))
+    (rw (p .here) (elements-within from (i .packet) _ (p .rest) (p .good))) (run-within (from + segmentLength (sheetNumbers l)) r (c .1))
+
+-- "km/h, 0 to 604"
+pub speed-most : (t : Train) (x : ℕ) (r : List (List Item)) → Each SheetValues r → speedInRun t x (numbersOf r) ≤ 604
+speed-most t x r c =
+    let n = numbersOf r in
+    instead-within 0 (heldInRun t x n) (omega arith) (held-within t (runEnd 0 n) (lastStart 0 n + x) (runElements 0 n) (run-within 0 r c))

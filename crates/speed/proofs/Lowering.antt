@@ -1,4 +1,4 @@
--- The speed from a segment's lowered values is the speed from its values, lowered: along the segment's tree, element by element.
+-- A packet gives back a segment's L_SP as it was and its elements lowered: along the segment's tree, element by element.
 use mathlib.Core.Path.{_≡_, refl, sym, ap, ap₂, _∙_}
 use mathlib.Core.Bool.{Bool, true, false}
 use mathlib.Core.List.{List, _∷_, map}
@@ -16,9 +16,7 @@ use Rattle.fields.proofs.Lookup.{place-stands}
 use Rattle.format.specs.Format.{Format, field, then, sheetNumbers}
 use Rattle.format.specs.Conforming.{Conforming, also, InSheet, givenBack}
 use Rattle.grammar.specs.segment.Segment.{entries, profile, changes, part, lists, body, fields, sheetFields, wireChanges}
-use Rattle.speed.specs.declared.Train.{Train}
-use Rattle.speed.specs.Speed.{entriesOf, afterEntries, elementOf, afterElement, changesFrom, elementsFrom, segmentLength, profileOf, permitted, speedIn, inFives, entryInFives, elementInFives, Element}
-use Rattle.speed.proofs.Laws.{lowered-permitted}
+use Rattle.speed.specs.Speed.{entriesOf, afterEntries, elementOf, afterElement, changesFrom, elementsFrom, segmentLength, profileOf, entryInFives, elementInFives, Element}
 
 -- a number that `when` lets through is unchanged
 pub when-is : (b : Bool) (a v : ℕ) → when b a ≡ some v → v ≡ a
@@ -164,25 +162,18 @@ at-lists l c k =
     let p : Past whole l 0 whole = record { rest = l; good = c; here = refl; there = refl } in
     past-field (past (past (past (past (past (past (past (past (past (past p)))))))))) λ i g here there q. k i g here there (past (past (past q)))
 
--- a packet gives back L_SP as it was and the elements lowered
-at-profile : {C : Type 0} (l : List Item) → Conforming InSheet (sheetFields wireChanges) l
+-- a packet gives back L_SP as it was and the elements lowered, wherever the segment starts
+pub at-profile : {C : Type 0} (from : ℕ) (l : List Item) → Conforming InSheet (sheetFields wireChanges) l
     → (let low : List ℕ = sheetNumbers (givenBack (sheetFields wireChanges) l) in
-    segmentLength low ≡ segmentLength (sheetNumbers l) → elementsFrom 0 (profileOf low) ≡ map elementInFives (elementsFrom 0 (profileOf (sheetNumbers l))) → C)
+    segmentLength low ≡ segmentLength (sheetNumbers l) → elementsFrom from (profileOf low) ≡ map elementInFives (elementsFrom from (profileOf (sheetNumbers l))) → C)
     → C
 unfolding lists
-at-profile l c k =
+at-profile from l c k =
     let whole = sheetFields wireChanges in
     at-lists l c λ i g here there r.
     k (sym (getD-drop 10 (sheetNumbers (givenBack whole l)) 0 0) ∙ there ∙ same-is i g ∙ sym here ∙ getD-drop 10 (sheetNumbers l) 0 0)
-    (ap (elementsFrom 0) (r .there) ∙ profile-lowered 0 (i .packet) _ (r .rest) (r .good) ∙ ap (λ (s : List ℕ). map elementInFives (elementsFrom 0 s)) (sym (r .here)))
+    (ap (elementsFrom from) (r .there) ∙ profile-lowered from (i .packet) _ (r .rest) (r .good) ∙ ap (λ (s : List ℕ). map elementInFives (elementsFrom from s)) (sym (r .here)))
 
 pub length-stays : (l : List Item) → Conforming InSheet (sheetFields wireChanges) l
     → segmentLength (sheetNumbers (givenBack (sheetFields wireChanges) l)) ≡ segmentLength (sheetNumbers l)
-length-stays l c = at-profile l c λ same es. same
-
--- the speed from the values that a packet gives back is the speed from the sheet, lowered to a multiple of 5
-pub speed-in-fives : (t : Train) (x : ℕ) (l : List Item) → Conforming InSheet (sheetFields wireChanges) l
-    → speedIn t x (sheetNumbers (givenBack (sheetFields wireChanges) l)) ≡ inFives (speedIn t x (sheetNumbers l))
-speed-in-fives t x l c =
-    at-profile l c λ same es.
-    ap₂ (λ (n : ℕ) (e : List Element). permitted t n x e) same es ∙ lowered-permitted t (segmentLength (sheetNumbers l)) x (elementsFrom 0 (profileOf (sheetNumbers l)))
+length-stays l c = at-profile 0 l c λ same es. same

@@ -1,17 +1,24 @@
 -- The elements of the speed rules stand where the tree has their fields, and no other elements do.
 use mathlib.Core.Path.{_≡_, refl, sym, ap, ap₂, _∙_, subst}
+use mathlib.Core.Bool.{Bool, true, false, _&&_}
 use mathlib.Core.List.{List, [], _∷_, _++_, append-assoc}
-use Prim.Native.Nat.{ℕ, zero, suc, _+_}
+use mathlib.Core.Option.{some}
+use Prim.Native.Nat.{ℕ, zero, suc, _+_, _≤_}
+use native.Mathlib.Omega.{arith}
+use borrow.Author.Tests.{ltb-true}
+use lib.Dec.{ltb}
 use lib.ListN.{drop, getD}
+use Rattle.bits.proofs.Tests.{and-right}
 use Rattle.kinds.specs.declared.Item.{Item}
-use Rattle.kinds.specs.Kind.{Kind}
-use Rattle.kinds.specs.Kinds.{qFront, nIter, qDiff, class}
+use Rattle.kinds.specs.Kind.{Kind, when}
+use Rattle.kinds.specs.Kinds.{lSp, qFront, nIter, qDiff, class, dLocation}
 use Rattle.format.specs.Format.{Format, field, sheetNumbers}
 use Rattle.format.specs.Conforming.{Conforming, also, InPacket, InSheet}
 use Rattle.format.specs.Grounds.{Front, here, past}
 use Rattle.grammar.specs.segment.Segment.{entries, profile, changes, part, lists, body, fields, sheetFields, wireChanges}
 use Rattle.speed.specs.Speed.{Entry, Element, entriesOf, afterEntries, elementOf, afterElement, changesFrom, elementsFrom, segmentLength, profileOf}
 use Rattle.speed.proofs.Lowering.{same-is}
+use Rattle.speed.proofs.Runs.{StartsTo}
 use Rattle.speed.specs.Standing.{EntriesStand, ElementStands, ChangesStand, ProfileStands, SegmentStands}
 
 -- a count is one number in both media, and so is a length
@@ -204,9 +211,49 @@ module _ (Good : Kind → Item → Type 0) (count : (i : Item) → Good (nIter 3
       → (w .length .sheet ≡ segmentLength (sheetNumbers l)) × (es ≡ elementsFrom from (profileOf (sheetNumbers l)))
   segment-only from l es w = rw (w .split) (refl, profile-only from (w .length .packet) (w .follow) (w .values) es (w .elements))
 
+  -- ---- no element starts past L_SP
+
+  module _ (location : (last lsp : ℕ) (i : Item) → Good (dLocation last lsp) i → i .sheet ≤ lsp) where
+    element-start : {follow l : List Item} {start : ℕ} {e : Element} → ElementStands Good follow start l e → e .start ≡ start
+    element-start (ElementStands.element v f n gv gf gn r) = refl
+
+    changes-start : {follow l : List Item} {lsp n last : ℕ} {es : List Element} → ChangesStand Good follow 0 lsp n last l es → StartsTo lsp es
+    changes-start ChangesStand.none = tt
+    changes-start {lsp = lsp} {last = last} (ChangesStand.change x gx e rest) = (omega (arith, element-start e, location last lsp x gx), changes-start rest)
+
+    profile-start : {follow l : List Item} {lsp : ℕ} {es : List Element} → ProfileStands Good follow 0 lsp l es → StartsTo lsp es
+    profile-start (ProfileStands.counted n e gn rest) = (omega (arith, element-start e), changes-start rest)
+
+    segment-starts : ((i : Item) → Good lSp i → i .packet ≡ i .sheet) → (l : List Item) → Conforming Good (sheetFields wireChanges) l
+        → StartsTo (segmentLength (sheetNumbers l)) (elementsFrom 0 (profileOf (sheetNumbers l)))
+    segment-starts whole l c =
+        let w = segment-stands 0 l c in
+        let o = segment-only 0 l _ w in
+        rw (whole (w .length) (w .long) ∙ o .0) at (profile-start (w .elements))
+
 -- a count is one number in both media
 pub packet-count : (i : Item) → InPacket (nIter 31) i → i .packet ≡ i .sheet
 packet-count i g = sym (g .raised)
 
 pub sheet-count : (i : Item) → InSheet (nIter 31) i → i .packet ≡ i .sheet
 sheet-count i g = same-is i g
+
+-- "does not rise, is 0, or is at or past L_SP": a change's location is below L_SP
+below : (last lsp x : ℕ) → (ltb last x && ltb x lsp) ≡ true → x ≤ lsp
+below last lsp x e = omega (arith, ltb-true x lsp (and-right (ltb last x) (ltb x lsp) e))
+
+packet-location : (last lsp : ℕ) (i : Item) → InPacket (dLocation last lsp) i → i .sheet ≤ lsp
+packet-location last lsp i g = omega (arith, below last lsp (i .packet) (g .allowed), g .raised)
+
+when-only : (b : Bool) (a v : ℕ) → when b a ≡ some v → b ≡ true
+when-only true a v e = refl
+when-only false a v e = absurd (let z : _≡_ {A = ℕ} 0 1 = cc in omega arith)
+
+sheet-location : (last lsp : ℕ) (i : Item) → InSheet (dLocation last lsp) i → i .sheet ≤ lsp
+sheet-location last lsp i g = below last lsp (i .sheet) (when-only (ltb last (i .sheet) && ltb (i .sheet) lsp) (i .sheet) (i .packet) (g .lowered))
+
+pub packet-starts : (l : List Item) → Conforming InPacket (sheetFields wireChanges) l → StartsTo (segmentLength (sheetNumbers l)) (elementsFrom 0 (profileOf (sheetNumbers l)))
+packet-starts l c = segment-starts InPacket packet-count packet-location (λ i g. sym (g .raised)) l c
+
+pub sheet-starts : (l : List Item) → Conforming InSheet (sheetFields wireChanges) l → StartsTo (segmentLength (sheetNumbers l)) (elementsFrom 0 (profileOf (sheetNumbers l)))
+sheet-starts l c = segment-starts InSheet sheet-count sheet-location (λ i g. same-is i g) l c

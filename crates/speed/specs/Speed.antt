@@ -1,4 +1,4 @@
--- Permitted speed, from the numbers of a segment's sheet.
+-- The speed of an element, where it holds, and the elements of a segment, from the numbers of its sheet.
 use mathlib.Core.Bool.{Bool, true, false, cond, _&&_}
 use mathlib.Core.List.{List, [], _∷_, map}
 use mathlib.Core.Option.{Option, none, some}
@@ -158,10 +158,6 @@ segmentLength s = getD s 10 0
 -- "Start of speed profile", among a sheet's numbers
 abbrev pub profileOf : List ℕ → List ℕ
 profileOf s = drop 14 s
-
--- "Only this segment counts"
-abbrev pub speedIn : Train → ℕ → List ℕ → ℕ
-speedIn t x s = permitted t (segmentLength s) x (elementsFrom 0 (profileOf s))
 
 -- ---- lowering
 

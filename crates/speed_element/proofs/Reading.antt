@@ -1,7 +1,7 @@
 -- The parts of an accepted speed profile in any medium: field after field, entry after entry, element after element.
-use mathlib.Core.Path.{_≡_, refl, sym, ap, _∙_}
+use mathlib.Core.Path.{_≡_, refl, sym, ap, _∙_, subst}
 use mathlib.Core.Bool.{true, false, cond}
-use mathlib.Core.List.{List, [], _∷_}
+use mathlib.Core.List.{List, [], _∷_, _++_}
 use Prim.Native.Nat.{ℕ, zero, suc, _+_, _-_, _≤_, _<_}
 use native.Mathlib.Omega.{arith}
 use lib.ListN.{drop, getD}
@@ -9,17 +9,19 @@ use lib.Seq.{drop-drop, getD-drop}
 use Rattle.kinds.specs.declared.Item.{Item}
 use Rattle.kinds.specs.Kind.{Kind}
 use Rattle.kinds.specs.Kinds.{qDiff, class, speed, qFront, nIter, dLocation}
-use Rattle.format.specs.Format.{Format, field, then, sheetNumbers}
-use Rattle.grammar.specs.segment.Segment.{entries, profile, changes, part}
+use Rattle.format.specs.Format.{Format, end, field, then, sheetNumbers}
+use Rattle.grammar.specs.segment.Segment.{entries, profile, voltage, current, changes, part, wireChanges}
 use Rattle.grammar.specs.internal.segment.Parts.{entry}
 use Rattle.grammar.proofs.segment.Parts.{entries-more, changes-more}
 use Rattle.speed.specs.declared.Train.{Train}
-use Rattle.speed.specs.Speed.{Element, elementSpeed, endBefore, holds, heldSpeeds, permitted, entriesOf, afterEntries, elementOf, afterElement, changesFrom, elementsFrom}
+use Rattle.speed.specs.Speed.{Element, elementSpeed, endBefore, holds, heldSpeeds, entriesOf, afterEntries, elementOf, afterElement, changesFrom, elementsFrom}
 use Rattle.speed_element.specs.declared.Lows.{Lows}
 use Rattle.speed_element.specs.declared.Following.{Following}
 use Rattle.speed_element.specs.declared.Open.{Open}
+use Rattle.speed.proofs.Runs.{chosen-append}
 use Rattle.speed_element.specs.internal.Elements.{none, noLows, insteadFrom, speedFrom, Worked, OneMore, elementWith, elementAs}
-use Rattle.speed_element.specs.internal.Reading.{Readable, Past, Passes, FieldRead, EntryRead, Opened, Opens, ElementRead, Ended, ChangeRead, NextRead, ChangesRead, ProfileRead}
+use Rattle.speed_element.specs.internal.Reading.{Holding, Readable, Past, Passes, FieldRead, EntryRead, Opened, Opens, ElementRead, Ended, ChangeRead, NextRead, ChangesRead, ProfileRead, HeadRead}
+use Rattle.speed_element.specs.internal.Passing.{Passed}
 use Rattle.speed_element.proofs.Lowest.{cant-last, speed-first, held-more}
 
 -- one more number is gone
@@ -209,6 +211,15 @@ module _ (Reads : Format → ℕ → List Item → Type 0) where
     pub ended-not : holds t (elementWith o []) stop x ≡ false → Ended Reads t held stop x o held
     ended-not d = record { said = λ e i l. rw (i .is, d) }
 
+    -- it ends where the elements after it begin
+    one-ended : (lsp : ℕ) {r : ℕ} {e : Element} → Ended Reads t held stop x o r → Opened Reads o e → (els : List Element) → stop ≡ endBefore lsp els → (m : List ℕ)
+        → insteadFrom r 0 (heldSpeeds t lsp x els ++ m) ≡ insteadFrom held 0 (heldSpeeds t lsp x (e ∷ els) ++ m)
+    one-ended lsp {e = e} d i els stops m =
+        let l = heldSpeeds t lsp x els in
+        d .said e i (l ++ m)
+        ∙ ap (insteadFrom held 0) (chosen-append (holds t e stop x) (elementSpeed t e) l m)
+        ∙ ap (λ (n : ℕ). insteadFrom held 0 (cond (holds t e n x) (elementSpeed t e ∷ l) l ++ m)) stops
+
   -- ---- the next change
 
   module _ (lsp start n : ℕ) {at : ℕ} (h : 0 < n) (r : Readable Reads (changes profile lsp start n) at) where
@@ -232,14 +243,14 @@ module _ (Reads : Format → ℕ → List Item → Type 0) where
 
   -- ---- changes, one after another
 
-  module _ (t : Train) (lsp x answer : ℕ) where
-    -- what is left of the changes, and the permitted speed with what is held of the elements before
+  module _ (t : Train) (lsp x before : ℕ) (whole : List ℕ) where
+    -- what is left of the changes, and what is held with it, of all that is to be held
     pub record Changing (n to held : ℕ) (o : Open) (f : Format) : Type 0 where
       pub element : Element
       pub opened : Opened Reads o element
       pub values : List Item
       pub reads : Reads (changes profile lsp (o .start) n f) to values
-      pub same : insteadFrom held 0 (heldSpeeds t lsp x (element ∷ changesFrom 0 n (sheetNumbers values))) ≡ answer
+      pub same : (m : List ℕ) → insteadFrom held 0 (heldSpeeds t lsp x (element ∷ changesFrom 0 n (sheetNumbers values)) ++ m) ≡ insteadFrom before 0 (whole ++ m)
 
     module _ {n to held : ℕ} {o : Open} {f : Format} (h : 0 < n) (g : Changing n to held o f) where
       -- the next change's location, and its element
@@ -263,53 +274,52 @@ module _ (Reads : Format → ℕ → List Item → Type 0) where
             opened = opened-as (rw (c .starts, p .numbers)) (c .element .opened more (p .values) (p .reads));
             values = u .values;
             reads = rw (c .starts) (u .reads);
-            same =
+            same = λ more.
                 rw (u .numbers, p .numbers)
-                (ap (λ (m : List Element). insteadFrom held′ 0 (heldSpeeds t lsp x m)) (sym split)
-                ∙ d .said (g .element) (g .opened) (heldSpeeds t lsp x els)
-                ∙ ap (λ (m : ℕ). insteadFrom held 0 (cond (holds t (g .element) m x) (elementSpeed t (g .element) ∷ heldSpeeds t lsp x els) (heldSpeeds t lsp x els))) stops
-                ∙ g .same);
+                (ap (λ (m : List Element). insteadFrom held′ 0 (heldSpeeds t lsp x m ++ more)) (sym split) ∙ one-ended lsp d (g .opened) els stops more ∙ g .same more);
           }
 
   -- every way into the changes is a way to what is left of them, and there is one
-  pub record Changed (t : Train) (lsp x : ℕ) (first : Open) (whole at n to held : ℕ) (o : Open) : Type 0 where
+  pub record Changed (t : Train) (lsp x before : ℕ) (first : Open) (whole at n to held : ℕ) (o : Open) : Type 0 where
     pub going : (e : Element) → Opened Reads first e → (f : Format) (l : List Item) → Reads (changes profile lsp (first .start) whole f) at l
-        → Changing t lsp x (permitted t lsp x (e ∷ changesFrom 0 whole (sheetNumbers l))) n to held o f
+        → Changing t lsp x before (heldSpeeds t lsp x (e ∷ changesFrom 0 whole (sheetNumbers l))) n to held o f
     pub opens : Opens Reads o
     pub readable : Readable Reads (changes profile lsp (o .start) n) to
 
-  changed-all : {t : Train} {lsp x whole at : ℕ} {first : Open} → Opens Reads first → Readable Reads (changes profile lsp (first .start) whole) at
-      → Changed t lsp x first whole at whole at none first
-  changed-all h r = record { going = λ e i f l j. record { element = e; opened = i; values = l; reads = j; same = refl }; opens = h; readable = r }
+  changed-all : {t : Train} {lsp x before whole at : ℕ} {first : Open} → Opens Reads first → Readable Reads (changes profile lsp (first .start) whole) at
+      → Changed t lsp x before first whole at whole at before first
+  changed-all h r = record { going = λ e i f l j. record { element = e; opened = i; values = l; reads = j; same = λ m. refl }; opens = h; readable = r }
 
-  module _ {t : Train} {lsp x whole at n to held : ℕ} {first o : Open} (g : Changed t lsp x first whole at n to held o) {m : Following} (r : NextRead Reads lsp o n to m) {held′ : ℕ}
+  module _ {t : Train} {lsp x before whole at n to held : ℕ} {first o : Open} (g : Changed t lsp x before first whole at n to held o) {m : Following} (r : NextRead Reads lsp o n to m) {held′ : ℕ}
       (d : Ended Reads t held (m .end) x o held′) where
-    changed-next : 0 < n → Changed t lsp x first whole at (n - 1) (m .next) held′ (m .«open»)
+    changed-next : 0 < n → Changed t lsp x before first whole at (n - 1) (m .next) held′ (m .«open»)
     changed-next h =
         let q = changes profile lsp (m .end) (n - 1) in
         let c = r .change h in
         let k = next-profile lsp (o .start) n h (g .readable) (c .location) in
         record {
-          going = λ v i f l j. changing-next t lsp x (permitted t lsp x (v ∷ changesFrom 0 whole (sheetNumbers l))) h (g .going v i f l j) c d;
+          going = λ v i f l j. changing-next t lsp x before (heldSpeeds t lsp x (v ∷ changesFrom 0 whole (sheetNumbers l))) h (g .going v i f l j) c d;
           opens = element-opens q (c .element) k;
           readable = rw (c .starts) (readable-passed q (c .element .passes) k);
         }
 
     -- the last element ends at the segment's end
-    pub changes-read : n ≡ 0 → ChangesRead Reads t lsp x first whole at (insteadFrom held′ 0 [])
-    changes-read z = record { said = λ w i f l j. let m = rw z at (g .going w i f l j) in (rw (r .last z) at d) .said (m .element) (m .opened) [] ∙ m .same }
+    pub changes-read : n ≡ 0 → ChangesRead Reads t lsp x before first whole at held′
+    changes-read z = record {
+      said = λ w i f l j. let m = rw z at (g .going w i f l j) in record { with = λ more. one-ended lsp d (m .opened) [] (r .last z) more ∙ m .same more };
+    }
 
   -- so many elements have yet to end: the open one, and one for each change that is left
-  pub record Ending (t : Train) (lsp x : ℕ) (first : Open) (whole at left to held : ℕ) (o : Open) : Type 0 where
-    pub more : 0 < left → Changed t lsp x first whole at (left - 1) to held o
-    pub done : left ≡ 0 → ChangesRead Reads t lsp x first whole at (insteadFrom held 0 [])
+  pub record Ending (t : Train) (lsp x before : ℕ) (first : Open) (whole at left to held : ℕ) (o : Open) : Type 0 where
+    pub more : 0 < left → Changed t lsp x before first whole at (left - 1) to held o
+    pub done : left ≡ 0 → ChangesRead Reads t lsp x before first whole at held
 
-  pub ending-all : {t : Train} {lsp x whole at : ℕ} {first : Open} → Opens Reads first → Readable Reads (changes profile lsp (first .start) whole) at
-      → Ending t lsp x first whole at (whole + 1) at none first
+  pub ending-all : {t : Train} {lsp x before whole at : ℕ} {first : Open} → Opens Reads first → Readable Reads (changes profile lsp (first .start) whole) at
+      → Ending t lsp x before first whole at (whole + 1) at before first
   ending-all {whole = whole} h r = let e : whole + 1 - 1 ≡ whole = omega arith in record { more = λ _. rw e (changed-all h r); done = λ z. absurd (omega arith) }
 
-  pub ending-next : {t : Train} {lsp x whole at n to held held′ : ℕ} {first o : Open} {m : Following} → Changed t lsp x first whole at n to held o → NextRead Reads lsp o n to m
-      → Ended Reads t held (m .end) x o held′ → Ending t lsp x first whole at n (m .next) held′ (m .«open»)
+  pub ending-next : {t : Train} {lsp x before whole at n to held held′ : ℕ} {first o : Open} {m : Following} → Changed t lsp x before first whole at n to held o → NextRead Reads lsp o n to m
+      → Ended Reads t held (m .end) x o held′ → Ending t lsp x before first whole at n (m .next) held′ (m .«open»)
   ending-next g r d = record { more = changed-next g r d; done = changes-read g r d }
 
   -- ---- the profile
@@ -321,10 +331,10 @@ module _ (Reads : Format → ℕ → List Item → Type 0) where
         let q : Format → Format = λ f. field (nIter 31) λ m. changes profile lsp 0 m f in
         (element-opens q first h, rw starts (readable-field count (λ m f. changes profile lsp 0 m f) (readable-passed q (first .passes) h)))
 
-    pub profile-read : {t : Train} {x v : ℕ} → ChangesRead Reads t lsp x o n c v → ProfileRead Reads t lsp x at v
-    profile-read {t} {x} {v} more = record { said = said }
+    pub profile-read : {t : Train} {x before v : ℕ} → ChangesRead Reads t lsp x before o n c v → ProfileRead Reads t lsp x before at v
+    profile-read {t} {x} {before} {v} more = record { said = said }
       where
-        said : (f : Format) (l : List Item) → Reads (part profile 31 lsp f) at l → v ≡ permitted t lsp x (elementsFrom 0 (sheetNumbers l))
+        said : (f : Format) (l : List Item) → Reads (part profile 31 lsp f) at l → Holding before (heldSpeeds t lsp x (elementsFrom 0 (sheetNumbers l))) v
         said f l h =
             let s = sheetNumbers l in
             let g : Format = field (nIter 31) λ m. changes profile lsp 0 m f in
@@ -332,4 +342,17 @@ module _ (Reads : Format → ℕ → List Item → Type 0) where
             let u = count .past (λ m. changes profile lsp 0 m f) (p .values) (p .reads) in
             let i : Opened Reads o (elementOf (0 + 0) s) = opened-as (rw starts) (first .opened g l h) in
             let k : getD (afterElement s) 0 0 ≡ n = ap (λ (m : List ℕ). getD m 0 0) (sym (p .numbers)) ∙ count .is (λ m. changes profile lsp 0 m f) (p .values) (p .reads) in
-            more .said (elementOf (0 + 0) s) i f (u .values) (rw starts (u .reads)) ∙ rw (u .numbers, p .numbers, ← k)
+            let same : elementOf (0 + 0) s ∷ changesFrom 0 n (sheetNumbers (u .values)) ≡ elementsFrom 0 s = rw (u .numbers, p .numbers, ← k) in
+            subst (λ (es : List Element). Holding before (heldSpeeds t lsp x es) v) same (more .said (elementOf (0 + 0) s) i f (u .values) (rw starts (u .reads)))
+
+  -- ---- the head
+
+  module _ {ns : List ℕ} {lsp at : ℕ} (h : HeadRead Reads ns lsp at) where
+    pub head-readable : Readable Reads (part profile 31 lsp) at
+    head-readable = record { follows = part voltage wireChanges lsp (part current wireChanges lsp end); values = h .past .values; reads = h .past .reads }
+
+    -- the profile at the head's place is the segment's
+    pub head-passed : {t : Train} {x before r : ℕ} → ProfileRead Reads t lsp x before at r → Passed t ns x before r
+    head-passed {t} {x} {before} {r} p =
+        let q = p .said (part voltage wireChanges lsp (part current wireChanges lsp end)) (h .past .values) (h .past .reads) in
+        rw (h .past .numbers, h .length-is) at q

@@ -1,3 +1,4 @@
 -- What the code needs and no promise names.
 pub mod Elements
 pub mod Reading
+pub mod Passing

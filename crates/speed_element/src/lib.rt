@@ -50,6 +50,12 @@ pub struct ElementAt {
     pub next: usize,
 }
 
+// The head of a segment: L_SP in cm, and the place where its speed profile starts.
+pub struct Head {
+    pub lsp: u32,
+    pub profile: usize,
+}
+
 // Where an element ends in cm, the element that follows, and the place after that one.
 pub struct Following {
     pub end: u32,

@@ -1,12 +1,13 @@
-// Works out the permitted speed at a place of an accepted packet, element by element. What was accepted is not judged again.
+// Passes over the speed profile of an accepted packet, element by element. What was accepted is not judged again.
+// Locations and lengths are in cm, speeds in km/h.
 
 ghost use mathlib.Core.Path.{_≡_};
 ghost use Prim.Native.Nat.{_+_};
 ghost use Rattle.kinds.specs.Tables.{cantFigures};
 ghost use Rattle.grammar.specs.segment.Segment as segment;
 ghost use Rattle.grammar.specs.internal.segment.Parts as parts;
-ghost use Rattle.speed.specs.Speed.{segmentLength, speedIn};
-ghost use Rattle.speed_element.specs.internal.Reading.{Readable, EntryRead, Opens, ElementRead, Ended, NextRead, ChangesRead, ProfileRead};
+ghost use Rattle.speed_element.specs.internal.Reading.{Readable, EntryRead, Opens, ElementRead, Ended, NextRead, ChangesRead, ProfileRead, HeadRead};
+ghost use Rattle.speed_element.specs.internal.Passing.{Passed};
 ghost use Rattle.speed_packet.specs.internal.Asking.{AcceptedPacket, numbersOfPacket, Reads};
 use fields::raise;
 use fields::tables;
@@ -19,6 +20,7 @@ use kinds::body;
 use speed::Train;
 use speed_element::ElementAt;
 use speed_element::Following;
+use speed_element::Head;
 use speed_element::Lows;
 use speed_element::Open;
 
@@ -96,12 +98,22 @@ fn next(s: &[u8], open: Open, at: usize, left: u64, lsp: u32) -> Following
     }
 }
 
-// Returns the permitted speed at `x`, from the `count` changes after the first element. The last element ends at `lsp`.
-fn changes(s: &[u8], at: usize, count: u32, train: Train, lsp: u32, x: u32, first: Open) -> u32
+// Returns the lowest speed that holds at `x`: of the speed `before`, of the element `first`, and of the `count` changes after it.
+// The last element ends at `lsp`.
+fn changes(
+    s: &[u8],
+    at: usize,
+    count: u32,
+    train: Train,
+    lsp: u32,
+    x: u32,
+    before: u32,
+    first: Open,
+) -> u32
     requires { ⌜ Opens (Reads (now s)) first × Readable (Reads (now s)) (segment.changes segment.profile lsp (first .start) count) at ⌝ }
-    ensures { λ r. ⌜ ChangesRead (Reads (now (s .entry))) train lsp x first count at r ⌝ }
+    ensures { λ r. ⌜ ChangesRead (Reads (now (s .entry))) train lsp x before first count at r ⌝ }
 {
-    let mut held = speed_element::NONE;
+    let mut held = before;
     let mut open = first;
     let mut to = at;
     let mut left = count as u64 + 1;
@@ -112,32 +124,36 @@ fn changes(s: &[u8], at: usize, count: u32, train: Train, lsp: u32, x: u32, firs
         open = n.open;
         to = n.next;
     }
-    speed_element::permitted(held)
+    held
 }
 
-// Returns the permitted speed at `x`, from the profile at the bit `at`: its first element, the count of its changes, and the changes.
-fn profile(s: &[u8], at: usize, train: Train, lsp: u32, x: u32) -> u32
+// Returns the lowest speed that holds at `x`: of the speed `before`, and of the profile at the bit `at`, which is its first element, the count
+// of its changes, and the changes.
+fn profile(s: &[u8], at: usize, train: Train, lsp: u32, x: u32, before: u32) -> u32
     requires { ⌜ Readable (Reads (now s)) (segment.part segment.profile 31 lsp) at ⌝ }
-    ensures { λ r. ⌜ ProfileRead (Reads (now (s .entry))) train lsp x at r ⌝ }
+    ensures { λ r. ⌜ ProfileRead (Reads (now (s .entry))) train lsp x before at r ⌝ }
 {
     let first = element(s, at, 0);
     let count = bits::read_window(s, first.next, body::NIter::WIDTH);
-    changes(s, first.next + 5, count, train, lsp, x, first.open)
+    changes(s, first.next + 5, count, train, lsp, x, before, first.open)
 }
 
-// Returns the length in centimetres of an accepted packet's segment.
-pub fn length_of(packet: &[u8]) -> u32
+// Reads L_SP of an accepted packet. Its speed profile always starts at the same bit.
+pub fn head(packet: &[u8]) -> Head
     requires { ⌜ AcceptedPacket (now packet) ⌝ }
-    ensures { λ r. ⌜ r ≡ segmentLength (numbersOfPacket (now (packet .entry))) ⌝ }
+    ensures { λ r. ⌜ HeadRead (Reads (now (packet .entry))) (numbersOfPacket (now (packet .entry))) (r .lsp) (r .profile) ⌝ }
 {
-    bits::read_window(packet, LENGTH, body::LSp::WIDTH)
+    Head {
+        lsp: bits::read_window(packet, LENGTH, body::LSp::WIDTH),
+        profile: PROFILE,
+    }
 }
 
-// Returns the permitted speed in km/h for `train` at `x`, in centimetres, in an accepted packet.
-pub fn permitted(packet: &[u8], train: Train, x: u32) -> u32
-    requires { ⌜ AcceptedPacket (now packet) ⌝ }
-    ensures { λ r. ⌜ r ≡ speedIn train x (numbersOfPacket (now (packet .entry))) ⌝ }
+// Returns the lowest speed that holds for `train` at `x` from the start of an accepted packet's segment: of the speed `held`, and of the
+// elements of the segment. `head` is what the function of that name returned for the packet.
+pub fn passed(packet: &[u8], head: Head, train: Train, held: u32, x: u32) -> u32
+    requires { ⌜ HeadRead (Reads (now packet)) (numbersOfPacket (now packet)) (head .lsp) (head .profile) ⌝ }
+    ensures { λ r. ⌜ Passed train (numbersOfPacket (now (packet .entry))) x held r ⌝ }
 {
-    let lsp = length_of(packet);
-    profile(packet, PROFILE, train, lsp, x)
+    profile(packet, head.profile, train, head.lsp, x, held)
 }

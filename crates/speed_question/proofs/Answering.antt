@@ -1,13 +1,12 @@
--- The answer of a question follows from the refusal of the train and the place, and from the verdict on the packet or the sheet.
-use mathlib.Core.Path.{_≡_, sym, ap, ap₂, _∙_}
+-- The answer of a question follows from the refusal of the train and the place; the verdict on a segment, from the verdict on its packet or its sheet.
+use mathlib.Core.Path.{_≡_, sym, ap, _∙_}
 use mathlib.Core.Bool.{true, false}
 use mathlib.Core.List.{List}
 use Prim.Native.Nat.{ℕ, _≤_, _<_}
 use native.Mathlib.Omega.{arith}
-use borrow.Author.Tests.{lt-ltb, le-ltb}
+use borrow.Author.Tests.{ltb-true, lt-ltb, le-ltb}
 use lib.Dec.{ltb}
 use Rattle.bits.proofs.Tests.{by-cases}
-use Rattle.format.specs.Format.{accepted, refused, valuesOf, answerOf, sheetNumbers}
 use Rattle.format.specs.Media.{packet, sheet}
 use Rattle.grammar.specs.segment.Segment.{fields, sheetFields, wireChanges}
 use Rattle.grammar.specs.declared.link.Tree.the-variants.{Segment}
@@ -19,8 +18,10 @@ use Rattle.verdict.specs.internal.Verdict.{sizeFrom, packetVerdict, sheetVerdic
 use Rattle.verdict.proofs.Sizes.{packet-sorts, sheet-sorts}
 use Rattle.verdict.proofs.Accepted.{verdict-accepted, verdict-refused}
 use Rattle.speed.specs.declared.Train.{Train}
-use Rattle.speed.specs.Speed.{validTrain, segmentLength, speedIn}
-use Rattle.speed_question.specs.Question.{Brought, noSpeed, judgedSpeed, speedOfValues, readAs, speedFrom}
+use Rattle.speed.specs.Speed.{validTrain}
+use Rattle.speed_question.specs.declared.run.Judged.the-variants.{Accepted, Refused}
+use Rattle.speed_question.specs.Question.{Brought, noSpeed, judgedSpeed, readAs}
+use Rattle.speed_question.specs.internal.Run.{judgedOf}
 
 module _ (t : Train) (x lsp : ℕ) where
   -- ---- "speed questions judge 10, then 11"
@@ -44,36 +45,37 @@ module _ (t : Train) (x lsp : ℕ) where
       (λ a. by-cases (ltb x lsp) (λ b. f (rw (a, b)) (rw (a, b))) (λ b. g 11 (rw (a, b)) (λ q. omega arith) (rw (a, b))))
       (λ a. g 10 (rw a) (λ q. omega arith) (rw a))
 
-  module _ {r : ℕ} (e : r ≡ judgedSpeed t x lsp 0 .refusal) (v : ℕ) where
-    pub no-speed : (r ≡ 0 → ⊥) → noSpeed r 0 ≡ judgedSpeed t x lsp v
-    no-speed n = answer-by v (λ a b. absurd (n (e ∙ a))) (λ q a z b. ap (λ (n : ℕ). noSpeed n 0) (e ∙ a) ∙ sym b)
+  module _ {r : ℕ} (e : r ≡ judgedSpeed t x lsp 0 .refusal) where
+    pub no-speed : (v : ℕ) → (r ≡ 0 → ⊥) → noSpeed r 0 ≡ judgedSpeed t x lsp v
+    no-speed v n = answer-by v (λ a b. absurd (n (e ∙ a))) (λ q a z b. ap (λ (n : ℕ). noSpeed n 0) (e ∙ a) ∙ sym b)
 
-    pub some-speed : r ≡ 0 → record { refusal = 0; place = 0; speed = v } ≡ judgedSpeed t x lsp v
-    some-speed z = answer-by v (λ a b. sym b) (λ q a n b. absurd (n (sym a ∙ sym e ∙ z)))
+    pub some-speed : (v : ℕ) → r ≡ 0 → record { refusal = 0; place = 0; speed = v } ≡ judgedSpeed t x lsp v
+    some-speed v z = answer-by v (λ a b. sym b) (λ q a n b. absurd (n (sym a ∙ sym e ∙ z)))
 
--- ---- the answer from the verdict
+    pub in-segment : r ≡ 0 → x < lsp
+    in-segment z = by-cases (ltb x lsp) (λ d. ltb-true x lsp d) (λ d. absurd (late d))
+      where
+        late : ltb x lsp ≡ false → ⊥
+        late d =
+            by-cases (validTrain t)
+            (λ a. let n : judgedSpeed t x lsp 0 .refusal ≡ 11 = rw (a, d) in omega (arith, e, n))
+            (λ a. let n : judgedSpeed t x lsp 0 .refusal ≡ 10 = rw a in omega (arith, e, n))
+
+-- ---- the verdict on a segment
 
 module _ (s : List ℕ) where
-  pub packet-refused : (q place : ℕ) → PacketVerdict.Refused q place ≡ packetVerdict Segment s → readAs Brought.packet s ≡ refused q place
+  pub packet-refused : (q place : ℕ) → PacketVerdict.Refused q place ≡ packetVerdict Segment s → Refused q place ≡ judgedOf (readAs Brought.packet s)
   unfolding packetVerdict fromPacket fields sheetFields
-  packet-refused q place e = verdict-refused packet-sorts (sizeFrom sheet (treeSheetFields Segment) 0) (fromPacket wireChanges s) q place e
+  packet-refused q place e = sym (ap judgedOf (verdict-refused packet-sorts (sizeFrom sheet (treeSheetFields Segment) 0) (fromPacket wireChanges s) q place e))
 
-  pub packet-accepted : (n : ℕ) → PacketVerdict.SheetBytes n ≡ packetVerdict Segment s → readAs Brought.packet s ≡ accepted (valuesOf (readAs Brought.packet s))
+  pub packet-accepted : (n : ℕ) → PacketVerdict.SheetBytes n ≡ packetVerdict Segment s → Accepted ≡ judgedOf (readAs Brought.packet s)
   unfolding packetVerdict fromPacket fields sheetFields
-  packet-accepted n e = verdict-accepted packet-sorts (sizeFrom sheet (treeSheetFields Segment) 0) (fromPacket wireChanges s) n e λ p q. p
+  packet-accepted n e = sym (ap judgedOf (verdict-accepted packet-sorts (sizeFrom sheet (treeSheetFields Segment) 0) (fromPacket wireChanges s) n e λ p q. p))
 
-  pub sheet-refused : (q place : ℕ) → SheetVerdict.Refused q place ≡ sheetVerdict Segment s → readAs Brought.sheet s ≡ refused q place
+  pub sheet-refused : (q place : ℕ) → SheetVerdict.Refused q place ≡ sheetVerdict Segment s → Refused q place ≡ judgedOf (readAs Brought.sheet s)
   unfolding sheetVerdict fromSheet fields sheetFields
-  sheet-refused q place e = verdict-refused sheet-sorts (sizeFrom packet (treeSheetFields Segment) 0) (fromSheet wireChanges s) q place e
+  sheet-refused q place e = sym (ap judgedOf (verdict-refused sheet-sorts (sizeFrom packet (treeSheetFields Segment) 0) (fromSheet wireChanges s) q place e))
 
-  pub sheet-accepted : (n : ℕ) → SheetVerdict.PacketBits n ≡ sheetVerdict Segment s → readAs Brought.sheet s ≡ accepted (valuesOf (readAs Brought.sheet s))
+  pub sheet-accepted : (n : ℕ) → SheetVerdict.PacketBits n ≡ sheetVerdict Segment s → Accepted ≡ judgedOf (readAs Brought.sheet s)
   unfolding sheetVerdict fromSheet fields sheetFields
-  sheet-accepted n e = verdict-accepted sheet-sorts (sizeFrom packet (treeSheetFields Segment) 0) (fromSheet wireChanges s) n e λ p q. p
-
-module _ (b : Brought) (s : List ℕ) (t : Train) (x : ℕ) where
-  pub of-refusal : (q place : ℕ) → readAs b s ≡ refused q place → noSpeed q place ≡ speedFrom b s t x
-  of-refusal q place e = sym (ap (answerOf noSpeed (speedOfValues t x)) e)
-
-  pub of-values : readAs b s ≡ accepted (valuesOf (readAs b s)) → {lsp v : ℕ} → lsp ≡ segmentLength (sheetNumbers (valuesOf (readAs b s)))
-      → v ≡ speedIn t x (sheetNumbers (valuesOf (readAs b s))) → judgedSpeed t x lsp v ≡ speedFrom b s t x
-  of-values e l v = ap₂ (judgedSpeed t x) l v ∙ sym (ap (answerOf noSpeed (speedOfValues t x)) e)
+  sheet-accepted n e = sym (ap judgedOf (verdict-accepted sheet-sorts (sizeFrom packet (treeSheetFields Segment) 0) (fromSheet wireChanges s) n e λ p q. p))

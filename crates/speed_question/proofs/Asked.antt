@@ -1,15 +1,13 @@
--- The question by its medium: 0 and 1 are answered from a packet and a sheet, and a medium that is neither is refused, first of all.
-use mathlib.Core.Path.{_≡_, refl}
+-- The question by its medium and its count: a medium that is neither is refused first of all, then a count of 0 or more than 4.
+use mathlib.Core.Path.{_≡_, refl, ap, _∙_}
+use mathlib.Core.Bool.{Bool, true, false, cond}
 use mathlib.Core.List.{List}
-use Prim.Native.Nat.{ℕ}
-use borrow.Author.Tests.{eqb-true, eqb-false, ne-eqb}
+use Prim.Native.Nat.{ℕ, _≤_, _<_}
+use borrow.Author.Tests.{eqb-true, eqb-false, ne-eqb, le-leb, lt-leb}
 use lib.Dec.{eqb}
 use Rattle.bits.proofs.Tests.{by-cases}
-use Rattle.format.specs.Format.{answerOf}
-use Rattle.grammar.specs.segment.Segment.{wireChanges}
-use Rattle.grammar.specs.segment.Judgement.{fromPacket, fromSheet}
 use Rattle.speed.specs.declared.Train.{Train}
-use Rattle.speed_question.specs.Question.{Brought, packet, sheet, mediumOf, Neither, noSpeed, speedOfValues, speedFrom, permittedSpeed}
+use Rattle.speed_question.specs.Question.{Brought, packet, sheet, mediumOf, Neither, noSpeed, lent, runCount, speedFrom, speedCounted, speedAsked, permittedSpeed}
 
 -- a medium is 0 or 1, or neither
 pub either-medium : {C : Type 0} (medium : ℕ) → ((b : Brought) → medium ≡ mediumOf b → C) → (Neither medium → C) → C
@@ -17,17 +15,39 @@ either-medium medium f g =
     by-cases (eqb medium 0) (λ d. f packet (eqb-true medium 0 d))
     (λ d. by-cases (eqb medium 1) (λ e. f sheet (eqb-true medium 1 e)) (λ e. g (eqb-false medium 0 d, eqb-false medium 1 e)))
 
-module _ (s : List ℕ) (t : Train) (x : ℕ) where
-  pub asked : {medium : ℕ} (b : Brought) → medium ≡ mediumOf b → permittedSpeed medium s t x ≡ speedFrom b s t x
-  unfolding permittedSpeed
-  asked packet e = rw e
-  asked sheet e = rw e
+-- "a run of none or more than 4"
+pub none-few : (count : ℕ) → count < 1 → runCount count ≡ false
+none-few count h = rw (lt-leb 1 count h)
+
+pub many-few : (count : ℕ) → 1 ≤ count → 4 < count → runCount count ≡ false
+many-few count a b = rw (le-leb 1 count a, lt-leb count 4 b)
+
+pub some-few : (count : ℕ) → 1 ≤ count → count ≤ 4 → runCount count ≡ true
+some-few count a b = rw (le-leb 1 count a, le-leb count 4 b)
+
+-- the question as it is lent
+pub lent-asked : (medium count : ℕ) (first second third fourth : List ℕ) (t : Train) (x : ℕ)
+    → permittedSpeed medium count first second third fourth t x ≡ speedAsked medium count (lent count first second third fourth) t x
+unfolding permittedSpeed
+lent-asked medium count first second third fourth t x = refl
+
+module _ (medium count : ℕ) (r : List (List ℕ)) (t : Train) (x : ℕ) where
+  medium-asked : (b : Brought) → medium ≡ mediumOf b → speedAsked medium count r t x ≡ speedCounted b count r t x
+  medium-asked packet e = rw e
+  medium-asked sheet e = rw e
 
   -- "15, first of all, for a kind that is neither"
-  pub neither-first : {medium : ℕ} → Neither medium → permittedSpeed medium s t x ≡ noSpeed 15 0
-  unfolding permittedSpeed
-  neither-first {medium} n = rw (ne-eqb medium 0 (n .0), ne-eqb medium 1 (n .1))
+  pub neither-first : Neither medium → speedAsked medium count r t x ≡ noSpeed 15 0
+  neither-first n = rw (ne-eqb medium 0 (n .0), ne-eqb medium 1 (n .1))
 
-  -- "Answers stay the same for each kind": 0 gives the speed from a packet, 1 the speed from a sheet
-  pub same-answers : (permittedSpeed 0 s t x ≡ answerOf noSpeed (speedOfValues t x) (fromPacket wireChanges s)) × (permittedSpeed 1 s t x ≡ answerOf noSpeed (speedOfValues t x) (fromSheet wireChanges s))
-  same-answers = (asked packet refl, asked sheet refl)
+  module _ (b : Brought) (e : medium ≡ mediumOf b) where
+    counted : {few : Bool} → runCount count ≡ few → speedAsked medium count r t x ≡ cond few (speedFrom b r t x) (noSpeed 16 0)
+    counted c = medium-asked b e ∙ ap (λ (z : Bool). cond z (speedFrom b r t x) (noSpeed 16 0)) c
+
+    -- "16 for a run of none or more than 4, judged right after 15"
+    pub count-next : runCount count ≡ false → speedAsked medium count r t x ≡ noSpeed 16 0
+    count-next c = counted c
+
+    -- then each segment
+    pub run-asked : runCount count ≡ true → speedAsked medium count r t x ≡ speedFrom b r t x
+    run-asked c = counted c

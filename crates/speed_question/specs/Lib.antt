@@ -1,1 +1,3 @@
 pub mod Question
+pub mod Grounds
+pub mod internal

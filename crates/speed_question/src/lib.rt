@@ -1,15 +1,17 @@
-// The permitted speed of a train at a place of a segment, from a packet or from a sheet.
-// The segment is judged whole, then the train, then the place; only then is the speed worked out.
+// The permitted speed of a train at a place of a run of segments, from packets or from sheets.
+// The segments are judged whole, in order, then the train, then the place; only then is the speed worked out.
+pub mod run;
 
 ghost use mathlib.Core.Path.{_≡_};
-ghost use Rattle.speed_question.specs.Question.{Brought, judgedSpeed, speedFrom, permittedSpeed};
-use grammar::link::Tree;
+ghost use Rattle.speed.specs.Run.{Each};
+ghost use Rattle.speed_question.specs.Question.{judgedSpeed, lent, speedOfRun, permittedSpeed};
+ghost use Rattle.speed_question.specs.internal.Run.{broughtOf, AcceptedAs, valuesIn, Few};
 use kinds::refusals::PAST_END;
+use kinds::refusals::RUN_COUNT;
 use kinds::refusals::TRAIN_VALUE;
 use kinds::refusals::UNKNOWN_KIND;
+use run::Judged;
 use speed::Train;
-use verdict::PacketVerdict;
-use verdict::SheetVerdict;
 
 // Answer to a speed question: 0, 0 and the permitted speed in km/h; or a refusal's number, its place (a bit of the packet or a byte of the sheet) and 0.
 #[repr(C)]
@@ -18,12 +20,6 @@ pub struct Speed {
     pub place: u32,
     pub speed: u32,
 }
-
-// `medium` of a question that brings a packet.
-pub const PACKET: u32 = 0;
-
-// `medium` of a question that brings a sheet.
-pub const SHEET: u32 = 1;
 
 // Makes an answer of `refusal`, its `place` and `speed` in km/h.
 fn answer(refusal: u32, place: u32, speed: u32) -> Speed
@@ -49,49 +45,59 @@ fn refusal_of(train: Train, x: u32, lsp: u32) -> u32
     TRAIN_VALUE
 }
 
-// Judges `packet`, then `train` and the place `x` (in cm), and answers with the speed. A packet's speeds count steps of 5 km/h.
-fn from_packet(packet: &[u8], train: Train, x: u32) -> Speed
-    ensures { λ r. ⌜ r ≡ speedFrom Brought.packet (now (packet .entry)) train x ⌝ }
+// Judges `train` and the place `x` in the last of the `count` accepted segments, and answers with the speed.
+fn of_run<'a>(
+    medium: u32,
+    count: u32,
+    first: &'a [u8],
+    second: &'a [u8],
+    third: &'a [u8],
+    fourth: &'a [u8],
+    train: Train,
+    x: u32,
+) -> Speed
+    requires { ⌜ Few count × Each (AcceptedAs (broughtOf medium)) (lent count (now first) (now second) (now third) (now fourth)) ⌝ }
+    ensures { λ r. ⌜ r ≡ speedOfRun train x (valuesIn (broughtOf medium) (lent count (now (first .entry)) (now (second .entry)) (now (third .entry)) (now (fourth .entry)))) ⌝ }
 {
-    match packet_judge::judge_packet(Tree::Segment, packet) {
-        PacketVerdict::Refused(r, place) => answer(r, place, 0),
-        PacketVerdict::SheetBytes(_) => {
-            let refusal = refusal_of(train, x, speed_packet::length_of(packet));
-            if refusal != 0 {
-                return answer(refusal, 0, 0);
-            }
-            answer(0, 0, speed_packet::permitted(packet, train, x))
-        }
+    let last = run::last_segment(medium, count, first, second, third, fourth);
+    let head = last.head;
+    let refusal = refusal_of(train, x, head.lsp);
+    if refusal != 0 {
+        return answer(refusal, 0, 0);
     }
+    answer(
+        0,
+        0,
+        run::speed_in_run(medium, count, first, second, third, fourth, last, train, x),
+    )
 }
 
-// Judges `sheet`, then `train` and the place `x` (in cm), and answers with the speed. A sheet's speeds are in km/h.
-fn from_sheet(sheet: &[u8], train: Train, x: u32) -> Speed
-    ensures { λ r. ⌜ r ≡ speedFrom Brought.sheet (now (sheet .entry)) train x ⌝ }
+// Answers the permitted speed of `train` at `x` cm from the start of the last of the `count` segments, or a refusal.
+// `medium` says what the segments are: 0 packets, 1 sheets. Any other is refused with 15, then a count of 0 or more than 4 with 16.
+// Segments past the count are not read.
+pub fn permitted_speed<'a>(
+    medium: u32,
+    count: u32,
+    first: &'a [u8],
+    second: &'a [u8],
+    third: &'a [u8],
+    fourth: &'a [u8],
+    train: Train,
+    x: u32,
+) -> Speed
+    ensures { λ r. ⌜ r ≡ permittedSpeed medium count (now (first .entry)) (now (second .entry)) (now (third .entry)) (now (fourth .entry)) train x ⌝ }
 {
-    match sheet_judge::judge_sheet(Tree::Segment, sheet) {
-        SheetVerdict::Refused(r, place) => answer(r, place, 0),
-        SheetVerdict::PacketBits(_) => {
-            let start = speed_sheet::head(sheet);
-            let refusal = refusal_of(train, x, start.lsp);
-            if refusal != 0 {
-                return answer(refusal, 0, 0);
-            }
-            answer(0, 0, speed_sheet::permitted(sheet, start, train, x))
-        }
+    if run::SHEET < medium {
+        return answer(UNKNOWN_KIND, 0, 0);
     }
-}
-
-// Answers the permitted speed of `train` at `x` cm from the start of `segment`, or a refusal.
-// `medium` says what `segment` is: 0 a packet, 1 a sheet. Any other is refused with 15.
-pub fn permitted_speed(medium: u32, segment: &[u8], train: Train, x: u32) -> Speed
-    ensures { λ r. ⌜ r ≡ permittedSpeed medium (now (segment .entry)) train x ⌝ }
-{
-    if medium == PACKET {
-        return from_packet(segment, train, x);
+    if count < 1 {
+        return answer(RUN_COUNT, 0, 0);
     }
-    if medium == SHEET {
-        return from_sheet(segment, train, x);
+    if run::MOST < count {
+        return answer(RUN_COUNT, 0, 0);
     }
-    answer(UNKNOWN_KIND, 0, 0)
+    match run::judge_run(medium, count, first, second, third, fourth) {
+        Judged::Refused(r, place) => answer(r, place, 0),
+        Judged::Accepted => of_run(medium, count, first, second, third, fourth, train, x),
+    }
 }

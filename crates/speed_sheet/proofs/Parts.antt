@@ -15,21 +15,19 @@ use Rattle.numbers.proofs.Counting.{count-some, last-count}
 use Rattle.kinds.specs.declared.Item.{Item}
 use Rattle.kinds.specs.Kind.{Kind, when, upTo}
 use Rattle.kinds.specs.Kinds.{nidPacketAto, nidOperational, qDiff, class, speed, qFront, nIter, lSp}
-use Rattle.fields.proofs.Lawful.{LawfulKind, narrow, upTo-lawful, speed-lawful, class-lawful}
+use Rattle.fields.proofs.Lawful.{LawfulKind, narrow, range-lawful, upTo-lawful, speed-lawful, class-lawful}
 use Rattle.format.specs.Format.{Format, end, field, then, read, valuesOf, sheetNumbers}
 use Rattle.format.specs.Media.{sheet}
 use Rattle.grammar.specs.internal.rows.Rows.{row}
-use Rattle.grammar.specs.segment.Segment.{entries, profile, voltage, current, part, sheetFields, wireChanges}
+use Rattle.grammar.specs.segment.Segment.{entries, profile, part, sheetFields, wireChanges}
 use Rattle.grammar.specs.segment.Judgement.{fromSheet}
 use Rattle.grammar.specs.internal.segment.Parts.{entry, threeLists, headerWidths, headerMost, identityWidths, identityMost, offsetWidths, offsetMost, offsetRows, segmentRows}
 use Rattle.grammar.proofs.segment.Parts.{fields-rows}
-use Rattle.speed.specs.declared.Train.{Train}
-use Rattle.speed.specs.Speed.{speedIn}
 use Rattle.speed.proofs.Lowering.{when-is}
 use Rattle.speed_element.specs.internal.Elements.{none, Kept}
-use Rattle.speed_element.specs.internal.Reading.{Readable, Past, Passes, FieldRead, ProfileRead}
+use Rattle.speed_element.specs.internal.Reading.{Readable, Past, Passes, FieldRead, HeadRead}
 use Rattle.speed_element.proofs.Reading.{readable-field, past-here, then-past, then-is}
-use Rattle.speed_sheet.specs.internal.Asking.{AcceptedSheet, numbersOfSheet, countedAt, NumberAt, NumberHere, numbersEnd, Numbers, shortEnd, entryEnd, Reads, HeadRead}
+use Rattle.speed_sheet.specs.internal.Asking.{AcceptedSheet, numbersOfSheet, countedAt, NumberAt, NumberHere, numbersEnd, Numbers, shortEnd, entryEnd, Reads}
 use Rattle.speed_sheet.proofs.Numbers.{valueOr, field-read, field-any, known}
 
 class-highest : (q : ℕ) → class q .highest < 16384
@@ -45,6 +43,9 @@ q-diff-lawful = upTo-lawful 2 2 (narrow tt) (lit< tt)
 
 front-lawful : LawfulKind qFront
 front-lawful = upTo-lawful 1 1 (narrow tt) (lit< tt)
+
+length-lawful : LawfulKind lSp
+length-lawful = range-lawful 24 1 16777215 4 (narrow tt) (lit< tt)
 
 count-lawful : LawfulKind (nIter 31)
 count-lawful = upTo-lawful 5 31 (narrow tt) (lit< tt)
@@ -217,11 +218,7 @@ module _ (s : List ℕ) where
       pub offset-numbers : Numbers s to 3
       offset-numbers = record { ok = ok; here = offset-walk .here }
 
-      pub head-read : {p : ℕ} → p ≡ numbersEnd s to 3 → HeadRead s a p
-      head-read q = record { length-is = sym (then-is (Reads s) (same-read n lSp (λ u. refl)) 10 all length-past); past = rw q (offset-walk .past) }
-
-  -- ---- the whole
-
-  module _ {lsp at : ℕ} (h : HeadRead s lsp at) where
-    pub speed-asked : {t : Train} {x v : ℕ} → ProfileRead (Reads s) t lsp x at v → v ≡ speedIn t x (numbersOfSheet s)
-    speed-asked r = r .said (part voltage wireChanges lsp (part current wireChanges lsp end)) (h .past .values) (h .past .reads) ∙ rw (h .past .numbers, h .length-is)
+      pub head-read : {p : ℕ} → p ≡ numbersEnd s to 3 → HeadRead (Reads s) all a p
+      head-read q =
+          let most : a ≤ 16777215 = number-most n length-lawful offsetRows (record { follows = end; values = length-past .values; reads = length-past .reads }) in
+          record { length-is = sym (then-is (Reads s) (same-read n lSp (λ u. refl)) 10 all length-past); small = omega (arith, most); past = rw q (offset-walk .past) }

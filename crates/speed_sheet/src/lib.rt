@@ -1,4 +1,4 @@
-// The permitted speed at a place of an accepted sheet, worked out element by element. What was accepted is not judged again.
+// Passes over the speed profile of an accepted sheet, element by element. What was accepted is not judged again.
 // Locations and lengths are in cm, speeds in km/h.
 
 ghost use mathlib.Core.Path.{_≡_};
@@ -6,13 +6,15 @@ ghost use Prim.Native.Nat.{_<_};
 ghost use lib.ListN.{length};
 ghost use Rattle.grammar.specs.segment.Segment as segment;
 ghost use Rattle.grammar.specs.internal.segment.Parts as parts;
-ghost use Rattle.speed.specs.Speed.{afterEntries, speedIn};
-ghost use Rattle.speed_element.specs.internal.Reading.{Readable, Passes, EntryRead, Opens, ElementRead, Ended, NextRead, ChangesRead, ProfileRead};
-ghost use Rattle.speed_sheet.specs.internal.Asking.{AcceptedSheet, numbersOfSheet, NumberAt, Numbers, numbersEnd, shortEnd, Reads, HeadRead};
+ghost use Rattle.speed.specs.Speed.{afterEntries};
+ghost use Rattle.speed_element.specs.internal.Reading.{Readable, Passes, EntryRead, Opens, ElementRead, Ended, NextRead, ChangesRead, ProfileRead, HeadRead};
+ghost use Rattle.speed_element.specs.internal.Passing.{Passed};
+ghost use Rattle.speed_sheet.specs.internal.Asking.{AcceptedSheet, numbersOfSheet, NumberAt, Numbers, numbersEnd, shortEnd, Reads};
 use numbers::accepted::ReadNumber;
 use speed::Train;
 use speed_element::ElementAt;
 use speed_element::Following;
+use speed_element::Head;
 use speed_element::Lows;
 use speed_element::Open;
 
@@ -29,12 +31,6 @@ const OFFSETS: u32 = 3;
 pub struct Entered {
     pub lows: Lows,
     pub next: usize,
-}
-
-// `lsp`: the value of L_SP. `profile`: the byte where the speed profile starts.
-pub struct Start {
-    pub lsp: u32,
-    pub profile: usize,
 }
 
 // Reads the number at the byte `at`.
@@ -147,12 +143,22 @@ fn next(s: &[u8], open: Open, at: usize, left: u64, lsp: u32) -> Following
     }
 }
 
-// Returns the permitted speed at `x`, from the element `first` and the `count` changes at the byte `at`. The last element ends at `lsp`.
-fn changes(s: &[u8], at: usize, count: u32, train: Train, lsp: u32, x: u32, first: Open) -> u32
+// Returns the lowest speed that holds at `x`: of the speed `before`, of the element `first`, and of the `count` changes at the byte `at`.
+// The last element ends at `lsp`.
+fn changes(
+    s: &[u8],
+    at: usize,
+    count: u32,
+    train: Train,
+    lsp: u32,
+    x: u32,
+    before: u32,
+    first: Open,
+) -> u32
     requires { ⌜ Opens (Reads (now s)) first × Readable (Reads (now s)) (segment.changes segment.profile lsp (first .start) count) at ⌝ }
-    ensures { λ r. ⌜ ChangesRead (Reads (now (s .entry))) train lsp x first count at r ⌝ }
+    ensures { λ r. ⌜ ChangesRead (Reads (now (s .entry))) train lsp x before first count at r ⌝ }
 {
-    let mut held = speed_element::NONE;
+    let mut held = before;
     let mut open = first;
     let mut to = at;
     let mut left = count as u64 + 1;
@@ -163,17 +169,27 @@ fn changes(s: &[u8], at: usize, count: u32, train: Train, lsp: u32, x: u32, firs
         open = n.open;
         to = n.next;
     }
-    speed_element::permitted(held)
+    held
 }
 
-// Returns the permitted speed at `x`, from the speed profile at the byte `at`: its first element, the count of its changes, and the changes.
-fn profile(s: &[u8], at: usize, train: Train, lsp: u32, x: u32) -> u32
+// Returns the lowest speed that holds at `x`: of the speed `before`, and of the speed profile at the byte `at`, which is its first element,
+// the count of its changes, and the changes.
+fn profile(s: &[u8], at: usize, train: Train, lsp: u32, x: u32, before: u32) -> u32
     requires { ⌜ Readable (Reads (now s)) (segment.part segment.profile 31 lsp) at ⌝ }
-    ensures { λ r. ⌜ ProfileRead (Reads (now (s .entry))) train lsp x at r ⌝ }
+    ensures { λ r. ⌜ ProfileRead (Reads (now (s .entry))) train lsp x before at r ⌝ }
 {
     let first = element(s, at, 0);
     let count = number(s, first.next);
-    changes(s, count.next, count.value, train, lsp, x, first.open)
+    changes(
+        s,
+        count.next,
+        count.value,
+        train,
+        lsp,
+        x,
+        before,
+        first.open,
+    )
 }
 
 // Returns the byte after the `count` numbers that stand at the byte `at`: each number ends at its first byte below 128.
@@ -192,22 +208,23 @@ fn numbers_end(s: &[u8], at: usize, count: u32) -> usize
 }
 
 // Reads L_SP of an accepted sheet, and finds the speed profile.
-pub fn head(sheet: &[u8]) -> Start
+pub fn head(sheet: &[u8]) -> Head
     requires { ⌜ AcceptedSheet (now sheet) ⌝ }
-    ensures { λ r. ⌜ HeadRead (now (sheet .entry)) (r .lsp) (r .profile) ⌝ }
+    ensures { λ r. ⌜ HeadRead (Reads (now (sheet .entry))) (numbersOfSheet (now (sheet .entry))) (r .lsp) (r .profile) ⌝ }
 {
     let at = numbers_end(sheet, FIRST, BEFORE_LENGTH);
     let length = number(sheet, at);
-    Start {
+    Head {
         lsp: length.value,
         profile: numbers_end(sheet, length.next, OFFSETS),
     }
 }
 
-// Returns the permitted speed of `train` at the location `x` of an accepted sheet. `start` is what `head` returned for that sheet.
-pub fn permitted(sheet: &[u8], start: Start, train: Train, x: u32) -> u32
-    requires { ⌜ HeadRead (now sheet) (start .lsp) (start .profile) ⌝ }
-    ensures { λ r. ⌜ r ≡ speedIn train x (numbersOfSheet (now (sheet .entry))) ⌝ }
+// Returns the lowest speed that holds for `train` at `x` from the start of an accepted sheet's segment: of the speed `held`, and of the
+// elements of the segment. `head` is what the function of that name returned for the sheet.
+pub fn passed(sheet: &[u8], head: Head, train: Train, held: u32, x: u32) -> u32
+    requires { ⌜ HeadRead (Reads (now sheet)) (numbersOfSheet (now sheet)) (head .lsp) (head .profile) ⌝ }
+    ensures { λ r. ⌜ Passed train (numbersOfSheet (now (sheet .entry))) x held r ⌝ }
 {
-    profile(sheet, start.profile, train, start.lsp, x)
+    profile(sheet, head.profile, train, head.lsp, x, held)
 }

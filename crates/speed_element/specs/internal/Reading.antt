@@ -1,21 +1,25 @@
 -- The parts of an accepted speed profile, read at places of any medium, as the contracts say it. No promise names it.
 use mathlib.Core.Path.{_≡_}
 use mathlib.Core.Bool.{cond}
-use mathlib.Core.List.{List, _∷_}
+use mathlib.Core.List.{List, _∷_, _++_}
 use Prim.Native.Nat.{ℕ, _<_}
 use lib.ListN.{drop, getD}
 use Rattle.kinds.specs.declared.Item.{Item}
 use Rattle.kinds.specs.Kind.{Kind}
 use Rattle.kinds.specs.Kinds.{dLocation}
-use Rattle.format.specs.Format.{Format, field, sheetNumbers}
+use Rattle.format.specs.Format.{Format, end, field, sheetNumbers}
 use Rattle.grammar.specs.segment.Segment.{entries, profile, changes, part}
-use Rattle.grammar.specs.internal.segment.Parts.{entry}
+use Rattle.grammar.specs.internal.segment.Parts.{entry, threeLists}
 use Rattle.speed.specs.declared.Train.{Train}
-use Rattle.speed.specs.Speed.{Element, elementSpeed, holds, permitted, elementOf, afterElement, changesFrom, elementsFrom}
+use Rattle.speed.specs.Speed.{Element, elementSpeed, holds, heldSpeeds, elementOf, afterElement, changesFrom, elementsFrom, segmentLength, profileOf}
 use Rattle.speed_element.specs.declared.Lows.{Lows}
 use Rattle.speed_element.specs.declared.Following.{Following}
 use Rattle.speed_element.specs.declared.Open.{Open}
 use Rattle.speed_element.specs.internal.Elements.{none, insteadFrom, OneMore, elementAs}
+
+-- r stands for what was held before and for the speeds l
+pub record Holding (before : ℕ) (l : List ℕ) (r : ℕ) : Type 0 where
+  pub with : (m : List ℕ) → insteadFrom r 0 m ≡ insteadFrom before 0 (l ++ m)
 
 -- Reads f at l: the tree f stands at the place at, and is accepted with the values l
 module _ (Reads : Format → ℕ → List Item → Type 0) where
@@ -78,10 +82,16 @@ module _ (Reads : Format → ℕ → List Item → Type 0) where
     pub change : 0 < n → ChangeRead lsp (o .start) at r
     pub last : n ≡ 0 → r .end ≡ lsp
 
-  -- the permitted speed, from n changes after an open element
-  pub record ChangesRead (t : Train) (lsp x : ℕ) (first : Open) (n at speed : ℕ) : Type 0 where
+  -- what is held at x after n changes that follow an open element: what was held before, with all of them
+  pub record ChangesRead (t : Train) (lsp x before : ℕ) (first : Open) (n at r : ℕ) : Type 0 where
     pub said : (e : Element) → Opened first e → (f : Format) (l : List Item) → Reads (changes profile lsp (first .start) n f) at l
-        → speed ≡ permitted t lsp x (e ∷ changesFrom 0 n (sheetNumbers l))
+        → Holding before (heldSpeeds t lsp x (e ∷ changesFrom 0 n (sheetNumbers l))) r
 
-  pub record ProfileRead (t : Train) (lsp x at speed : ℕ) : Type 0 where
-    pub said : (f : Format) (l : List Item) → Reads (part profile 31 lsp f) at l → speed ≡ permitted t lsp x (elementsFrom 0 (sheetNumbers l))
+  pub record ProfileRead (t : Train) (lsp x before at r : ℕ) : Type 0 where
+    pub said : (f : Format) (l : List Item) → Reads (part profile 31 lsp f) at l → Holding before (heldSpeeds t lsp x (elementsFrom 0 (sheetNumbers l))) r
+
+  -- the head of a segment with the numbers ns was read: lsp is its L_SP, and the speed profile stands at the place at
+  pub record HeadRead (ns : List ℕ) (lsp at : ℕ) : Type 0 where
+    pub length-is : lsp ≡ segmentLength ns
+    pub small : lsp < 16777216
+    pub past : Past (threeLists lsp end) at (profileOf ns)

@@ -8,13 +8,10 @@ use Rattle.numbers.specs.declared.Number.the-variants.{Value}
 use Rattle.numbers.specs.Numbers.{numberIn}
 use Rattle.numbers.specs.internal.Groups.{counted}
 use Rattle.kinds.specs.declared.Item.{Item}
-use Rattle.format.specs.Format.{Format, end, accepted, read, valuesOf, sheetNumbers}
+use Rattle.format.specs.Format.{Format, accepted, read, valuesOf, sheetNumbers}
 use Rattle.format.specs.Media.{sheet}
 use Rattle.grammar.specs.segment.Segment.{wireChanges}
-use Rattle.grammar.specs.internal.segment.Parts.{threeLists}
 use Rattle.grammar.specs.segment.Judgement.{fromSheet}
-use Rattle.speed.specs.Speed.{segmentLength, profileOf}
-use Rattle.speed_element.specs.internal.Reading.{Past}
 
 -- the sheet s is accepted
 abbrev pub AcceptedSheet : List ℕ → Type 0
@@ -64,8 +61,3 @@ pub record Reads (s : List ℕ) (f : Format) (at : ℕ) (l : List Item) : Type 0
   pub before : at ≤ length s
   pub ok : Bytes s
   pub reads : read sheet f at (drop at s) ≡ accepted l
-
--- the head of the sheet s was read: lsp is its L_SP, and the speed profile starts at the byte at
-pub record HeadRead (s : List ℕ) (lsp at : ℕ) : Type 0 where
-  pub length-is : lsp ≡ segmentLength (numbersOfSheet s)
-  pub past : Past (Reads s) (threeLists lsp end) at (profileOf (numbersOfSheet s))

@@ -18,9 +18,8 @@ use Rattle.grammar.specs.segment.Segment.{profile, voltage, current, part, list
 use Rattle.grammar.specs.segment.Frame.{packetNumber, bodyBits, padding, firstOne, fieldBits}
 use Rattle.grammar.specs.segment.Judgement.{fromPacket}
 use Rattle.grammar.proofs.segment.Framing.{padded-accepted}
-use Rattle.speed.specs.declared.Train.{Train}
-use Rattle.speed.specs.Speed.{segmentLength, profileOf, speedIn}
-use Rattle.speed_element.specs.internal.Reading.{Readable, Past, ProfileRead}
+use Rattle.speed.specs.Speed.{segmentLength, profileOf}
+use Rattle.speed_element.specs.internal.Reading.{Past, HeadRead}
 use Rattle.speed_element.proofs.Reading.{past-here, then-past, then-is}
 use Rattle.speed_packet.specs.internal.Asking.{AcceptedPacket, numbersOfPacket, Reads}
 use Rattle.speed_packet.proofs.Fields.{field-read, field-fits}
@@ -86,12 +85,5 @@ module _ (s : List ℕ) where
         past = record { values = p13 .values; reads = p13 .reads; numbers = p13 .numbers ∙ ap profileOf (sym (w .all)) };
       }
 
-  module _ (e : AcceptedPacket s) {lsp : ℕ} (d : lsp ≡ segmentLength (numbersOfPacket s)) where
-    pub profile-readable : Readable (Reads s) (part profile 31 lsp) 253
-    profile-readable = let h = headed e in rw (d ∙ h .length-is) (record { follows = _; values = h .past .values; reads = h .past .reads })
-
-    pub speed-asked : {t : Train} {x v : ℕ} → ProfileRead (Reads s) t lsp x 253 v → v ≡ speedIn t x (numbersOfPacket s)
-    speed-asked {t} {x} {v} r =
-        let h = headed e in
-        let q : ProfileRead (Reads s) t (fieldAt s 178 24) x 253 v = rw (← h .length-is, ← d) r in
-        q .said _ (h .past .values) (h .past .reads) ∙ rw (h .past .numbers, h .length-is)
+  pub head-read : AcceptedPacket s → {lsp : ℕ} → lsp ≡ fieldAt s 178 24 → lsp < 16777216 → HeadRead (Reads s) (numbersOfPacket s) lsp 253
+  head-read e d small = let h = headed e in record { length-is = d ∙ sym (h .length-is); small = small; past = rw d (h .past) }
