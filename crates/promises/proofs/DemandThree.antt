@@ -1,28 +1,30 @@
 -- The customer's third demand: "Two accepted sheets make the same packet exactly when they agree in every field after that lowering", and the speed from a sheet's packet.
-use mathlib.Core.Path.{_≡_, sym, ap, _∙_}
-use mathlib.Core.List.{List}
+use mathlib.Core.Path.{_≡_, refl, sym, ap, ap₂, _∙_}
+use mathlib.Core.List.{List, [], _∷_, map}
 use mathlib.Core.Logic.{_↔_}
 use Prim.Native.Nat.{ℕ}
 use native.Mathlib.Omega.{arith}
+use lib.ListN.{take}
 use Rattle.bits.specs.Bits.{Bytes}
 use Rattle.kinds.specs.declared.Item.{Item}
 use Rattle.format.specs.Format.{accepted}
-use Rattle.format.specs.Conforming.{givenBack}
-use Rattle.grammar.specs.segment.Segment.{sheetFields, wireChanges}
-use Rattle.grammar.specs.segment.Judgement.{fromPacket, toPacket, toSheet}
+use Rattle.grammar.specs.segment.Segment.{wireChanges}
+use Rattle.grammar.specs.segment.Judgement.{toPacket, toSheet}
 use Rattle.grammar.specs.link.Link.{fromEitherSheet, toEitherPacket}
 use Rattle.grammar.specs.link.Grounds.{EitherSheetValues}
 use Rattle.grammar.proofs.link.Values.{either-sheet-taken}
 use Rattle.grammar.proofs.link.Segments.{on-link}
 use Rattle.speed.specs.declared.Train.{Train}
+use Rattle.speed.specs.Run.{Each}
 use Rattle.speed_question.specs.declared.Speed.{Speed}
-use Rattle.speed_question.specs.Question.{Brought, mediumOf, permittedSpeed}
+use Rattle.speed_question.specs.Question.{Brought, mediumOf, lent, speedAsked, permittedSpeed}
 use Rattle.convert.specs.Convert.{successWith, sheetToPacket}
-use Rattle.promises.specs.Promised.{SegmentValues, segmentOf, ConvertibleSheet, Answerable, answerInFives, Agreeing, Done, result, Lowered}
+use Rattle.promises.specs.Promised.{SegmentValues, segmentOf, ConvertibleSheet, Answerable, answerInFives, Agreeing, result, ConvertedTo, EachConverted, Lowered}
 use Rattle.promises.proofs.Agreeing.{packets-agree, agreeing-packets}
 use Rattle.promises.proofs.DemandTwo.{sheet-converted, sheet-result}
 use Rattle.promises.proofs.Speeds.{permitted-speed-value}
-use Rattle.promises.proofs.Values.{packet-taken, sheet-taken, lowered-packet, lowered-good, in-fives, asked-lowered, placed-result}
+use Rattle.promises.proofs.Runs.{take-map, asked-lowered}
+use Rattle.promises.proofs.Values.{in-fives, placed-result}
 
 -- ==== "Two accepted sheets make the same packet exactly when they agree in every field after that lowering."
 
@@ -48,33 +50,53 @@ same-outcome s t room c d = (there, back)
 
 -- ==== "For every accepted sheet, valid train and centimetre, the speed from its packet is the greatest multiple of 5 not above the speed from the sheet."
 
--- for any values of an accepted sheet, any train and any x, the packet's answer is the sheet's with its speed lowered, refusals included
-pub lowered-speed : (l : List Item) (t : Train) (x : ℕ) → SegmentValues Brought.sheet l
-    → permittedSpeed 0 (toPacket wireChanges l) t x ≡ answerInFives (permittedSpeed 1 (toSheet wireChanges l) t x)
+-- for the values of accepted sheets, any count, any train and any x, the answer from the packets is that from the sheets with its speed lowered, refusals included
+pub lowered-speed : (count : ℕ) (a b c d : List Item) (t : Train) (x : ℕ) → Each (SegmentValues Brought.sheet) (take count (a ∷ b ∷ c ∷ d ∷ []))
+    → permittedSpeed 0 count (toPacket wireChanges a) (toPacket wireChanges b) (toPacket wireChanges c) (toPacket wireChanges d) t x
+    ≡ answerInFives (permittedSpeed 1 count (toSheet wireChanges a) (toSheet wireChanges b) (toSheet wireChanges c) (toSheet wireChanges d) t x)
 unfolding permittedSpeed
-lowered-speed l t x c =
-    let m : List Item = givenBack (sheetFields wireChanges) l in
-    let taken : fromPacket wireChanges (toPacket wireChanges l) ≡ accepted m = ap (fromPacket wireChanges) (sym (lowered-packet l)) ∙ packet-taken m (lowered-good c) in
-    rw (taken, sheet-taken l c) (asked-lowered t x l c)
+lowered-speed count a b c d t x good =
+    let l = a ∷ b ∷ c ∷ d ∷ [] in
+    ap (λ (r : List (List ℕ)). speedAsked 0 count r t x) (take-map (toPacket wireChanges) count l) ∙ asked-lowered count (take count l) t x good
+    ∙ ap (λ (r : List (List ℕ)). answerInFives (speedAsked 1 count r t x)) (sym (take-map (toSheet wireChanges) count l))
 
--- a question that is answered from a converted sheet is answered from its packet, with the greatest multiple of 5 not above
-pub speed-again : (s room : List ℕ) (t : Train) (x : ℕ) → Bytes s → Done (sheetToPacket s room) → Answerable 1 s t x
-    → Lowered s (result (sheetToPacket s room)) t x
-speed-again s room t x ok d a = go (a .brought) (a .named) (a .good) (a .whole)
+-- a converted sheet of these values has their packet
+packet-of : {s packet : List ℕ} (l : List Item) → Bytes s → SegmentValues Brought.sheet l → s ≡ toSheet wireChanges l → ConvertedTo s packet → packet ≡ toPacket wireChanges l
+packet-of {s} l ok good whole d =
+    let room = d .room in
+    let c = sheet-converted s room ok .0 (d .done) in
+    let o = on-link good in
+    let same : accepted (c .values) ≡ accepted l =
+    sym (either-sheet-taken (c .values) (c .good)) ∙ ap fromEitherSheet (sym (c .whole) ∙ whole ∙ sym (o .sameSheet)) ∙ either-sheet-taken l (o .values) in
+    let v : c .values ≡ l = cc in
+    d .whole ∙ ap result (sheet-result s room c) ∙ placed-result (toEitherPacket (c .values)) room ∙ ap toEitherPacket v ∙ o .samePacket
+
+-- converted sheets of these values have their packets
+packets-of : {sheets packets : List (List ℕ)} (v : List (List Item)) → Each Bytes sheets → Each (SegmentValues Brought.sheet) v → sheets ≡ map (toSheet wireChanges) v
+    → EachConverted sheets packets → packets ≡ map (toPacket wireChanges) v
+packets-of [] ok good whole EachConverted.none = refl
+packets-of (l ∷ v) ok good whole EachConverted.none = absurd (let z : _≡_ {A = ℕ} 0 1 = cc in omega arith)
+packets-of [] ok good whole (EachConverted.another d rest) = absurd (let z : _≡_ {A = ℕ} 0 1 = cc in omega arith)
+packets-of (l ∷ v) ok good whole (EachConverted.another {s = s} {sheets = sheets} d rest) =
+    let first : s ≡ toSheet wireChanges l = cc in
+    let later : sheets ≡ map (toSheet wireChanges) v = cc in
+    ap₂ (λ (p : List ℕ) (r : List (List ℕ)). p ∷ r) (packet-of l (ok .0) (good .0) first d) (packets-of v (ok .1) (good .1) later rest)
+
+-- a question that is answered from converted sheets is answered from their packets, with the greatest multiple of 5 not above
+pub speed-again : (count : ℕ) (a b c d : List ℕ) (e f g h : List ℕ) (t : Train) (x : ℕ) → Each Bytes (lent count a b c d) → EachConverted (lent count a b c d) (lent count e f g h)
+    → Answerable 1 count (lent count a b c d) t x → Lowered (permittedSpeed 1 count a b c d t x) (permittedSpeed 0 count e f g h t x)
+unfolding permittedSpeed
+speed-again count a b c d e f g h t x ok made q = go (q .brought) (q .named) (q .of .good) (q .of .whole)
   where
-    go : (b : Brought) → 1 ≡ mediumOf b → SegmentValues b (a .values) → s ≡ segmentOf b (a .values) → Lowered s (result (sheetToPacket s room)) t x
+    go : (m : Brought) → 1 ≡ mediumOf m → Each (SegmentValues m) (q .of .values) → lent count a b c d ≡ map (segmentOf m) (q .of .values)
+        → Lowered (permittedSpeed 1 count a b c d t x) (permittedSpeed 0 count e f g h t x)
     go Brought.packet k good whole = absurd (omega arith)
     go Brought.sheet k good whole =
-        let c = sheet-converted s room ok .0 d in
-        let o = on-link good in
-        let same : accepted (c .values) ≡ accepted (a .values) =
-        sym (either-sheet-taken (c .values) (c .good)) ∙ ap fromEitherSheet (sym (c .whole) ∙ whole ∙ sym (o .sameSheet)) ∙ either-sheet-taken (a .values) (o .values) in
-        let v : c .values ≡ a .values = cc in
-        let p : result (sheetToPacket s room) ≡ toPacket wireChanges (a .values) =
-        ap result (sheet-result s room c) ∙ placed-result (toEitherPacket (c .values)) room ∙ ap toEitherPacket v ∙ o .samePacket in
-        let q : permittedSpeed 0 (result (sheetToPacket s room)) t x ≡ answerInFives (permittedSpeed 1 s t x) =
-        ap (λ (b : List ℕ). permittedSpeed 0 b t x) p ∙ lowered-speed (a .values) t x good ∙ ap (λ (b : List ℕ). answerInFives (permittedSpeed 1 b t x)) (sym whole) in
+        let v = q .of .values in
+        let low : permittedSpeed 0 count e f g h t x ≡ answerInFives (permittedSpeed 1 count a b c d t x) =
+        ap (λ (r : List (List ℕ)). speedAsked 0 count r t x) (packets-of v ok good whole made) ∙ asked-lowered count v t x good
+        ∙ ap (λ (r : List (List ℕ)). answerInFives (speedAsked 1 count r t x)) (sym whole) in
         record {
-          answered = ap (λ (o : Speed). o .refusal) q ∙ ap (λ (o : Speed). o .refusal) (permitted-speed-value 1 s t x a);
-          greatest = rw q (in-fives (permittedSpeed 1 s t x .speed));
+          answered = ap (λ (o : Speed). o .refusal) low ∙ ap (λ (o : Speed). o .refusal) (permitted-speed-value 1 count a b c d t x q);
+          greatest = rw low (in-fives (permittedSpeed 1 count a b c d t x .speed));
         }

@@ -1,16 +1,16 @@
--- The permitted speed below L_SP is the lowest speed of the elements that hold, and some element holds.
+-- The permitted speed in a run, below L_SP of the last segment, is the lowest speed of the elements that hold, and some element holds.
 use mathlib.Core.Path.{_≡_, sym, subst}
 use mathlib.Core.List.{List, [], _∷_}
-use Prim.Native.Nat.{ℕ, _+_, _≤_, _<_, min}
+use Prim.Native.Nat.{ℕ, _≤_, _<_, min}
 use native.Mathlib.Omega.{arith}
 use borrow.Author.Tests.{leb-true, leb-false}
 use lib.Dec.{leb}
-use lib.ListN.{drop, getD}
 use Rattle.bits.proofs.Tests.{by-cases}
 use Rattle.format.specs.Grounds.{Among, first, later}
 use Rattle.speed.specs.declared.Train.{Train}
-use Rattle.speed.specs.Speed.{lowest, instead, heldSpeeds, elementOf, afterElement, changesFrom, elementsFrom, segmentLength, profileOf, speedIn}
-use Rattle.speed.proofs.Laws.{some-holds}
+use Rattle.speed.specs.Speed.{lowest, instead, segmentLength}
+use Rattle.speed.specs.Run.{lastOf, heldInRun, speedInRun}
+use Rattle.speed.proofs.Runs.{run-holds}
 use Rattle.promises.specs.Promised.{LowestOf}
 
 lowest-front : (v : ℕ) (l : List ℕ) → lowest v l ≤ v
@@ -39,9 +39,6 @@ lowest-of v l = record { one = lowest-among v l; lowest = under }
     under w first = lowest-front w l
     under w (later a) = lowest-under v w a
 
-pub lowest-held : (t : Train) (x : ℕ) (s : List ℕ) → x < segmentLength s → LowestOf (speedIn t x s) (heldSpeeds t (segmentLength s) x (elementsFrom 0 (profileOf s)))
-lowest-held t x s h =
-    let p = profileOf s in
-    let changed = changesFrom 0 (getD (afterElement p) 0 0) (drop 1 (afterElement p)) in
-    some-holds t (segmentLength s) x (elementOf (0 + 0) p) changed (omega arith) h λ v m e.
-    subst (λ (l : List ℕ). LowestOf (instead 0 l) l) (sym e) (lowest-of v m)
+pub lowest-held : (t : Train) (x : ℕ) (r : List (List ℕ)) → x < segmentLength (lastOf r) → LowestOf (speedInRun t x r) (heldInRun t x r)
+lowest-held t x [] h = absurd (omega arith)
+lowest-held t x (s ∷ r) h = run-holds t x s r h λ v m e. subst (λ (l : List ℕ). LowestOf (instead 0 l) l) (sym e) (lowest-of v m)

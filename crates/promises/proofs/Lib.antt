@@ -3,6 +3,7 @@ pub mod Agreeing
 pub mod Standing
 pub mod Held
 pub mod Refused
+pub mod Runs
 pub mod Ranges
 pub mod Speeds
 pub mod Reached

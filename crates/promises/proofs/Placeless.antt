@@ -24,12 +24,15 @@ use Rattle.grammar.specs.link.Link.{treeNumber, treeOf, linkFields}
 use Rattle.grammar.specs.link.Grounds.{EitherPacketGround, ofJourney, ofSegment, EitherSheetGround, inNumbers, tooLong}
 use Rattle.grammar.proofs.link.Grounds.{tree-refusals}
 use Rattle.speed.specs.declared.Train.{Train}
-use Rattle.speed_question.specs.Question.{Brought, permittedSpeed}
+use Rattle.speed.specs.Run.{Each}
+use Rattle.speed_question.specs.declared.Speed.{Speed}
+use Rattle.speed_question.specs.Question.{Brought, lent, permittedSpeed}
 use Rattle.altitude.specs.Altitude.{altitudeOf}
 use Rattle.convert.specs.Convert.{packetToSheet, sheetToPacket}
 use Rattle.promises.specs.Refused.{Refuses, ConversionGround, SegmentGround, SpeedGround, packetToSheetRefusals, sheetToPacketRefusals, speedRefusals, altitudeRefusals, placeless}
 use Rattle.promises.specs.Ranges.{ConversionEnds, SpeedEnds, AltitudeEnds}
 use Rattle.promises.proofs.Refused.{member, among-member}
+use Rattle.promises.proofs.Runs.{ground-own}
 use Rattle.promises.proofs.Speeds.{permitted-speed-refused, permitted-speed-outcome}
 use Rattle.promises.proofs.DemandOne.{packet-to-sheet-refused, sheet-to-packet-refused, altitude-of-packet-refused, packet-to-sheet-outcome, sheet-to-packet-outcome, altitude-of-packet-outcome}
 
@@ -90,11 +93,12 @@ conversion-place : {Own : ℕ → ℕ → Type 0} → ((r place : ℕ) → Own r
 conversion-place none r place (ConversionGround.own g) a = none r place g a
 conversion-place none r place (ConversionGround.shortRoom w h e p) a = p
 
-question-place : {medium : ℕ} {s : List ℕ} {t : Train} {x : ℕ} (r place : ℕ) → SpeedGround medium s t x r place → Among r placeless → place ≡ 0
+question-place : {medium count : ℕ} {run : List (List ℕ)} {t : Train} {x : ℕ} (r place : ℕ) → SpeedGround medium count run t x r place → Among r placeless → place ≡ 0
 question-place r place (SpeedGround.neither n e p) a = p
-question-place {s = s} r place (SpeedGround.own b k g) a = segment-place b s r place g a
-question-place r place (SpeedGround.badTrain b k w v e p) a = p
-question-place r place (SpeedGround.pastEnd b k w v h e p) a = p
+question-place r place (SpeedGround.badCount b k c e p) a = p
+question-place r place (SpeedGround.own b k c g) a = ground-own (λ s o. segment-place b s r place o a) g
+question-place r place (SpeedGround.badTrain b k c w v e p) a = p
+question-place r place (SpeedGround.pastEnd b k c w v h e p) a = p
 
 -- the place of an answer is 0 if the place of its ground is
 said-place : {On : ℕ → ℕ → Type 0} (said : ℕ × ℕ) → ((r place : ℕ) → Refuses said r place ↔ On r place) → ((r place : ℕ) → On r place → Among r placeless → place ≡ 0)
@@ -121,20 +125,6 @@ module _ (s : List ℕ) (ok : Bytes s) where
             said-place (sheetToPacket s room .answer .refusal, sheetToPacket s room .answer .place) (sheet-to-packet-refused s ok room)
             (λ r place g b. conversion-place (either-sheet-place s) r place g b) (among-positive l refl) a
 
-  pub permitted-speed-placeless : (medium : ℕ) (t : Train) (x : ℕ) → Among (permittedSpeed medium s t x .refusal) placeless → permittedSpeed medium s t x .place ≡ 0
-  permitted-speed-placeless medium t x a = go (permitted-speed-outcome medium s t x ok .ends (permittedSpeed medium s t x) refl)
-    where
-      positive : (b : Brought) {r : ℕ} → Among r (speedRefusals b) → 1 ≤ r
-      positive Brought.packet l = among-positive l refl
-      positive Brought.sheet l = among-positive l refl
-
-      go : SpeedEnds medium (permittedSpeed medium s t x) → permittedSpeed medium s t x .place ≡ 0
-      go (SpeedEnds.success b k e p v) = p
-      go (SpeedEnds.neither n e p v) = p
-      go (SpeedEnds.refusal b k l n) =
-          said-place (permittedSpeed medium s t x .refusal, permittedSpeed medium s t x .place) (permitted-speed-refused medium s t x ok)
-          (λ r place g c. question-place r place g c) (positive b l) a
-
   pub altitude-of-packet-placeless : Among (altitudeOf s .refusal) placeless → altitudeOf s .place ≡ 0
   altitude-of-packet-placeless a = go (altitude-of-packet-outcome s ok .ends (altitudeOf s) refl)
     where
@@ -143,3 +133,22 @@ module _ (s : List ℕ) (ok : Bytes s) where
       go (AltitudeEnds.refusal l n) =
           said-place (altitudeOf s .refusal, altitudeOf s .place) (altitude-of-packet-refused s ok)
           (segment-place Brought.packet s) (among-positive l refl) a
+
+module _ (medium count : ℕ) (first second third fourth : List ℕ) (t : Train) (x : ℕ) (ok : Each Bytes (lent count first second third fourth)) where
+  abbrev answer : Speed
+  answer = permittedSpeed medium count first second third fourth t x
+
+  pub permitted-speed-placeless : Among (answer .refusal) placeless → answer .place ≡ 0
+  permitted-speed-placeless a = go (permitted-speed-outcome medium count first second third fourth t x ok .ends answer refl)
+    where
+      positive : (b : Brought) {r : ℕ} → Among r (speedRefusals b) → 1 ≤ r
+      positive Brought.packet l = among-positive l refl
+      positive Brought.sheet l = among-positive l refl
+
+      go : SpeedEnds medium count answer → answer .place ≡ 0
+      go (SpeedEnds.success b k c e p v) = p
+      go (SpeedEnds.counted b k c e p v) = p
+      go (SpeedEnds.neither n e p v) = p
+      go (SpeedEnds.refusal b k c l n) =
+          said-place (answer .refusal, answer .place) (permitted-speed-refused medium count first second third fourth t x ok)
+          (λ r place g d. question-place r place g d) (positive b l) a

@@ -1,13 +1,12 @@
 -- The ranges that a caller may rely on: how long a result is, how high a speed or an altitude, and which refusals each operation has.
-use mathlib.Core.Path.{_≡_, refl, sym, ap, _∙_}
+use mathlib.Core.Path.{_≡_, refl, sym, ap, ap₂, _∙_}
 use mathlib.Core.Bool.{true, false}
-use mathlib.Core.List.{List}
+use mathlib.Core.List.{List, [], _∷_}
 use Prim.Native.Nat.{ℕ, _≤_, _<_}
 use native.Mathlib.Omega.{arith}
 use lib.Dec.{lit≤}
 use lib.ListN.{length}
 use Rattle.kinds.specs.declared.Item.{Item}
-use Rattle.format.specs.Format.{sheetNumbers}
 use Rattle.format.specs.Grounds.{Among}
 use Rattle.format.proofs.Lawful.{to-sheet}
 use Rattle.grammar.specs.segment.Segment.{wireChanges}
@@ -19,8 +18,9 @@ use Rattle.grammar.specs.link.Grounds.{EitherPacketGround, EitherSheetGround, E
 use Rattle.grammar.proofs.link.Grounds.{either-packet-listed, either-sheet-listed}
 use Rattle.grammar.proofs.link.Ends.{either-sheet-size, either-packet-size}
 use Rattle.speed.specs.declared.Train.{Train}
-use Rattle.speed.specs.Speed.{speedIn, inFives}
-use Rattle.speed.proofs.Lowering.{speed-in-fives}
+use Rattle.speed.specs.Speed.{inFives}
+use Rattle.speed.specs.Run.{Each, numbersOf, eachGivenBack, speedInRun}
+use Rattle.speed.proofs.Runs.{run-in-fives}
 use Rattle.speed.proofs.Bounds.{speed-most}
 use Rattle.speed_question.specs.declared.Speed.{Speed}
 use Rattle.speed_question.specs.Question.{Brought}
@@ -31,6 +31,7 @@ use Rattle.promises.specs.Ranges.{highestSpeed}
 use Rattle.promises.proofs.Values.{either-good-sheet}
 use Rattle.promises.proofs.Agreeing.{lowered-same}
 use Rattle.promises.proofs.Standing.{altitude-stands}
+use Rattle.promises.proofs.Runs.{each-on}
 use Rattle.promises.proofs.Refused.{among-by, among-member, among-into}
 
 -- ---- how long a result is
@@ -49,13 +50,17 @@ sheet-packet-size l v = either-packet-size v
 -- ---- how high a speed is
 
 -- a packet's speeds are multiples of 5
-pub packet-speed-fives : (t : Train) (x : ℕ) (l : List Item) → SegmentValues Brought.packet l → speedIn t x (sheetNumbers l) ≡ inFives (speedIn t x (sheetNumbers l))
-packet-speed-fives t x l c = ap (λ (m : List Item). speedIn t x (sheetNumbers m)) (sym (lowered-same c)) ∙ speed-in-fives t x l (good-sheet c)
+pub packet-speed-fives : (t : Train) (x : ℕ) (v : List (List Item)) → Each (SegmentValues Brought.packet) v → speedInRun t x (numbersOf v) ≡ inFives (speedInRun t x (numbersOf v))
+packet-speed-fives t x v c = ap (λ (w : List (List Item)). speedInRun t x (numbersOf w)) (sym (same v c)) ∙ run-in-fives t x v (each-on (λ l. good-sheet) v c)
+  where
+    same : (v : List (List Item)) → Each (SegmentValues Brought.packet) v → eachGivenBack v ≡ v
+    same [] c = refl
+    same (l ∷ v) c = ap₂ (λ (a : List Item) (r : List (List Item)). a ∷ r) (lowered-same (c .0)) (same v (c .1))
 
--- the highest speed is 600 km/h from a packet and 604 from a sheet
-pub highest : (b : Brought) (t : Train) (x : ℕ) (l : List Item) → SegmentValues b l → speedIn t x (sheetNumbers l) ≤ highestSpeed b
-highest Brought.packet t x l c = omega (arith, packet-speed-fives t x l c, speed-most t x l (good-sheet c))
-highest Brought.sheet t x l c = speed-most t x l c
+-- the highest speed is 600 km/h from packets and 604 from sheets
+pub highest : (b : Brought) (t : Train) (x : ℕ) (v : List (List Item)) → Each (SegmentValues b) v → speedInRun t x (numbersOf v) ≤ highestSpeed b
+highest Brought.packet t x v c = omega (arith, packet-speed-fives t x v c, speed-most t x v (each-on (λ l. good-sheet) v c))
+highest Brought.sheet t x v c = speed-most t x v c
 
 pub altitude-most : (l : List Item) → SegmentValues Brought.packet l → altitudeField l ≤ 1048575
 altitude-most l c = let a = altitude-stands l c in let h : a .0 .packet < 1048576 = a .2 .fits in omega (arith, a .3)

@@ -1,6 +1,7 @@
 -- Each refusal that an operation lists is given: by one table of inputs for each operation.
 use mathlib.Core.Path.{_≡_, refl}
 use mathlib.Core.List.{[], _∷_, _++_, map}
+use lib.ListN.{replicate}
 use Rattle.format.specs.Format.{times}
 use Rattle.bits.specs.Bits.{fieldAt}
 use Rattle.numbers.specs.Numbers.{numberOf, groupsIn}
@@ -26,7 +27,8 @@ pub sheet-to-packet-reached : map (λ s. sheetToPacket s [] .answer .refusal) co
 unfolding fieldAt numberOf groupsIn digits place entries changes lists body fields sheetFields toPacket toSheet times journeyBody linkFields fromEitherSheet toEitherPacket sheetToPacket
 sheet-to-packet-reached = refl
 
-pub permitted-speed-reached : map (λ o. o .refusal) askedSpeeds ≡ 15 ∷ speedRefusals Brought.packet ++ speedRefusals Brought.sheet
+-- in the first, second, third and fourth segment of a run
+pub permitted-speed-reached : map (λ n. map (λ o. o .refusal) (askedSpeeds n)) (0 ∷ 1 ∷ 2 ∷ 3 ∷ []) ≡ replicate 4 (15 ∷ 16 ∷ 16 ∷ speedRefusals Brought.packet ++ speedRefusals Brought.sheet)
 unfolding fieldAt numberOf groupsIn digits place entries changes lists body fields sheetFields fromPacket fromSheet toPacket toSheet permittedSpeed
 permitted-speed-reached = refl
 

@@ -99,7 +99,7 @@ module _ {judge : List ℕ → Read} {Good : List Item → Type 0} {input : List
   own-refused r place g = let e = on .refused-on s r place ok .1 g in (e, side .refuses s ok r place e)
 
   -- if an answer passes the judge's refusals on, its refusal has a ground of the input, or comes from the accepted values
-  pub by-judge : {C : Type 0} (answer : Read → ℕ × ℕ) (r place : ℕ) → ((q p : ℕ) → answer (refused q p) ≡ (q, p)) → answer (judge s) ≡ (r, place)
+  by-judge : {C : Type 0} (answer : Read → ℕ × ℕ) (r place : ℕ) → ((q p : ℕ) → answer (refused q p) ≡ (q, p)) → answer (judge s) ≡ (r, place)
       → (On s r place → C) → ((l : List Item) → judge s ≡ accepted l → answer (accepted l) ≡ (r, place) → C) → C
   by-judge {C} answer r place same e mine values = go (judge s) refl e
     where

@@ -28,9 +28,10 @@ use Rattle.grammar.proofs.link.Grounds.{segment-judged}
 use Rattle.grammar.proofs.link.Sheets.{sheet-by-tree}
 use Rattle.grammar.proofs.link.Segments.{on-link}
 use Rattle.speed_question.specs.Question.{Brought}
+use Rattle.speed_question.proofs.Values.{packet-values, sheet-values}
 use Rattle.convert.specs.Convert.{converted, fitted, packetToSheet, sheetToPacket}
 use Rattle.promises.specs.Promised.{SegmentValues}
-use Rattle.promises.proofs.Values.{packet-values, sheet-values, lowered-packet, lowered-good}
+use Rattle.promises.proofs.Values.{lowered-packet, lowered-good}
 use Rattle.promises.proofs.Ranges.{good-sheet}
 use Rattle.promises.proofs.Refused.{among-member}
 

@@ -1,187 +1,221 @@
--- The promises on speeds, for a packet and a sheet by one law: when a question is answered, with which speed, and on which ground it is refused.
-use mathlib.Core.Path.{_≡_, refl, sym, ap, ap₂, _∙_}
+-- The promises on speeds, for runs of packets and of sheets by one law: when a question is answered, with which speed, and on which ground it is refused.
+-- A question about one segment is one with a count of 1.
+use mathlib.Core.Path.{_≡_, refl, sym, ap, _∙_, subst}
 use mathlib.Core.Bool.{true, false}
-use mathlib.Core.List.{List}
+use mathlib.Core.List.{List, [], _∷_, map}
 use mathlib.Core.Logic.{_↔_}
-use Prim.Native.Nat.{ℕ, _*_, _/_, _≤_}
+use Prim.Native.Nat.{ℕ, _+_, _*_, _/_, _≤_, _<_}
 use native.Mathlib.Omega.{arith}
 use borrow.Author.Tests.{ltb-true, ltb-false, lt-ltb, le-ltb}
 use lib.Dec.{ltb}
 use Rattle.bits.specs.Bits.{Bytes}
 use Rattle.bits.proofs.Tests.{by-cases}
 use Rattle.kinds.specs.declared.Item.{Item}
-use Rattle.format.specs.Format.{Read, accepted, refused, answerOf, sheetNumbers}
-use Rattle.format.specs.Conforming.{InPacket, InSheet}
-use Rattle.format.specs.Grounds.{Ending, grounded, OneEnding}
+use Rattle.format.specs.Format.{sheetNumbers}
+use Rattle.format.specs.Grounds.{OneEnding}
 use Rattle.speed.specs.declared.Train.{Train}
-use Rattle.speed.specs.Speed.{Element, validTrain, heldSpeeds, permitted, elementsFrom, segmentLength, profileOf, speedIn, inFives}
-use Rattle.speed.specs.Standing.{SegmentStands}
-use Rattle.speed.proofs.Standing.{segment-stands, segment-only, packet-count, sheet-count}
+use Rattle.speed.specs.Speed.{Element, validTrain, heldSpeeds, permitted, segmentLength, inFives}
+use Rattle.speed.specs.Run.{Each, numbersOf, runElements, runEnd, lastOf, lastStart, speedInRun}
+use Rattle.speed.proofs.Runs.{run-not-above}
 use Rattle.speed_question.specs.declared.Speed.{Speed}
-use Rattle.speed_question.specs.Question.{Brought, mediumOf, noSpeed, speedOfValues, readAs, permittedSpeed}
-use Rattle.speed_question.proofs.Asked.{either-medium, asked, neither-first}
-use Rattle.promises.specs.Promised.{goodIn, SegmentValues, SegmentOfValues, Answerable, LengthOf, TheirElements, LowestOf}
+use Rattle.speed_question.specs.Question.{Brought, mediumOf, Neither, noSpeed, readAs, lent, runCount, RunRead, accepted, refused, judgedRun, answerOfRun, speedOfRun, speedFrom, speedAsked, permittedSpeed}
+use Rattle.speed_question.proofs.Asked.{either-medium, neither-first, count-next, run-asked}
+use Rattle.promises.specs.Promised.{goodIn, SegmentValues, segmentOf, Answerable, LengthOf, RunStands, TheirElements, LowestOf}
 use Rattle.promises.specs.Refused.{Refuses, SpeedGround}
 use Rattle.promises.specs.Ranges.{SpeedEnds, OneOutcome}
-use Rattle.promises.proofs.Values.{segments}
 use Rattle.promises.proofs.Held.{lowest-held}
 use Rattle.promises.proofs.Standing.{length-stands}
-use Rattle.promises.proofs.Refused.{segments-on, one-outcome, one-ending, of-values, taken, own-refused, by-judge}
+use Rattle.promises.proofs.Refused.{one-outcome, one-ending}
+use Rattle.promises.proofs.Runs.{ground-own, last-values, run-accepted, run-of-values, run-refuses, run-on, run-only, run-stands}
 use Rattle.promises.proofs.Ranges.{packet-speed-fives, highest, own-listed, late-listed}
 
--- the elements that stand in the values of a segment are those that its numbers give by their order, and so is L_SP
-stands-only : (b : Brought) (l : List Item) (es : List Element) (w : SegmentStands (goodIn b) 0 l es)
-    → (w .length .sheet ≡ segmentLength (sheetNumbers l)) × (es ≡ elementsFrom 0 (profileOf (sheetNumbers l)))
-stands-only Brought.packet l es w = segment-only InPacket packet-count 0 l es w
-stands-only Brought.sheet l es w = segment-only InSheet sheet-count 0 l es w
+-- exactly one list of elements stands in the values of a run, laid end to end
+pub elements-theirs : (b : Brought) (l : List Item) (v : List (List Item)) → Each (SegmentValues b) (l ∷ v) → TheirElements b (l ∷ v)
+elements-theirs b l v c = record {
+  elements = runElements 0 (numbersOf (l ∷ v));
+  start = lastStart 0 (numbersOf (l ∷ v));
+  stop = runEnd 0 (numbersOf (l ∷ v));
+  stand = run-stands b 0 l v c;
+  only = λ es a e w. run-only b w;
+}
 
--- exactly one list of elements stands in values that conform
-pub elements-theirs : (b : Brought) (l : List Item) → SegmentValues b l → TheirElements b l
-elements-theirs b l c = record { elements = elementsFrom 0 (profileOf (sheetNumbers l)); stand = stand b c; only = λ es w. stands-only b l es w .1 }
-  where
-    stand : (b : Brought) → SegmentValues b l → SegmentStands (goodIn b) 0 l (elementsFrom 0 (profileOf (sheetNumbers l)))
-    stand Brought.packet c = segment-stands InPacket packet-count 0 l c
-    stand Brought.sheet c = segment-stands InSheet sheet-count 0 l c
+-- a question is refused for its medium, or for its count, or its run is judged
+asking : {C : Type 0} (medium count : ℕ) → (Neither medium → C) → ((b : Brought) → medium ≡ mediumOf b → runCount count ≡ false → C)
+    → ((b : Brought) → medium ≡ mediumOf b → runCount count ≡ true → C) → C
+asking medium count f g h = either-medium medium (λ b k. by-cases (runCount count) (h b k) (g b k)) f
 
-abbrev answered : ℕ → Speed
-answered v = record { refusal = 0; place = 0; speed = v }
+abbrev said : Speed → ℕ × ℕ
+said o = (o .refusal, o .place)
 
-module _ (medium : ℕ) (s : List ℕ) (t : Train) (x : ℕ) where
+module _ (medium count : ℕ) (first second third fourth : List ℕ) (t : Train) (x : ℕ) where
+  -- "They are lent apart, with a count": the run of a question, and its answer
+  abbrev run : List (List ℕ)
+  run = lent count first second third fourth
+
+  abbrev answer : Speed
+  answer = permittedSpeed medium count first second third fourth t x
+
+  abbrev ofRun : RunRead → Speed
+  ofRun o = answerOfRun noSpeed (speedOfRun t x) o
+
+  -- "15, first of all, for a kind that is neither", whatever is lent
+  pub permitted-speed-neither : Neither medium → answer ≡ noSpeed 15 0
+  unfolding permittedSpeed
+  permitted-speed-neither n = neither-first medium count run t x n
+
+  module _ (b : Brought) (k : medium ≡ mediumOf b) where
+    -- "16 for a run of none or more than 4, judged right after 15", whatever is lent
+    pub permitted-speed-count : runCount count ≡ false → answer ≡ noSpeed 16 0
+    unfolding permittedSpeed
+    permitted-speed-count c = count-next medium count run t x b k c
+
+    -- "each segment is then judged in order (place within it), then 10, then 11 against the last"
+    pub permitted-speed-judged : runCount count ≡ true → answer ≡ speedFrom b run t x
+    unfolding permittedSpeed
+    permitted-speed-judged c = run-asked medium count run t x b k c
+
   -- ==== "Every permitted speed is the one the speed rules give."
 
-  -- a question that has an answer is answered with the permitted speed of the values
-  pub permitted-speed-value : (c : Answerable medium s t x) → permittedSpeed medium s t x ≡ record { refusal = 0; place = 0; speed = speedIn t x (sheetNumbers (c .values)) }
+  -- a question that has an answer is answered with the permitted speed of the run's values
+  pub permitted-speed-value : (c : Answerable medium count run t x) → answer ≡ record { refusal = 0; place = 0; speed = speedInRun t x (numbersOf (c .of .values)) }
   permitted-speed-value c =
-      let b = c .brought in
-      let l = c .values in
-      asked s t x b (c .named) ∙ ap (answerOf noSpeed (speedOfValues t x)) (ap (readAs b) (c .whole) ∙ segments b .again l (c .good))
-      ∙ rw (c .valid, lt-ltb x (segmentLength (sheetNumbers l)) (c .inside))
+      permitted-speed-judged (c .brought) (c .named) (c .few) ∙ ap ofRun (run-accepted (c .brought) run (c .of))
+      ∙ rw (c .valid, lt-ltb x (segmentLength (lastOf (numbersOf (c .of .values)))) (c .inside))
 
-  -- a question is answered exactly for a medium of 0 or 1, a packet or a sheet of good values, a valid train and an x below L_SP
-  pub permitted-speed-answered : Bytes s → (permittedSpeed medium s t x .refusal ≡ 0) ↔ Answerable medium s t x
-  permitted-speed-answered ok = (
-    λ d. either-medium medium (λ b e. go b e (readAs b s) refl (sym (ap (λ (o : Speed). o .refusal) (asked s t x b e)) ∙ d))
-        (λ n. let z : 15 ≡ 0 = sym (ap (λ (o : Speed). o .refusal) (neither-first s t x n)) ∙ d in absurd (omega arith)),
-    λ c. ap (λ (o : Speed). o .refusal) (permitted-speed-value c),
-  )
-    where
-      inside : (b : Brought) → medium ≡ mediumOf b → (l : List Item) → readAs b s ≡ accepted l → speedOfValues t x l .refusal ≡ 0 → Answerable medium s t x
-      inside b k l e d =
-          let p = segments b .only s l ok e in
-          by-cases (validTrain t)
-          (λ v. by-cases (ltb x (segmentLength (sheetNumbers l)))
-          (λ h. record { brought = b; named = k; values = l; good = p .0; whole = p .1; valid = v; inside = ltb-true x (segmentLength (sheetNumbers l)) h })
-          (λ h. let z : _≡_ {A = ℕ} 11 0 = rw (v, h) at d in absurd (omega arith)))
-          (λ v. let z : _≡_ {A = ℕ} 10 0 = rw v at d in absurd (omega arith))
-
-      go : (b : Brought) → medium ≡ mediumOf b → (r : Read) → readAs b s ≡ r → answerOf noSpeed (speedOfValues t x) r .refusal ≡ 0 → Answerable medium s t x
-      go b k (accepted l) e d = inside b k l e d
-      go b k (refused q place) e d = absurd (omega (arith, segments b .refuses s ok q place e))
-
-  -- in the words of the tree: the answer is the rule's over the elements that stand in the values
-  pub permitted-speed-rule : (c : Answerable medium s t x) (es : List Element) (w : SegmentStands (goodIn (c .brought)) 0 (c .values) es)
-      → permittedSpeed medium s t x ≡ record { refusal = 0; place = 0; speed = permitted t (w .length .sheet) x es }
-  permitted-speed-rule c es w =
-      let p = stands-only (c .brought) (c .values) es w in
-      permitted-speed-value c
-      ∙ ap₂ (λ (n : ℕ) (m : List Element). answered (permitted t n x m)) (sym (p .0)) (sym (p .1))
+  -- in the words of the tree: the answer is the rule's over the elements that stand in the values, laid end to end
+  pub permitted-speed-rule : (c : Answerable medium count run t x) (es : List Element) (start stop : ℕ) → RunStands (c .brought) 0 (c .of .values) es start stop
+      → answer ≡ record { refusal = 0; place = 0; speed = permitted t stop (start + x) es }
+  permitted-speed-rule c es start stop w = let p = run-only (c .brought) w in rw (p .0, p .1, p .2) (permitted-speed-value c)
 
   -- it is "the lowest speed of the elements that hold there": some element holds, so it is never a speed that no element has
-  pub permitted-speed-held : (c : Answerable medium s t x) (es : List Element) (w : SegmentStands (goodIn (c .brought)) 0 (c .values) es)
-      → LowestOf (permittedSpeed medium s t x .speed) (heldSpeeds t (w .length .sheet) x es)
-  permitted-speed-held c es w =
-      let p = stands-only (c .brought) (c .values) es w in
-      rw (permitted-speed-value c, p .0, p .1) (lowest-held t x (sheetNumbers (c .values)) (c .inside))
+  pub permitted-speed-held : (c : Answerable medium count run t x) (es : List Element) (start stop : ℕ) → RunStands (c .brought) 0 (c .of .values) es start stop
+      → LowestOf (answer .speed) (heldSpeeds t stop (start + x) es)
+  permitted-speed-held c es start stop w =
+      let p = run-only (c .brought) w in
+      rw (permitted-speed-value c, p .0, p .1, p .2) (lowest-held t x (numbersOf (c .of .values)) (c .inside))
 
   -- "It returns its number with .. speed .. 0"
-  pub permitted-speed-none : (permittedSpeed medium s t x .refusal ≡ 0 → ⊥) → permittedSpeed medium s t x .speed ≡ 0
+  pub permitted-speed-none : (answer .refusal ≡ 0 → ⊥) → answer .speed ≡ 0
   permitted-speed-none n =
-      either-medium medium
-      (λ b e. ap (λ (o : Speed). o .speed) (asked s t x b e) ∙ go (readAs b s) (λ d. n (ap (λ (o : Speed). o .refusal) (asked s t x b e) ∙ d)))
-      (λ m. ap (λ (o : Speed). o .speed) (neither-first s t x m))
+      asking medium count (λ m. ap (λ (o : Speed). o .speed) (permitted-speed-neither m)) (λ b k c. ap (λ (o : Speed). o .speed) (permitted-speed-count b k c))
+      (λ b k c. let e = permitted-speed-judged b k c in ap (λ (o : Speed). o .speed) e ∙ go (judgedRun (readAs b) run) (λ d. n (ap (λ (o : Speed). o .refusal) e ∙ d)))
     where
-      go : (r : Read) → (answerOf noSpeed (speedOfValues t x) r .refusal ≡ 0 → ⊥) → answerOf noSpeed (speedOfValues t x) r .speed ≡ 0
+      go : (o : RunRead) → (ofRun o .refusal ≡ 0 → ⊥) → ofRun o .speed ≡ 0
       go (refused q place) m = refl
-      go (accepted l) m =
+      go (accepted v) m =
           by-cases (validTrain t)
-          (λ v. by-cases (ltb x (segmentLength (sheetNumbers l))) (λ b. absurd (m (rw (v, b)))) (λ b. rw (v, b)))
-          (λ v. rw v)
+          (λ f. by-cases (ltb x (segmentLength (lastOf (numbersOf v)))) (λ b. absurd (m (rw (f, b)))) (λ b. rw (f, b)))
+          (λ f. rw f)
 
-  module _ (ok : Bytes s) where
+  module _ (ok : Each Bytes run) where
+    -- every question can be answered, or has a ground and is refused with it
+    ends : {C : Type 0} → (Answerable medium count run t x → C) → ((r place : ℕ) → SpeedGround medium count run t x r place → answer ≡ noSpeed r place → 1 ≤ r → C) → C
+    ends {C} f g =
+        asking medium count (λ n. g 15 0 (SpeedGround.neither n refl refl) (permitted-speed-neither n) (omega arith))
+        (λ b k c. g 16 0 (SpeedGround.badCount b k c refl refl) (permitted-speed-count b k c) (omega arith)) (λ b k c. go b k c (judgedRun (readAs b) run) refl)
+      where
+        go : (b : Brought) → medium ≡ mediumOf b → runCount count ≡ true → (o : RunRead) → judgedRun (readAs b) run ≡ o → C
+        go b k c (refused q p) a = g q p (SpeedGround.own b k c (run-on b run ok q p .0 a)) (permitted-speed-judged b k c ∙ ap ofRun a) (run-refuses b run ok q p a)
+        go b k c (accepted v) a =
+            let lsp = segmentLength (lastOf (numbersOf v)) in
+            let w = run-of-values b run ok v a in
+            let e = permitted-speed-judged b k c ∙ ap ofRun a in
+            by-cases (validTrain t)
+            (λ d. by-cases (ltb x lsp)
+            (λ h. f (record { brought = b; named = k; few = c; of = w; valid = d; inside = ltb-true x lsp h }))
+            (λ h. g 11 0 (SpeedGround.pastEnd b k c w d (ltb-false x lsp h) refl refl) (e ∙ rw (d, h)) (omega arith)))
+            (λ d. g 10 0 (SpeedGround.badTrain b k c w d refl refl) (e ∙ rw d) (omega arith))
+
+    -- a question is answered exactly for a medium of 0 or 1, a count of 1 to 4, segments of good values, a valid train and an x below L_SP of the last
+    pub permitted-speed-answered : (answer .refusal ≡ 0) ↔ Answerable medium count run t x
+    permitted-speed-answered = (
+      λ d. ends (λ c. c) (λ r place g e h. absurd (omega (arith, ap (λ (o : Speed). o .refusal) e))),
+      λ c. ap (λ (o : Speed). o .refusal) (permitted-speed-value c),
+    )
+
     -- ==== "Each refusal is given then and not otherwise"
 
-    abbrev said : Speed → ℕ × ℕ
-    said o = (o .refusal, o .place)
-
-    abbrev answer : Read → ℕ × ℕ
-    answer j = said (answerOf noSpeed (speedOfValues t x) j)
-
-    pub permitted-speed-refused : (r place : ℕ) → Refuses (permittedSpeed medium s t x .refusal, permittedSpeed medium s t x .place) r place ↔ SpeedGround medium s t x r place
+    pub permitted-speed-refused : (r place : ℕ) → Refuses (answer .refusal, answer .place) r place ↔ SpeedGround medium count run t x r place
     permitted-speed-refused r place = (only, given)
       where
-        inside : (b : Brought) → medium ≡ mediumOf b → (l : List Item) → readAs b s ≡ accepted l → said (speedOfValues t x l) ≡ (r, place) → 1 ≤ r → SpeedGround medium s t x r place
-        inside b k l a e h =
-            let w = of-values (segments b) (segments-on b) s ok l a in
-            by-cases (validTrain t)
-            (λ v. by-cases (ltb x (segmentLength (sheetNumbers l)))
-            (λ c. let z : _≡_ {A = ℕ × ℕ} (0, 0) (r, place) = rw (v, c) at e in let y : 0 ≡ r = ap (λ (u : ℕ × ℕ). u .0) z in absurd (omega arith))
-            (λ c. let z : _≡_ {A = ℕ × ℕ} (11, 0) (r, place) = rw (v, c) at e in
-            SpeedGround.pastEnd b k w v (ltb-false x (segmentLength (sheetNumbers l)) c) (sym (ap (λ (u : ℕ × ℕ). u .0) z)) (sym (ap (λ (u : ℕ × ℕ). u .1) z))))
-            (λ v. let z : _≡_ {A = ℕ × ℕ} (10, 0) (r, place) = rw v at e in
-            SpeedGround.badTrain b k w v (sym (ap (λ (u : ℕ × ℕ). u .0) z)) (sym (ap (λ (u : ℕ × ℕ). u .1) z)))
-
-        only : Refuses (said (permittedSpeed medium s t x)) r place → SpeedGround medium s t x r place
+        only : Refuses (said answer) r place → SpeedGround medium count run t x r place
         only q =
-            either-medium medium
-            (λ b k. by-judge (segments b) (segments-on b) s ok answer r place (λ m p. refl) (sym (ap said (asked s t x b k)) ∙ q .0) (SpeedGround.own b k) (λ l a d. inside b k l a d (q .1)))
-            (λ n. let z : _≡_ {A = ℕ × ℕ} (15, 0) (r, place) = sym (ap said (neither-first s t x n)) ∙ q .0 in
-            SpeedGround.neither n (sym (ap (λ (u : ℕ × ℕ). u .0) z)) (sym (ap (λ (u : ℕ × ℕ). u .1) z)))
+            let h = q .1 in
+            ends (λ c. absurd (omega (arith, ap (λ (u : ℕ × ℕ). u .0) (sym (ap said (permitted-speed-value c)) ∙ q .0))))
+            (λ n p g e _. subst (λ (u : ℕ × ℕ). SpeedGround medium count run t x (u .0) (u .1)) (sym (ap said e) ∙ q .0) g)
 
-        bad : (l : List Item) → validTrain t ≡ false → said (speedOfValues t x l) ≡ (10, 0)
-        bad l v = rw v
+        bad : (v : List (List Item)) → validTrain t ≡ false → said (speedOfRun t x v) ≡ (10, 0)
+        bad v f = rw f
 
-        beyond : (l : List Item) → validTrain t ≡ true → segmentLength (sheetNumbers l) ≤ x → said (speedOfValues t x l) ≡ (11, 0)
-        beyond l v h = rw (v, le-ltb x (segmentLength (sheetNumbers l)) h)
+        beyond : (v : List (List Item)) → validTrain t ≡ true → segmentLength (lastOf (numbersOf v)) ≤ x → said (speedOfRun t x v) ≡ (11, 0)
+        beyond v f h = rw (f, le-ltb x (segmentLength (lastOf (numbersOf v))) h)
 
-        -- the answer about a packet or a sheet of good values is the answer from these values
-        of : (b : Brought) → medium ≡ mediumOf b → (w : SegmentOfValues b s) → said (permittedSpeed medium s t x) ≡ said (speedOfValues t x (w .values))
-        of b k w = ap said (asked s t x b k) ∙ ap answer (taken (segments b) (segments-on b) s ok w)
+        -- the answer from what the run is judged to be
+        from : (b : Brought) → medium ≡ mediumOf b → runCount count ≡ true → (o : RunRead) → judgedRun (readAs b) run ≡ o → said answer ≡ said (ofRun o)
+        from b k c o a = ap said (permitted-speed-judged b k c ∙ ap ofRun a)
 
-        given : SpeedGround medium s t x r place → Refuses (said (permittedSpeed medium s t x)) r place
-        given (SpeedGround.neither n e p) = (ap said (neither-first s t x n) ∙ rw (e, p), omega arith)
-        given (SpeedGround.own b k g) = let u = own-refused (segments b) (segments-on b) s ok r place g in (ap said (asked s t x b k) ∙ ap answer (u .0), u .1)
-        given (SpeedGround.badTrain b k w v e p) = (of b k w ∙ bad (w .values) v ∙ rw (e, p), omega arith)
-        given (SpeedGround.pastEnd b k w v h e p) = (of b k w ∙ beyond (w .values) v h ∙ rw (e, p), omega arith)
+        given : SpeedGround medium count run t x r place → Refuses (said answer) r place
+        given (SpeedGround.neither n e p) = (ap said (permitted-speed-neither n) ∙ rw (e, p), omega arith)
+        given (SpeedGround.badCount b k c e p) = (ap said (permitted-speed-count b k c) ∙ rw (e, p), omega arith)
+        given (SpeedGround.own b k c g) = let a = run-on b run ok r place .1 g in (from b k c (refused r place) a, run-refuses b run ok r place a)
+        given (SpeedGround.badTrain b k c w f e p) = (from b k c (accepted (w .values)) (run-accepted b run w) ∙ bad (w .values) f ∙ rw (e, p), omega arith)
+        given (SpeedGround.pastEnd b k c w f h e p) = (from b k c (accepted (w .values)) (run-accepted b run w) ∙ beyond (w .values) f h ∙ rw (e, p), omega arith)
 
     -- "an answer or the one refusal"
-    pub permitted-speed-ending : OneEnding (Answerable medium s t x) {I = ℕ × ℕ} (λ p. SpeedGround medium s t x (p .0) (p .1))
-    permitted-speed-ending = one-ending (said (permittedSpeed medium s t x)) (permitted-speed-answered ok) permitted-speed-refused
+    pub permitted-speed-ending : OneEnding (Answerable medium count run t x) {I = ℕ × ℕ} (λ p. SpeedGround medium count run t x (p .0) (p .1))
+    permitted-speed-ending = one-ending (said answer) permitted-speed-answered permitted-speed-refused
 
     -- "one possible outcome for every input": the refusals of the C header, and the highest speed
-    pub permitted-speed-outcome : OneOutcome (permittedSpeed medium s t x) (SpeedEnds medium)
-    permitted-speed-outcome = one-outcome (permittedSpeed medium s t x) (go (permitted-speed-ending .ending))
+    pub permitted-speed-outcome : OneOutcome answer (SpeedEnds medium count)
+    permitted-speed-outcome = one-outcome answer (ends success (λ r place g e h. rw e (on r place g)))
       where
-        on : (r place : ℕ) → permittedSpeed medium s t x .refusal ≡ r → permittedSpeed medium s t x .speed ≡ 0 → SpeedGround medium s t x r place → SpeedEnds medium (permittedSpeed medium s t x)
-        on r place n z (SpeedGround.neither m e p) = rw (neither-first s t x m) (SpeedEnds.neither m refl refl refl)
-        on r place n z (SpeedGround.own b k g) = SpeedEnds.refusal b k (rw n (own-listed b s r place g)) z
-        on r place n z (SpeedGround.badTrain b k w v e p) = SpeedEnds.refusal b k (rw (n, e) (late-listed b .0)) z
-        on r place n z (SpeedGround.pastEnd b k w v h e p) = SpeedEnds.refusal b k (rw (n, e) (late-listed b .1)) z
+        success : Answerable medium count run t x → SpeedEnds medium count answer
+        success c = rw (permitted-speed-value c) (SpeedEnds.success (c .brought) (c .named) (c .few) refl refl (highest (c .brought) t x (c .of .values) (c .of .good)))
 
-        go : Ending (Answerable medium s t x) {I = ℕ × ℕ} (λ p. SpeedGround medium s t x (p .0) (p .1)) → SpeedEnds medium (permittedSpeed medium s t x)
-        go (Ending.answered c) = rw (permitted-speed-value c) (SpeedEnds.success (c .brought) (c .named) refl refl (highest (c .brought) t x (c .values) (c .good)))
-        go (grounded p g) =
-            let e = permitted-speed-refused (p .0) (p .1) .1 g in
-            let n : permittedSpeed medium s t x .refusal ≡ p .0 = ap (λ (u : ℕ × ℕ). u .0) (e .0) in
-            let h = e .1 in
-            on (p .0) (p .1) n (permitted-speed-none (λ d. omega arith)) g
+        on : (r place : ℕ) → SpeedGround medium count run t x r place → SpeedEnds medium count (noSpeed r place)
+        on r place (SpeedGround.neither m e p) = SpeedEnds.neither m e p refl
+        on r place (SpeedGround.badCount b k c e p) = SpeedEnds.counted b k c e p refl
+        on r place (SpeedGround.own b k c g) = SpeedEnds.refusal b k c (ground-own (λ s o. own-listed b s r place o) g) refl
+        on r place (SpeedGround.badTrain b k c w v e p) = SpeedEnds.refusal b k c (rw e (late-listed b .0)) refl
+        on r place (SpeedGround.pastEnd b k c w v h e p) = SpeedEnds.refusal b k c (rw e (late-listed b .1)) refl
 
--- "the packet's speeds times 5": a speed from a packet is a multiple of 5
-pub packet-fives : (s : List ℕ) (t : Train) (x : ℕ) → Answerable 0 s t x → permittedSpeed 0 s t x .speed ≡ permittedSpeed 0 s t x .speed / 5 * 5
-packet-fives s t x c = rw (permitted-speed-value 0 s t x c) (go (c .brought) (c .named) (c .good))
-  where
-    go : (b : Brought) → 0 ≡ mediumOf b → SegmentValues b (c .values) → speedIn t x (sheetNumbers (c .values)) ≡ inFives (speedIn t x (sheetNumbers (c .values)))
-    go Brought.packet e g = packet-speed-fives t x (c .values) g
-    go Brought.sheet e g = absurd (omega arith)
+-- "those past it are not read": questions that agree in the segments up to the count have one answer
+pub permitted-speed-past : (medium count : ℕ) (a b c d e f g h : List ℕ) (t : Train) (x : ℕ) → lent count a b c d ≡ lent count e f g h
+    → permittedSpeed medium count a b c d t x ≡ permittedSpeed medium count e f g h t x
+unfolding permittedSpeed
+permitted-speed-past medium count a b c d e f g h t x same = ap (λ (r : List (List ℕ)). speedAsked medium count r t x) same
+
+module _ (count : ℕ) (first second third fourth : List ℕ) (t : Train) (x : ℕ) where
+  -- "while half the set stands in the slower segment": a run's speed is never above that of its last segment alone, whatever else is lent
+  pub permitted-speed-not-above : (medium : ℕ) (a b c : List ℕ) → Answerable medium count (lent count first second third fourth) t x
+      → permittedSpeed medium count first second third fourth t x .speed ≤ permittedSpeed medium 1 (lastOf (lent count first second third fourth)) a b c t x .speed
+  permitted-speed-not-above medium a b c q = go (q .of .values) (q .of .good) (q .of .whole) (q .inside) (permitted-speed-value medium count first second third fourth t x q)
+    where
+      go : (v : List (List Item)) → Each (SegmentValues (q .brought)) v → lent count first second third fourth ≡ map (segmentOf (q .brought)) v → x < segmentLength (lastOf (numbersOf v))
+          → permittedSpeed medium count first second third fourth t x ≡ record { refusal = 0; place = 0; speed = speedInRun t x (numbersOf v) }
+          → permittedSpeed medium count first second third fourth t x .speed ≤ permittedSpeed medium 1 (lastOf (lent count first second third fourth)) a b c t x .speed
+      go [] good whole h e = absurd (omega arith)
+      go (l ∷ v) good whole h e =
+          last-values (SegmentValues (q .brought)) (segmentOf (q .brought)) l v good λ m p n w.
+          let alone : Answerable medium 1 (lastOf (lent count first second third fourth) ∷ []) t x =
+          record {
+            brought = q .brought;
+            named = q .named;
+            few = refl;
+            of = record { values = m ∷ []; good = (p, tt); whole = ap (λ (r : List (List ℕ)). lastOf r ∷ []) whole ∙ ap (λ (s : List ℕ). s ∷ []) w };
+            valid = q .valid;
+            inside = rw n at h;
+          } in
+          rw (e, permitted-speed-value medium 1 (lastOf (lent count first second third fourth)) a b c t x alone, ← n) (run-not-above t x (sheetNumbers l) (numbersOf v) h)
+
+  -- "the packet's speeds times 5": a speed from packets is a multiple of 5
+  pub packet-fives : Answerable 0 count (lent count first second third fourth) t x
+      → permittedSpeed 0 count first second third fourth t x .speed ≡ permittedSpeed 0 count first second third fourth t x .speed / 5 * 5
+  packet-fives c = rw (permitted-speed-value 0 count first second third fourth t x c) (go (c .brought) (c .named) (c .of .good))
+    where
+      go : (b : Brought) → 0 ≡ mediumOf b → Each (SegmentValues b) (c .of .values) → speedInRun t x (numbersOf (c .of .values)) ≡ inFives (speedInRun t x (numbersOf (c .of .values)))
+      go Brought.packet e g = packet-speed-fives t x (c .of .values) g
+      go Brought.sheet e g = absurd (omega arith)
 
 -- the length that x is compared with is the number of L_SP
 pub segment-length : (b : Brought) (l : List Item) → SegmentValues b l → LengthOf (goodIn b) l (segmentLength (sheetNumbers l))

@@ -1,5 +1,5 @@
 -- Lemmas of the promises: packets and sheets of good values, a conversion's outcomes, and the lowering of any tree's numbers.
-use mathlib.Core.Path.{_≡_, refl, sym, ap, ap₂, _∙_}
+use mathlib.Core.Path.{_≡_, refl, sym, ap, _∙_}
 use mathlib.Core.Bool.{Bool, true, _&&_}
 use mathlib.Core.List.{List, [], _∷_, _++_}
 use mathlib.Core.Option.{some}
@@ -22,11 +22,11 @@ use Rattle.format.specs.Format.{Format, end, field, Read, accepted, refused, wr
 use Rattle.format.specs.Media.{packet, sheet}
 use Rattle.format.specs.Conforming.{Conforming, done, also, InSheet, givenBack}
 use Rattle.format.proofs.Lawful.{Lawful, goes, to-sheet, to-packet, lowered-bits}
-use Rattle.format.proofs.Media.{sheet-again, sheet-only}
+use Rattle.format.proofs.Media.{sheet-again}
 use Rattle.grammar.specs.segment.Segment.{fields, sheetFields, wireChanges}
 use Rattle.grammar.specs.segment.Frame.{packetOfBits, numberItem}
 use Rattle.grammar.specs.segment.Judgement.{segmentNumber, fromPacket, fromSheet, toPacket, toSheet}
-use Rattle.grammar.proofs.segment.Framing.{framed-again, framed-only}
+use Rattle.grammar.proofs.segment.Framing.{framed-again}
 use Rattle.grammar.proofs.segment.Ends.{sheetFields-lawful, bits-least, bits-most}
 use Rattle.grammar.proofs.segment.Refusals.{among-positive, packet-refusal, sheet-refusal}
 use Rattle.grammar.specs.link.Link.{treeNumber, treeFields, treeOf, linkFields, linkBits, fromEitherPacket, fromEitherSheet, toEitherPacket, toEitherSheet}
@@ -34,14 +34,12 @@ use Rattle.grammar.specs.link.Grounds.{EitherPacketValues, EitherSheetValues}
 use Rattle.grammar.proofs.link.Trees.{link-lawful}
 use Rattle.grammar.proofs.link.Values.{either-packet-values, either-packet-taken, either-sheet-values, either-sheet-taken}
 use Rattle.grammar.proofs.link.Grounds.{either-packet-grounds, either-sheet-grounds, either-packet-listed, either-sheet-listed}
-use Rattle.speed.specs.declared.Train.{Train}
-use Rattle.speed.specs.Speed.{validTrain, segmentLength, speedIn, inFives}
-use Rattle.speed.proofs.Lowering.{length-stays, speed-in-fives}
-use Rattle.speed_question.specs.declared.Speed.{Speed}
-use Rattle.speed_question.specs.Question.{Brought, judgedSpeed, speedOfValues, readAs}
+use Rattle.speed.specs.Speed.{inFives}
+use Rattle.speed_question.specs.Question.{Brought, readAs}
+use Rattle.speed_question.proofs.Values.{packet-values, sheet-values}
 use Rattle.altitude.specs.Altitude.{altitudeOfRead}
 use Rattle.convert.specs.Convert.{Outcome, refusedWith, successWith, fitted, converted}
-use Rattle.promises.specs.Promised.{SegmentValues, segmentOf, Convertible, answerInFives, GreatestFive, Done, result, spelled, spelledBits, LoweredTo, Lowering, over, one}
+use Rattle.promises.specs.Promised.{SegmentValues, segmentOf, Convertible, GreatestFive, Done, result, spelled, spelledBits, LoweredTo, Lowering, over, one}
 
 -- ---- packets and sheets of good values
 
@@ -54,13 +52,6 @@ number-is i a r =
     let q : i .sheet ≡ 6 = omega arith in
     λ j. record { sheet = q j; packet = p j }
 
-pub packet-values : (s : List ℕ) (l : List Item) → Bytes s → fromPacket wireChanges s ≡ accepted l → SegmentValues Brought.packet l × (s ≡ toPacket wireChanges l)
-unfolding fromPacket toPacket sheetFields
-packet-values s l ok e =
-    let r = framed-only segmentNumber (fields wireChanges) s l ok e in
-    let c : SegmentValues Brought.packet (numberItem 6 ∷ r .values) = also {i = numberItem 6} (record { allowed = refl; fits = lit< tt; raised = refl }) (r .good) in
-    rw (r .all) (c, r .bytes)
-
 pub packet-taken : (l : List Item) → SegmentValues Brought.packet l → fromPacket wireChanges (toPacket wireChanges l) ≡ accepted l
 unfolding fromPacket toPacket sheetFields
 packet-taken (i ∷ l) (also g c) =
@@ -68,10 +59,6 @@ packet-taken (i ∷ l) (also g c) =
     let low = bits-least wireChanges (lit≤ tt) c in
     let high = bits-most wireChanges (lit≤ tt) c in
     framed-again segmentNumber (fields wireChanges) l (lit< tt) c (omega arith) (omega arith) ∙ ap (λ (j : Item). accepted (j ∷ l)) (sym q)
-
-pub sheet-values : (s : List ℕ) (l : List Item) → Bytes s → fromSheet wireChanges s ≡ accepted l → SegmentValues Brought.sheet l × (s ≡ toSheet wireChanges l)
-unfolding fromSheet toSheet
-sheet-values s l ok e = sheet-only (sheetFields wireChanges) 0 s l ok e
 
 pub sheet-taken : (l : List Item) → SegmentValues Brought.sheet l → fromSheet wireChanges (toSheet wireChanges l) ≡ accepted l
 unfolding fromSheet toSheet
@@ -186,15 +173,6 @@ altitude-none (accepted l) n = absurd (n refl)
 
 pub in-fives : (v : ℕ) → GreatestFive v (inFives v)
 in-fives v = record { fives = v / 5; multiple = refl; notAbove = omega arith; greatest = λ n h. omega arith }
-
--- lowering the speed of an answer changes nothing else in it
-answered-lowered : (t : Train) (x lsp v : ℕ) → judgedSpeed t x lsp (inFives v) ≡ answerInFives (judgedSpeed t x lsp v)
-answered-lowered t x lsp v = by-cases (validTrain t) (λ e. by-cases (ltb x lsp) (λ b. rw (e, b)) (λ b. rw (e, b))) (λ e. rw e)
-
-pub asked-lowered : (t : Train) (x : ℕ) (l : List Item) → SegmentValues Brought.sheet l
-    → speedOfValues t x (givenBack (sheetFields wireChanges) l) ≡ answerInFives (speedOfValues t x l)
-asked-lowered t x l c =
-    ap₂ (judgedSpeed t x) (length-stays l c) (speed-in-fives t x l c) ∙ answered-lowered t x (segmentLength (sheetNumbers l)) (speedIn t x (sheetNumbers l))
 
 -- the result of a success is the bytes that were written
 pub placed-result : (bytes room : List ℕ) → result (successWith bytes room) ≡ bytes

@@ -1,7 +1,7 @@
 -- The words of the promises: what is converted, what is answered, and what lowering makes of a sheet's numbers.
 use mathlib.Core.Path.{_≡_}
 use mathlib.Core.Bool.{Bool, true, cond}
-use mathlib.Core.List.{List, [], _∷_, _++_}
+use mathlib.Core.List.{List, [], _∷_, _++_, map}
 use Prim.Native.Nat.{ℕ, _+_, _*_, _-_, _/_, _≤_, _<_}
 use lib.Dec.{eqb}
 use lib.IntN.{ℤ, pos, _-ℤ_}
@@ -11,7 +11,7 @@ use Rattle.numbers.specs.Numbers.{groupsIn}
 use Rattle.kinds.specs.declared.Item.{Item}
 use Rattle.kinds.specs.Kind.{Kind}
 use Rattle.kinds.specs.Kinds.{lSp, mSpAltitude, speed, mCurrent}
-use Rattle.format.specs.Format.{Format, end, field, Read, sheetNumbers}
+use Rattle.format.specs.Format.{Format, end, field, Read}
 use Rattle.format.specs.Conforming.{Conforming, InPacket, InSheet}
 use Rattle.format.specs.Grounds.{Front, Among}
 use Rattle.grammar.specs.segment.Segment.{sheetFields, wireChanges}
@@ -20,9 +20,10 @@ use Rattle.grammar.specs.link.Link.{linkFields, linkBits, toEitherPacket, toEit
 use Rattle.grammar.specs.link.Grounds.{EitherPacketValues, EitherSheetValues}
 use Rattle.speed.specs.declared.Train.{Train}
 use Rattle.speed.specs.Speed.{Element, validTrain, segmentLength, inFives}
+use Rattle.speed.specs.Run.{Each, numbersOf, lastOf}
 use Rattle.speed.specs.Standing.{SegmentStands}
 use Rattle.speed_question.specs.declared.Speed.{Speed}
-use Rattle.speed_question.specs.Question.{Brought, packet, sheet, mediumOf, permittedSpeed}
+use Rattle.speed_question.specs.Question.{Brought, packet, sheet, mediumOf, runCount}
 use Rattle.convert.specs.Convert.{Outcome, fitted, packetToSheet, sheetToPacket}
 
 -- whether an item is a good value of a field, in a packet or in a sheet
@@ -69,15 +70,21 @@ ConvertiblePacket s room = Convertible EitherPacketValues toEitherPacket toEithe
 abbrev pub ConvertibleSheet : List ℕ → List ℕ → Type 0
 ConvertibleSheet s room = Convertible EitherSheetValues toEitherSheet toEitherPacket s room
 
--- a speed question that has an answer: `medium` says what is brought, s is a packet or a sheet of good values, the train is valid, and x is "from 0 to L_SP - 1"
-pub record Answerable (medium : ℕ) (s : List ℕ) (t : Train) (x : ℕ) : Type 0 where
+-- "a run of 1 to 4 segments of the one kind, in order of travel": each is a packet, or each is a sheet, of good values
+pub record RunOfValues (b : Brought) (run : List (List ℕ)) : Type 0 where
+  pub values : List (List Item)
+  pub good : Each (SegmentValues b) values
+  pub whole : run ≡ map (segmentOf b) values
+
+-- a speed question that has an answer: `medium` says what is brought, the run has "1 to 4 segments", each of good values, the train is valid, and x is "from 0 to L_SP - 1",
+-- "with x in the last". One segment alone is a run whose count is 1.
+pub record Answerable (medium count : ℕ) (run : List (List ℕ)) (t : Train) (x : ℕ) : Type 0 where
   pub brought : Brought
   pub named : medium ≡ mediumOf brought
-  pub values : List Item
-  pub good : SegmentValues brought values
-  pub whole : s ≡ segmentOf brought values
+  pub few : runCount count ≡ true
+  pub of : RunOfValues brought run
   pub valid : validTrain t ≡ true
-  pub inside : x < segmentLength (sheetNumbers values)
+  pub inside : x < segmentLength (lastOf (numbersOf (of .values)))
 
 -- "the greatest multiple of 5 not above the speed from the sheet": an answer with its speed lowered to it
 abbrev pub answerInFives : Speed → Speed
@@ -148,10 +155,21 @@ pub record Again (s room back : List ℕ) : Type 0 where
   pub lowers : Lowering linkFields values lower
   pub again : packetToSheet (result (sheetToPacket s room)) back ≡ fitted (toEitherSheet lower) back
 
--- "the speed from its packet is the greatest multiple of 5 not above the speed from the sheet": the speeds that the operation answers from the sheet s and from its packet
-pub record Lowered (s packet : List ℕ) (t : Train) (x : ℕ) : Type 0 where
-  pub answered : permittedSpeed 0 packet t x .refusal ≡ 0
-  pub greatest : GreatestFive (permittedSpeed 1 s t x .speed) (permittedSpeed 0 packet t x .speed)
+-- the packet that a sheet s was converted to, in some room
+pub record ConvertedTo (s packet : List ℕ) : Type 0 where
+  pub room : List ℕ
+  pub done : Done (sheetToPacket s room)
+  pub whole : packet ≡ result (sheetToPacket s room)
+
+-- "The lowering in demand 3 holds for the run": each sheet of a run against its packet
+pub data EachConverted : List (List ℕ) → List (List ℕ) → Type 0 where
+  none : EachConverted [] []
+  another : {s packet : List ℕ} {sheets packets : List (List ℕ)} → ConvertedTo s packet → EachConverted sheets packets → EachConverted (s ∷ sheets) (packet ∷ packets)
+
+-- "the speed from its packet is the greatest multiple of 5 not above the speed from the sheet": the answers from the sheets and from their packets
+pub record Lowered (sheets packets : Speed) : Type 0 where
+  pub answered : packets .refusal ≡ 0
+  pub greatest : GreatestFive (sheets .speed) (packets .speed)
 
 -- l are values of a sheet whose body has `bits` bits, whose packet has `packet` bytes and whose sheet has `sheet` bytes; 96 bits of the header stand after L_PACKET_ATO
 pub record Reaches (l : List Item) (bits packet sheet : ℕ) : Type 0 where
@@ -182,11 +200,20 @@ pub record LengthOf (Good : Kind → Item → Type 0) (l : List Item) (n : ℕ) 
   pub stands : StandsAt Good (sheetFields wireChanges) lSp l item
   pub number : n ≡ item .sheet
 
--- "Element 0 of the profile starts at 0 and each change starts the next": the elements that stand in a segment's values, and no others do
-pub record TheirElements (b : Brought) (l : List Item) : Type 0 where
+-- "Their elements are laid end to end; each ends where the next starts, across boundaries too": the elements that stand in the values of a run's segments, the first of
+-- which starts at `from`; "with x in the last": where the last segment starts; and where it ends. All are in cm
+pub data RunStands (b : Brought) : ℕ → List (List Item) → List Element → ℕ → ℕ → Type 0 where
+  last : {from : ℕ} {l : List Item} {es : List Element} (w : SegmentStands (goodIn b) from l es) → RunStands b from (l ∷ []) es from (from + w .length .sheet)
+  further : {from : ℕ} {l : List Item} {es : List Element} {run : List (List Item)} {more : List Element} {start stop : ℕ} (w : SegmentStands (goodIn b) from l es)
+      → RunStands b (from + w .length .sheet) run more start stop → RunStands b from (l ∷ run) (es ++ more) start stop
+
+-- "Element 0 of the profile starts at 0 and each change starts the next": the elements that stand in a run's values, and no others do
+pub record TheirElements (b : Brought) (run : List (List Item)) : Type 0 where
   pub elements : List Element
-  pub stand : SegmentStands (goodIn b) 0 l elements
-  pub only : (es : List Element) → SegmentStands (goodIn b) 0 l es → es ≡ elements
+  pub start : ℕ
+  pub stop : ℕ
+  pub stand : RunStands b 0 run elements start stop
+  pub only : (es : List Element) (a e : ℕ) → RunStands b 0 run es a e → (es ≡ elements) × (a ≡ start) × (e ≡ stop)
 
 -- "the lowest speed of the elements that hold there": v is one of the speeds l, and none of them is lower
 pub record LowestOf (v : ℕ) (l : List ℕ) : Type 0 where

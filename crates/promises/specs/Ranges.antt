@@ -1,5 +1,6 @@
 -- What a caller may rely on, whatever bytes were handed over: one of the listed refusals and nothing written, or success within its range.
 use mathlib.Core.Path.{_≡_}
+use mathlib.Core.Bool.{true, false}
 use mathlib.Core.List.{List}
 use Prim.Native.Nat.{ℕ, _≤_}
 use lib.IntN.{pos}
@@ -7,7 +8,7 @@ use lib.ListN.{length}
 use Rattle.format.specs.Grounds.{Among}
 use Rattle.convert.specs.Convert.{Outcome}
 use Rattle.speed_question.specs.declared.Speed.{Speed}
-use Rattle.speed_question.specs.Question.{Brought, packet, sheet, mediumOf, Neither}
+use Rattle.speed_question.specs.Question.{Brought, packet, sheet, mediumOf, Neither, runCount}
 use Rattle.altitude.specs.declared.Altitude.{Altitude}
 use Rattle.altitude.specs.Altitude.{centimetres}
 use Rattle.promises.specs.Refused.{speedRefusals}
@@ -25,11 +26,12 @@ abbrev pub highestSpeed : Brought → ℕ
 highestSpeed packet = 600
 highestSpeed sheet = 604
 
--- a speed, or "It returns its number with .. speed .. 0"; 15 for a medium that is neither, and for no other
-pub data SpeedEnds (medium : ℕ) (o : Speed) : Type 0 where
-  success : (b : Brought) → medium ≡ mediumOf b → o .refusal ≡ 0 → o .place ≡ 0 → o .speed ≤ highestSpeed b → SpeedEnds medium o
-  refusal : (b : Brought) → medium ≡ mediumOf b → Among (o .refusal) (speedRefusals b) → o .speed ≡ 0 → SpeedEnds medium o
-  neither : Neither medium → o .refusal ≡ 15 → o .place ≡ 0 → o .speed ≡ 0 → SpeedEnds medium o
+-- a speed, or "It returns its number with .. speed .. 0"; 15 for a medium that is neither, and for no other; then 16 for a count that is not 1 to 4, and for no other
+pub data SpeedEnds (medium count : ℕ) (o : Speed) : Type 0 where
+  success : (b : Brought) → medium ≡ mediumOf b → runCount count ≡ true → o .refusal ≡ 0 → o .place ≡ 0 → o .speed ≤ highestSpeed b → SpeedEnds medium count o
+  refusal : (b : Brought) → medium ≡ mediumOf b → runCount count ≡ true → Among (o .refusal) (speedRefusals b) → o .speed ≡ 0 → SpeedEnds medium count o
+  counted : (b : Brought) → medium ≡ mediumOf b → runCount count ≡ false → o .refusal ≡ 16 → o .place ≡ 0 → o .speed ≡ 0 → SpeedEnds medium count o
+  neither : Neither medium → o .refusal ≡ 15 → o .place ≡ 0 → o .speed ≡ 0 → SpeedEnds medium count o
 
 -- "Altitude is -100,000 to 948,575 cm", and 0 to 1,048,575 as it is sent
 pub data AltitudeEnds (refusals : List ℕ) (o : Altitude) : Type 0 where

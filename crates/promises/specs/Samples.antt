@@ -2,11 +2,12 @@
 use mathlib.Core.Bool.{false}
 use mathlib.Core.List.{List, [], _∷_, _++_, map}
 use Prim.Native.Nat.{ℕ, zero, suc}
-use lib.ListN.{length, replicate}
+use lib.ListN.{length, getD, replicate}
 use Rattle.kinds.specs.declared.Item.{Item}
 use Rattle.grammar.specs.segment.Segment.{wireChanges}
 use Rattle.grammar.specs.segment.Judgement.{toPacket, toSheet}
 use Rattle.grammar.specs.segment.Desk.{packetWith, firstPacket, firstSheet, counting}
+use Rattle.speed.specs.declared.Train.{Train}
 use Rattle.speed.specs.Desk.{trainOf, plain}
 use Rattle.speed_question.specs.declared.Speed.{Speed}
 use Rattle.speed_question.specs.Question.{permittedSpeed}
@@ -62,15 +63,22 @@ largest = item 4 ∷ replicate 6 (item 0) ++ item 44 ∷ times 27 (segmentWith 3
 abbrev pub convertedSheets : List (List ℕ)
 convertedSheets = refusedSheets ++ firstSheet ∷ [] ∷ tooManyBits ∷ []
 
--- the answers for each refused segment of a list, asked with a valid train; then for the accepted segment s, whose L_SP is 1:
--- 10, "train length .. not allowed", for a train of no length; 11, "x at or past L_SP", at x 1
-abbrev questions : ℕ → List (List ℕ) → List ℕ → List Speed
-questions medium [] s = permittedSpeed medium s (trainOf 0 80 false false false) 1 ∷ permittedSpeed medium s plain 1 ∷ []
-questions medium (r ∷ l) s = permittedSpeed medium r plain 0 ∷ questions medium l s
+-- the question about a run of these segments; past them no byte is lent
+abbrev pub askedRun : ℕ → List (List ℕ) → Train → ℕ → Speed
+askedRun medium run t x = permittedSpeed medium (length run) (getD run 0 []) (getD run 1 []) (getD run 2 []) (getD run 3 []) t x
 
--- 15, "a kind that is neither": 2, with no byte and a train of no length; then the refusals of a packet and of a sheet
-abbrev pub askedSpeeds : List Speed
-askedSpeeds = permittedSpeed 2 [] (trainOf 0 80 false false false) 1 ∷ questions 0 refusedPackets firstPacket ++ questions 1 (refusedSheets ++ [] ∷ []) firstSheet
+-- the answers for each refused segment of a list, after the accepted segments `before`, asked with a valid train; then for the accepted segment s, whose L_SP is 1, after them:
+-- 10, "train length .. not allowed", for a train of no length; 11, "x at or past L_SP", at x 1
+abbrev questions : ℕ → List (List ℕ) → List (List ℕ) → List ℕ → List Speed
+questions medium before [] s = askedRun medium (before ++ s ∷ []) (trainOf 0 80 false false false) 1 ∷ askedRun medium (before ++ s ∷ []) plain 1 ∷ []
+questions medium before (r ∷ l) s = askedRun medium (before ++ r ∷ []) plain 0 ∷ questions medium before l s
+
+-- 15, "a kind that is neither": 2, with no segment and a train of no length; 16, "a run of none or more than 4": of none, and of five without a byte;
+-- then the refusals of a packet and of a sheet, after n accepted segments
+abbrev pub askedSpeeds : ℕ → List Speed
+askedSpeeds n =
+    askedRun 2 [] (trainOf 0 80 false false false) 1 ∷ askedRun 0 [] plain 0 ∷ askedRun 1 (replicate 5 []) plain 0
+    ∷ questions 0 (replicate n firstPacket) refusedPackets firstPacket ++ questions 1 (replicate n firstSheet) (refusedSheets ++ [] ∷ []) firstSheet
 
 -- "judged when the radio says the packet is complete": each packet that is refused, in a room that holds it; then 8, where "the deliveries together exceeded the room"
 abbrev pub completions : List Intake

@@ -4,14 +4,15 @@ use mathlib.Core.List.{List, [], _∷_, _++_, map}
 use Prim.Native.Nat.{ℕ, zero, suc, _+_}
 use lib.IntN.{pos, negsuc}
 use lib.ListN.{length, replicate, take, drop}
-use Rattle.grammar.specs.segment.Desk.{Question, askSheetOf, askPacketOf, Reply, bytes, refusal, firstPacket, firstSheet, conversions}
+use Rattle.grammar.specs.segment.Desk.{Question, askSheetOf, askPacketOf, Reply, bytes, refusal, packetWith, firstPacket, firstSheet, conversions}
 use Rattle.speed.specs.declared.Train.{Train}
 use Rattle.speed.specs.Desk.{trainOf, plain, canted}
 use Rattle.convert.specs.Convert.{Outcome, packetToSheet, sheetToPacket}
 use Rattle.speed_question.specs.declared.Speed.{Speed}
-use Rattle.speed_question.specs.Question.{permittedSpeed}
+use Rattle.speed_question.specs.Question.{Brought, permittedSpeed}
 use Rattle.altitude.specs.declared.Altitude.{Altitude}
 use Rattle.altitude.specs.Altitude.{altitudeOf}
+use Rattle.promises.specs.Samples.{askedRun}
 
 -- "Five public operations": what one of them says
 pub data Said : Type 0 where
@@ -40,27 +41,31 @@ abbrev pub converts : Question → Reply → Case
 converts (askSheetOf s) r = convertsTo packetToSheet s r
 converts (askPacketOf s) r = convertsTo sheetToPacket s r
 
+-- the sheet of a segment of 1,000 cm: its bytes up to the speed profile, and then `rest`
+abbrev pub tenMetres : List ℕ → List ℕ
+tenMetres rest = 0x06 ∷ 0xC5 ∷ 0xC6 ∷ 0x04 ∷ 0x01 ∷ 0x00 ∷ 0x00 ∷ 0x07 ∷ replicate 4 0 ++ 0xE8 ∷ 0x07 ∷ replicate 3 0 ++ rest
+
 -- "Length 1,000 cm, 100 km/h with Q_FRONT 0, change at 500 to 140", with Q_FRONT `front` before the change and `next` after it
 abbrev pub changeSheet : ℕ → ℕ → List ℕ
-changeSheet front next =
-    0x06 ∷ 0xC5 ∷ 0xC6 ∷ 0x04 ∷ 0x01 ∷ 0x00 ∷ 0x00 ∷ 0x07 ∷ replicate 4 0 ++ 0xE8 ∷ 0x07 ∷ replicate 3 0
-    ++ 0x64 ∷ front ∷ 0x00 ∷ 0x01 ∷ 0xF4 ∷ 0x03 ∷ 0x8C ∷ 0x01 ∷ next ∷ replicate 6 0
+changeSheet front next = tenMetres (0x64 ∷ front ∷ 0x00 ∷ 0x01 ∷ 0xF4 ∷ 0x03 ∷ 0x8C ∷ 0x01 ∷ next ∷ replicate 6 0)
 
 -- "sheet to packet": the packet of `changeSheet`, 43 bytes
 abbrev pub changePacket : ℕ → ℕ → List ℕ
 changePacket front next = sheetToPacket (changeSheet front next) (room 43) .room
 
--- "one question": its medium, segment, train and x, and the refusal and the speed that are due
+-- "one question": its medium, run, train and x, and the refusal, its place and the speed that are due
+abbrev pub toldRun : ℕ → List (List ℕ) → Train → ℕ → ℕ → ℕ → ℕ → Case
+toldRun medium run t x r place v = record { said = speedSaid (askedRun medium run t x); due = speedSaid (record { refusal = r; place = place; speed = v }) }
+
+-- a run of one segment, and a refusal without a place
 abbrev pub told : ℕ → List ℕ → Train → ℕ → ℕ → ℕ → Case
-told medium s t x r v = record { said = speedSaid (permittedSpeed medium s t x); due = speedSaid (record { refusal = r; place = 0; speed = v }) }
+told medium s t x r v = toldRun medium (s ∷ []) t x r 0 v
 
 -- ---- A4: "Cant deficiency falls to the next lower class"
 
 -- a segment of 1,000 cm with one element: 100 km/h, and n entries
 abbrev pub entriesSheet : ℕ → List ℕ → List ℕ
-entriesSheet n entries =
-    0x06 ∷ 0xC5 ∷ 0xC6 ∷ 0x04 ∷ 0x01 ∷ 0x00 ∷ 0x00 ∷ 0x07 ∷ replicate 4 0 ++ 0xE8 ∷ 0x07 ∷ replicate 3 0
-    ++ 0x64 ∷ 0x00 ∷ n ∷ entries ++ replicate 6 0
+entriesSheet n entries = tenMetres (0x64 ∷ 0x00 ∷ n ∷ entries ++ replicate 6 0)
 
 -- "entries for 100 and 165": 120 and 140 km/h
 abbrev pub twoSheet : List ℕ
@@ -225,9 +230,7 @@ wired x (suc n) l = x ∷ l ++ wired (suc x) n l
 
 -- a segment of 1,000 cm with `volts` voltage changes, whose count is at byte 23, and `amperes` current changes
 abbrev pub wireSheet : ℕ → ℕ → List ℕ
-wireSheet volts amperes =
-    0x06 ∷ 0xC5 ∷ 0xC6 ∷ 0x04 ∷ 0x01 ∷ 0x00 ∷ 0x00 ∷ 0x07 ∷ replicate 4 0 ++ 0xE8 ∷ 0x07 ∷ replicate 3 0
-    ++ 0x64 ∷ replicate 5 0 ++ volts ∷ wired 1 volts (0x00 ∷ 0x00 ∷ []) ++ 0x00 ∷ amperes ∷ wired 1 amperes (0x00 ∷ [])
+wireSheet volts amperes = tenMetres (0x64 ∷ replicate 5 0 ++ volts ∷ wired 1 volts (0x00 ∷ 0x00 ∷ []) ++ 0x00 ∷ amperes ∷ wired 1 amperes (0x00 ∷ []))
 
 -- the cases of wire changes; a sheet that is refused with 8 is accepted but for the short room
 abbrev pub wireCases : List Case
@@ -240,6 +243,73 @@ wireCases =
     -- "4 no longer covers counts 24 to 31": the first location of 24 and of 31 voltage changes does not fit
     ∷ converts (askSheetOf (take 35 firstPacket ++ 0x06 ∷ drop 36 firstPacket)) (refusal 6 290)
     ∷ converts (askSheetOf (take 35 firstPacket ++ 0x07 ∷ 0xFF ∷ drop 37 firstPacket)) (refusal 6 290)
+    ∷ []
+
+-- ---- A9: "The tail is still on the last segment"
+
+-- a segment of 1,000 cm with one speed: the sheet whose bytes for it are `speed` and whose Q_FRONT is `front`, and the packet whose two bytes for both are v and w
+abbrev pub even : List ℕ → ℕ → ℕ → ℕ → Brought → List ℕ
+even speed front v w Brought.sheet = tenMetres (speed ++ front ∷ replicate 7 0)
+even speed front v w Brought.packet =
+    0x06 ∷ 0x00 ∷ 0xB9 ∷ 0x00 ∷ 0x01 ∷ 0x23 ∷ 0x45 ∷ 0x00 ∷ 0x00 ∷ 0x01 ∷ 0x00 ∷ 0x00 ∷ 0x00 ∷ 0x00 ∷ 0x07
+    ∷ replicate 9 0 ++ 0xFA ∷ replicate 6 0 ++ v ∷ w ∷ replicate 3 0 ++ 0x3F ∷ 0xF0 ∷ 0x00 ∷ []
+
+-- 63 km/h in the sheet and 60 in the packet, with Q_FRONT 0
+abbrev pub slow : Brought → List ℕ
+slow b = even (0x3F ∷ []) 0 0x00 0xC0 b
+
+-- these speeds with Q_FRONT 1
+abbrev pub slowFront : Brought → List ℕ
+slowFront b = even (0x3F ∷ []) 1 0x00 0xC8 b
+
+-- 140 km/h with Q_FRONT 0
+abbrev pub fast : Brought → List ℕ
+fast b = even (0x8C ∷ 0x01 ∷ []) 0 0x01 0xC0 b
+
+-- "length 1 cm, altitude -100,000, 80 km/h"
+abbrev pub shortest : Brought → List ℕ
+shortest Brought.packet = firstPacket
+shortest Brought.sheet = firstSheet
+
+-- the refusal r, or the speed v, that is due from the sheets of a run, and the speed w that is due from their packets
+abbrev pub toldBoth : List (Brought → List ℕ) → Train → ℕ → ℕ → ℕ → ℕ → List Case
+toldBoth run t x r v w = toldRun 1 (map (λ s. s Brought.sheet) run) t x r 0 v ∷ toldRun 0 (map (λ s. s Brought.packet) run) t x r 0 w ∷ []
+
+-- a sheet that is refused with 4 at byte 1, and a packet that is refused with 7 at bit 311
+abbrev pub brokenSheet : List ℕ
+brokenSheet = 6 ∷ 10 ∷ []
+
+abbrev pub brokenPacket : List ℕ
+brokenPacket = packetWith 0x01 0x00 0x3F 0xF0 0x01
+
+-- the cases of runs
+abbrev pub runCases : List Case
+runCases =
+    -- "sheet to packet": the packets of the segments
+    converts (askPacketOf (slow Brought.sheet)) (bytes (slow Brought.packet)) ∷ converts (askPacketOf (slowFront Brought.sheet)) (bytes (slowFront Brought.packet))
+    ∷ converts (askPacketOf (fast Brought.sheet)) (bytes (fast Brought.packet))
+    -- "At a boundary the screen raises the speed while half the set stands in the slower segment"; "The lowering in demand 3 holds for the run"
+    ∷ toldBoth (slow ∷ fast ∷ []) plain 199 0 63 60 ++ toldBoth (slow ∷ fast ∷ []) plain 200 0 140 140
+    -- "with its Q_FRONT delay": with Q_FRONT 1 there is none; "in order of travel": the other way round
+    ++ toldBoth (slowFront ∷ fast ∷ []) plain 0 0 140 140 ++ toldBoth (fast ∷ slow ∷ []) plain 200 0 63 60
+    -- "across boundaries too": a delay of 2,500 cm over four segments
+    ++ toldBoth (slow ∷ fast ∷ fast ∷ fast ∷ []) (trainOf 2500 80 false false false) 499 0 63 60
+    ++ toldBoth (slow ∷ fast ∷ fast ∷ fast ∷ []) (trainOf 2500 80 false false false) 500 0 140 140
+    -- "then 10, then 11 against the last": of 1 cm after 1,000, and of 1,000 after 1
+    ++ toldBoth (slow ∷ shortest ∷ []) plain 0 0 63 60 ++ toldBoth (slow ∷ shortest ∷ []) plain 1 11 0 0
+    ++ toldBoth (shortest ∷ slow ∷ []) plain 999 0 63 60 ++ toldBoth (shortest ∷ slow ∷ []) plain 1000 11 0 0
+    ++ toldBoth (slow ∷ shortest ∷ []) (canted 81) 1 10 0 0
+    -- "each segment is then judged in order (place within it)": the second, before the third, and both before the train and x
+    ++ toldRun 1 (firstSheet ∷ brokenSheet ∷ [] ∷ []) plain 0 4 1 0 ∷ toldRun 1 (firstSheet ∷ [] ∷ brokenSheet ∷ []) (canted 81) 1 9 0 0
+    ∷ toldRun 0 (firstPacket ∷ brokenPacket ∷ [] ∷ []) plain 0 7 311 0 ∷ toldRun 0 (firstPacket ∷ [] ∷ brokenPacket ∷ []) (canted 81) 1 1 0 0
+    -- "of the one kind": a sheet among packets, a packet among sheets
+    ∷ toldRun 0 (firstPacket ∷ firstSheet ∷ []) plain 0 3 0 0 ∷ toldRun 1 (firstSheet ∷ firstPacket ∷ []) plain 0 9 2 0
+    -- "16 for a run of none or more than 4, judged right after 15", whatever is lent
+    ∷ toldBoth [] plain 0 16 0 0 ++ toldRun 2 [] plain 0 15 0 0
+    ∷ toldBoth (replicate 5 shortest) plain 0 16 0 0 ++ toldRun 0 (replicate 5 []) (canted 81) 1 16 0 0
+    ∷ record { said = speedSaid (permittedSpeed 0 4294967295 [] [] [] [] plain 0); due = speedSaid (record { refusal = 16; place = 0; speed = 0 }) }
+    -- "those past it are not read": what is lent past the count would be refused
+    ∷ record { said = speedSaid (permittedSpeed 1 2 (slow Brought.sheet) (fast Brought.sheet) [] brokenSheet plain 199); due = speedSaid (record { refusal = 0; place = 0; speed = 63 }) }
     ∷ []
 
 -- "The (P) cases form a single table proved by a single statement"
@@ -266,3 +336,4 @@ desk =
     ++ journeys
     ++ constraintCases
     ++ wireCases
+    ++ runCases
