@@ -1,4 +1,5 @@
-// Reads a packet from standard input and converts it to its sheet and back; of a segment, answers the permitted speed of four trains at two places.
+// demo [NEXT]: reads a packet from standard input and converts it to its sheet and back; of a segment, answers the permitted speed of four trains at
+// two places. If NEXT is a file with the packet of the next segment, answers their speeds there too, by that segment alone and by the run of both.
 #include <stdio.h>
 #include <string.h>
 
@@ -13,7 +14,7 @@ static const struct {
     {"freight P, 25 m, 130 mm", {.length = 2500, .cant = 130, .freight_p = true}},
     {"freight G, 40 m,  80 mm", {.length = 4000, .cant = 80, .freight_g = true}},
 };
-static const uint32_t PLACES[] = {6000, 11800};
+static const uint32_t PLACES[] = {6000, 11800}, NEXT_PLACES[] = {300, 1800, 4500};
 enum { JOURNEY = 4 };
 
 // Prints the count of the bytes, and the bytes in hexadecimal, 24 on a line.
@@ -50,13 +51,41 @@ static void print_speeds(const uint8_t *packet, size_t packet_len)
         printf("Permitted at %u cm:\n", (unsigned)PLACES[i]);
         for (size_t j = 0; j < sizeof TRAINS / sizeof *TRAINS; ++j) {
             printf("    %s: ", TRAINS[j].name);
-            print_speed(seglink_permitted_speed(SEGLINK_KIND_PACKET, packet, packet_len, TRAINS[j].train, PLACES[i]));
+            print_speed(seglink_permitted_speed_one(SEGLINK_KIND_PACKET, packet, packet_len, TRAINS[j].train, PLACES[i]));
             printf("\n");
         }
     }
 }
 
-int main(void)
+// Prints the permitted speed of each train at each place of the next segment: by that segment alone, and by a run of both, where the tail counts.
+static void print_next(const uint8_t *packet, size_t packet_len, const uint8_t *next, size_t next_len)
+{
+    for (size_t i = 0; i < sizeof NEXT_PLACES / sizeof *NEXT_PLACES; ++i) {
+        uint32_t x = NEXT_PLACES[i];
+        printf("Permitted at %u cm of the next segment, by it alone and by the run of both:\n", (unsigned)x);
+        for (size_t j = 0; j < sizeof TRAINS / sizeof *TRAINS; ++j) {
+            seglink_train train = TRAINS[j].train;
+            printf("    %s: ", TRAINS[j].name);
+            print_speed(seglink_permitted_speed_one(SEGLINK_KIND_PACKET, next, next_len, train, x));
+            printf(", ");
+            print_speed(seglink_permitted_speed(SEGLINK_KIND_PACKET, 2, packet, packet_len, next, next_len, packet, 0, packet, 0, train, x));
+            printf("\n");
+        }
+    }
+}
+
+// Reads the file with the next segment's packet and returns the count of its bytes, 0 if it cannot be read.
+static size_t read_next(const char *name, uint8_t next[SEGLINK_LARGEST_PACKET + 1])
+{
+    FILE *file = fopen(name, "rb");
+    if (file == NULL)
+        return 0;
+    size_t length = fread(next, 1, SEGLINK_LARGEST_PACKET + 1, file);
+    fclose(file);
+    return length;
+}
+
+int main(int argc, char **argv)
 {
     // a byte more than the largest packet, so that a longer input is refused and not cut
     uint8_t packet[SEGLINK_LARGEST_JOURNEY_PACKET + 1], sheet[SEGLINK_LARGEST_JOURNEY_SHEET];
@@ -71,5 +100,9 @@ int main(void)
     print_back(packet, length, sheet, there.length);
     if (packet[0] != JOURNEY)
         print_speeds(packet, length);
+    if (argc > 1) {
+        uint8_t next[SEGLINK_LARGEST_PACKET + 1];
+        print_next(packet, length, next, read_next(argv[1], next));
+    }
     return 0;
 }

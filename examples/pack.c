@@ -1,5 +1,6 @@
 // Reads a sheet as text, a number at the start of each line, and writes its packet: examples/sample.numbers makes the segment
-// examples/sample.packet, and examples/journey.numbers the journey examples/journey.packet, which has a speed restriction.
+// examples/sample.packet, examples/next.numbers the segment after it, examples/next.packet, and examples/journey.numbers the journey
+// examples/journey.packet, which has a speed restriction.
 #include <stdio.h>
 #include <stdlib.h>
 

@@ -1,4 +1,5 @@
-// A worked example in C: the build definition's sample packet to its sheet and back, its altitude, a permitted speed and two refusals.
+// A worked example in C: the build definition's sample packet to its sheet and back, its altitude, permitted speeds on it and on a run of two
+// segments, and two refusals.
 #include <stdio.h>
 #include <string.h>
 
@@ -41,10 +42,24 @@ static void ask(const uint8_t *sheet, size_t sheet_len)
     seglink_altitude altitude = seglink_altitude_of_packet(PACKET, sizeof PACKET);
     printf("The segment lies at %d cm (refusal %u).\n", (int)altitude.altitude, (unsigned)altitude.refusal);
     seglink_train train = {.length = 200, .cant = 150, .passenger = true};
-    seglink_speed here = seglink_permitted_speed(SEGLINK_KIND_PACKET, PACKET, sizeof PACKET, train, 0);
+    seglink_speed here = seglink_permitted_speed_one(SEGLINK_KIND_PACKET, PACKET, sizeof PACKET, train, 0);
     printf("A passenger train of 200 cm may run at %u km/h at 0 cm (refusal %u).\n", (unsigned)here.speed, (unsigned)here.refusal);
-    seglink_speed same = seglink_permitted_speed(SEGLINK_KIND_SHEET, sheet, sheet_len, train, 0);
+    seglink_speed same = seglink_permitted_speed_one(SEGLINK_KIND_SHEET, sheet, sheet_len, train, 0);
     printf("From the sheet the answer is %u km/h (refusal %u).\n", (unsigned)same.speed, (unsigned)same.refusal);
+}
+
+// Asks for a speed on the next segment, a faster one, while the train's tail is still on this one.
+static void ask_next(const uint8_t *sheet, size_t sheet_len)
+{
+    uint8_t next[SEGLINK_LARGEST_SHEET];
+    memcpy(next, sheet, sheet_len);
+    next[16] = 120; // V_STATIC
+    seglink_train train = {.length = 200, .cant = 150, .passenger = true};
+    seglink_speed alone = seglink_permitted_speed_one(SEGLINK_KIND_SHEET, next, sheet_len, train, 0);
+    // two segments are lent: the other two are the first one again, with length 0
+    seglink_speed run = seglink_permitted_speed(SEGLINK_KIND_SHEET, 2, sheet, sheet_len, next, sheet_len, sheet, 0, sheet, 0, train, 0);
+    printf("The next segment alone permits %u km/h (refusal %u); ", (unsigned)alone.speed, (unsigned)alone.refusal);
+    printf("with the tail still here the train may run at %u km/h (refusal %u).\n", (unsigned)run.speed, (unsigned)run.refusal);
 }
 
 // Converts the packet without its last byte, and with one bit more than its fields have: both are refused, and the room keeps its bytes.
@@ -70,6 +85,7 @@ int main(void)
     if (length == 0)
         return 1;
     ask(sheet, length);
+    ask_next(sheet, length);
     refuse();
     return 0;
 }

@@ -26,13 +26,14 @@ extern "C" {
 //     a packet              1, 2, 3, then its fields in order (6 before 4 or 5), then 13, then 7
 //     a sheet               its numbers in order (9 before 2, 4 or 5), then 9 for bytes that are left
 //     a conversion          the refusals of its packet or sheet, then 12 (of a sheet alone), then 8
-//     a speed question      15, then the refusals of its packet or sheet, then 10, then 11
+//     a speed question      15, then 16, then the refusals of its packets or sheets, one segment after the other, then 10, then 11
 //     an altitude question  the refusals of its packet
 //     a completion          8, then the refusals of its packet
 //     an intake's sheet     14 where there is no verdict, then the verdict's refusal, then 14 where the packet's room is cut short, then
 //                           the refusals of a conversion
 //
-// The place says where the fault is: a bit of the packet or a byte of the sheet. Both are counted from 0 at the start, the top bit of a byte first.
+// The place says where the fault is: a bit of the packet or a byte of the sheet. Both are counted from 0 at the start, the top bit of a byte first;
+// of a run, at the start of the segment that is refused.
 //     4, 5                  the first bit of the field at fault, or the first byte of its number; of a constraint whose start is not below
 //                           its end, the end is at fault
 //     6                     the first bit of the field that does not fit
@@ -53,14 +54,15 @@ enum {
     SEGLINK_SHORT_ROOM = 8,      // the result is longer than the lent room, or a packet's deliveries together are
     SEGLINK_SHEET_FORM = 9,      // a sheet ends too soon, has bytes left, or a number is not in its shortest form or not below 4,294,967,296
     SEGLINK_TRAIN_VALUE = 10,    // the train's length or cant deficiency is not allowed
-    SEGLINK_PAST_END = 11,       // x is at or past L_SP
+    SEGLINK_PAST_END = 11,       // x is at or past L_SP of the run's last segment
     SEGLINK_LONG_BODY = 12,      // a sheet's body would exceed 65,535 bits
     SEGLINK_BITS_LEFT = 13,      // bits of the body are left after the last field
     SEGLINK_TOO_EARLY = 14,      // an intake's sheet is asked for before a completion, after the next delivery or in phase 2 with a refusal or place that no completion gives; or with the packet's room cut short
-    SEGLINK_UNKNOWN_KIND = 15    // the kind is neither 0 nor 1
+    SEGLINK_UNKNOWN_KIND = 15,   // the kind is neither 0 nor 1
+    SEGLINK_RUN_COUNT = 16       // the run has no segment or more than 4
 };
 
-// Kinds of a speed question: it brings a segment's packet, or a segment's sheet.
+// Kinds of a speed question: it brings packets of segments, or sheets of segments.
 enum {
     SEGLINK_KIND_PACKET = 0,
     SEGLINK_KIND_SHEET = 1
@@ -118,10 +120,24 @@ seglink_converted seglink_packet_to_sheet(const uint8_t *packet, size_t packet_l
 // stay. Any bytes may be handed over; a refusal (2, 4, 5, 8, 9 or 12) leaves the room as it was.
 seglink_converted seglink_sheet_to_packet(const uint8_t *sheet, size_t sheet_len, uint8_t *room, size_t room_len);
 
-// Returns the permitted speed of `train` at `x` cm from the segment's start. `kind` says what `segment` is: 0 a packet, whose speeds are multiples
-// of 5 km/h, 1 a sheet, whose speeds are in km/h. Any kind, bytes, train and x may be handed over. A kind that is neither is refused with 15, first
-// of all, whatever the other values are; a refusal of kind 0 is 1 to 7, 10, 11 or 13, a refusal of kind 1 is 2, 4, 5, 9, 10 or 11.
-seglink_speed seglink_permitted_speed(uint32_t kind, const uint8_t *segment, size_t segment_len, seglink_train train, uint32_t x);
+// Returns the permitted speed of `train` at `x` cm from the start of the last segment of a run: the first `count` of the four segments, in order of
+// travel. Their elements are laid end to end; each ends where the next starts, across boundaries too. An element with Q_FRONT 0 holds for the train's
+// length past its end, over several short segments if need be: so the segments on which the tail still stands are to be lent.
+// `kind` says what the segments are: 0 packets, whose speeds are multiples of 5 km/h, 1 sheets, whose speeds are in km/h. The same segment may stand
+// twice; NID_C, NID_SP, version and D_EoA_Offset play no part.
+// Any kind, count, bytes, train and x may be handed over. A kind that is neither is refused with 15, first of all, and a count of 0 or above 4 with
+// 16; no segment is read then, whatever the other values are. Any other refusal of kind 0 is 1 to 7, 10, 11 or 13, of kind 1 it is 2, 4, 5, 9, 10
+// or 11. The place is within the segment that is refused; which one that is, is not told.
+// Segments past the count are not read, and may lie in memory that cannot be read. One that is not lent has a pointer all the same: the first one
+// again, with length 0.
+seglink_speed seglink_permitted_speed(uint32_t kind, uint32_t count, const uint8_t *first, size_t first_len, const uint8_t *second, size_t second_len,
+                                      const uint8_t *third, size_t third_len, const uint8_t *fourth, size_t fourth_len, seglink_train train, uint32_t x);
+
+// Answers as seglink_permitted_speed for a run of one segment.
+static inline seglink_speed seglink_permitted_speed_one(uint32_t kind, const uint8_t *segment, size_t segment_len, seglink_train train, uint32_t x)
+{
+    return seglink_permitted_speed(kind, 1, segment, segment_len, segment, 0, segment, 0, segment, 0, train, x);
+}
 
 // Returns the altitude of a packet's segment in signed centimetres.
 // Any bytes may be handed over; a refusal is 1 to 7 or 13.

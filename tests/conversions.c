@@ -1,11 +1,14 @@
-// Calls the static library from C: both conversions of segments and journeys, the intake, the questions' refusals, speeds by kind and by cant
-// deficiency, and null with length 0.
+// Calls the static library from C: both conversions of segments and journeys, the intake, the questions' refusals, speeds by kind, by cant
+// deficiency and on runs of segments, and null with length 0.
 // Checks the answers against packets, sheets, states, places and speeds that are written here from the build definition. 'time' measures times instead.
-#define _POSIX_C_SOURCE 200809L
+#define _DEFAULT_SOURCE
+#include <signal.h>
 #include <stdio.h>
 #include <stdlib.h>
 #include <string.h>
+#include <sys/mman.h>
 #include <time.h>
+#include <unistd.h>
 
 #include "../include/seglink.h"
 
@@ -266,17 +269,22 @@ static void refuses(const char *name, conversion *convert, const struct bytes *i
 // Kinds that are neither 0 nor 1; the low bits of some are 0 or 1.
 static const uint32_t UNKNOWN_KINDS[] = {2, 3, 255, 256, 257, 65536, 65537, 0x80000000, 0x80000001, 0xFFFFFFFF};
 
-// Checks the answer to a speed question about bytes of a kind.
-static void speed_asked(const char *name, uint32_t kind, const struct bytes *segment, seglink_train train, uint32_t x, seglink_speed wanted)
+// Checks the answer to a speed question of a kind.
+static void speed_answered(const char *name, uint32_t kind, seglink_speed got, seglink_speed wanted)
 {
     char what[64];
-    seglink_speed got = seglink_permitted_speed(kind, segment->byte, segment->length, train, x);
     snprintf(what, sizeof what, "the refusal of its speed as kind %u", (unsigned)kind);
     check(name, what, got.refusal, wanted.refusal);
     snprintf(what, sizeof what, "the place of its speed's refusal as kind %u", (unsigned)kind);
     check(name, what, got.place, wanted.place);
     snprintf(what, sizeof what, "its speed as kind %u", (unsigned)kind);
     check(name, what, got.speed, wanted.speed);
+}
+
+// Asks a speed of one segment.
+static void speed_asked(const char *name, uint32_t kind, const struct bytes *segment, seglink_train train, uint32_t x, seglink_speed wanted)
+{
+    speed_answered(name, kind, seglink_permitted_speed_one(kind, segment->byte, segment->length, train, x), wanted);
 }
 
 // Checks the answer to a speed question, and that each unknown kind is refused first of all, whatever that answer is.
@@ -1586,6 +1594,221 @@ static void intakes(void)
     counted();
 }
 
+// ---- Runs of segments
+
+// A segment of the desk: its length in cm, its km/h and Q_FRONT, and the location in cm of a change to other km/h, 0 if there is none.
+struct plan { uint32_t length, kmh, front, change, then; };
+
+static void planned(struct fields *s, struct plan plan)
+{
+    desk(s, plan.kmh);
+    s->field[L_SP] = (struct field){24, plan.length, plan.length, plan.length};
+    s->field[FRONT] = (struct field){1, plan.front, plan.front, plan.front};
+    if (plan.change == 0)
+        return;
+    struct fields rest = *s;
+    s->count = SPEEDS;
+    same(s, 5, 1);
+    same(s, 24, plan.change);
+    speed(s, plan.then);
+    same(s, 1, 0);
+    same(s, 5, 0);
+    for (size_t i = VOLTAGE; i < rest.count; ++i)
+        s->field[s->count++] = rest.field[i];
+}
+
+// Memory for four segments, in which each ends at the last byte that can be read, and as much that cannot be read at all.
+enum { LENT = 4, PAGES = 65536 };
+static uint8_t *readable[LENT], *unreadable;
+
+static void segment_read(int signal)
+{
+    static const char why[] = "FAILED: a segment was read that is not to be read, or past its end\n";
+    (void)signal;
+    _exit(write(STDOUT_FILENO, why, sizeof why - 1) > 0 ? 1 : 2);
+}
+
+static void map_memory(void)
+{
+    for (int i = 0; i <= LENT; ++i) {
+        uint8_t *pages = mmap(NULL, 2 * PAGES, PROT_NONE, MAP_PRIVATE | MAP_ANONYMOUS, -1, 0);
+        check("memory of runs", "whether there is some", pages != MAP_FAILED && (i == LENT || mprotect(pages, PAGES, PROT_READ | PROT_WRITE) == 0), true);
+        if (i == LENT)
+            unreadable = pages;
+        else
+            readable[i] = pages;
+    }
+    signal(SIGSEGV, segment_read);
+    signal(SIGBUS, segment_read);
+}
+
+// A segment that is lent: its bytes' first and their count.
+struct lent { const uint8_t *first; size_t length; };
+
+// Copies a segment to the end of readable memory, the nth of a run.
+static struct lent lend_segment(int nth, const struct bytes *segment)
+{
+    uint8_t *first = readable[nth] + PAGES - segment->length;
+    memcpy(first, segment->byte, segment->length);
+    return (struct lent){first, segment->length};
+}
+
+static seglink_speed run_speed(uint32_t kind, uint32_t count, const struct lent run[LENT], seglink_train train, uint32_t x)
+{
+    return seglink_permitted_speed(kind, count, run[0].first, run[0].length, run[1].first, run[1].length, run[2].first, run[2].length, run[3].first, run[3].length, train, x);
+}
+
+// Checks the answer about a run of `count` segments, with segments past the count that cannot be read, are the first one again, null, or whole.
+static void run_asked(const char *name, uint32_t kind, uint32_t count, const struct bytes segment[LENT], seglink_train train, uint32_t x, seglink_speed wanted)
+{
+    struct lent run[LENT];
+    for (uint32_t i = 0; i < count; ++i)
+        run[i] = lend_segment((int)i, &segment[i]);
+    const struct lent past[] = {{unreadable, 39}, {unreadable, SIZE_MAX}, {run[0].first, 0}, {NULL, 0}, {desk_packet.byte, 39}, {desk_sheet.byte, 25}};
+    for (size_t i = 0; i < sizeof past / sizeof *past; ++i) {
+        for (uint32_t j = count; j < LENT; ++j)
+            run[j] = past[i];
+        speed_answered(name, kind, run_speed(kind, count, run, train, x), wanted);
+    }
+}
+
+// Runs with the speed that their sheets give a train of `length` cm at x; their packets give the greatest multiple of 5 not above it. Past the
+// count the desk's segments are lent too, which are slower than most of these.
+#define SLOW {1000, 43, 0, 0, 0}
+#define FAST {1000, 104, 0, 0, 0}
+#define TURNS_SLOW {1000, 104, 0, 800, 43}
+static const struct { const char *name; uint32_t count; struct plan segment[LENT]; uint32_t length, x, speed; } RUNS[] = {
+    {"a run of one", 1, {FAST}, 200, 0, 104},
+    {"a slower segment before, the tail at its end", 2, {SLOW, FAST}, 200, 199, 43},
+    {"a slower segment before, left", 2, {SLOW, FAST}, 200, 200, 104},
+    {"a slower segment before, Q_FRONT 1", 2, {{1000, 43, 1, 0, 0}, FAST}, 200, 0, 104},
+    {"a faster segment before", 2, {FAST, SLOW}, 200, 0, 43},
+    {"30 km/h up to 100 cm before the boundary", 2, {{1000, 30, 0, 900, 120}, FAST}, 200, 99, 30},
+    {"30 km/h up to 100 cm before the boundary, left", 2, {{1000, 30, 0, 900, 90}, FAST}, 200, 100, 90},
+    {"30 km/h up to 200 cm before the boundary", 2, {{1000, 30, 0, 800, 90}, FAST}, 200, 0, 90},
+    {"30 km/h up to the boundary's tail, Q_FRONT 1", 2, {{1000, 30, 1, 900, 90}, FAST}, 200, 0, 90},
+    {"a change in the last segment", 2, {FAST, {1000, 84, 0, 500, 140}}, 200, 700, 140},
+    {"a segment that turns slow, once", 1, {TURNS_SLOW}, 200, 0, 104},
+    {"a segment that turns slow, twice", 2, {TURNS_SLOW, TURNS_SLOW}, 200, 199, 43},
+    {"a segment that turns slow, twice, left", 2, {TURNS_SLOW, TURNS_SLOW}, 200, 200, 104},
+    {"a delay over one short segment", 3, {SLOW, {50, 64, 0, 0, 0}, FAST}, 200, 149, 43},
+    {"a delay over one short segment, its own", 3, {SLOW, {50, 64, 0, 0, 0}, FAST}, 200, 150, 64},
+    {"a delay over two short segments", 4, {SLOW, {50, 64, 0, 0, 0}, {30, 82, 0, 0, 0}, FAST}, 200, 119, 43},
+    {"a delay over two short segments, the second's", 4, {SLOW, {50, 64, 0, 0, 0}, {30, 82, 0, 0, 0}, FAST}, 200, 120, 64},
+    {"a delay over two short segments, the third's", 4, {SLOW, {50, 64, 0, 0, 0}, {30, 82, 0, 0, 0}, FAST}, 200, 170, 82},
+    {"a delay over two short segments, left", 4, {SLOW, {50, 64, 0, 0, 0}, {30, 82, 0, 0, 0}, FAST}, 200, 200, 104},
+    {"segments of a centimetre", 4, {{1, 43, 0, 0, 0}, {1, 64, 0, 0, 0}, {1, 82, 0, 0, 0}, {1, 104, 0, 0, 0}}, 150000, 0, 43},
+    {"segments of a centimetre, a train of one", 4, {{1, 43, 0, 0, 0}, {1, 64, 0, 0, 0}, {1, 82, 0, 0, 0}, {1, 104, 0, 0, 0}}, 1, 0, 82},
+    {"the longest run", 4, {{16777215, 43, 0, 0, 0}, {16777215, 43, 0, 0, 0}, {16777215, 43, 0, 0, 0}, {16777215, 104, 0, 0, 0}}, 150000, 149999, 43},
+    {"the longest run, left", 4, {{16777215, 43, 0, 0, 0}, {16777215, 43, 0, 0, 0}, {16777215, 43, 0, 0, 0}, {16777215, 104, 0, 0, 0}}, 150000, 150000, 104},
+    {"three segments left", 4, {SLOW, SLOW, SLOW, FAST}, 200, 999, 104},
+};
+
+static void speeds_of_runs(struct fields *s)
+{
+    static struct bytes packet[LENT], sheet[LENT];
+    for (size_t i = 0; i < sizeof RUNS / sizeof *RUNS; ++i) {
+        for (uint32_t j = 0; j < RUNS[i].count; ++j) {
+            planned(s, RUNS[i].segment[j]);
+            packet[j] = packet_of(s);
+            sheet[j] = sheet_of(s, false);
+        }
+        seglink_train train = {.length = RUNS[i].length, .cant = 150};
+        run_asked(RUNS[i].name, SEGLINK_KIND_PACKET, RUNS[i].count, packet, train, RUNS[i].x, (seglink_speed){0, 0, RUNS[i].speed / 5 * 5});
+        run_asked(RUNS[i].name, SEGLINK_KIND_SHEET, RUNS[i].count, sheet, train, RUNS[i].x, (seglink_speed){0, 0, RUNS[i].speed});
+    }
+}
+
+// Whole and broken segments of each kind, the broken ones with their refusal and place.
+static const struct bytes *const WHOLE[] = {&desk_packet, &desk_sheet};
+static const struct { const struct bytes *segment; size_t length; seglink_speed refused; } BROKEN[][3] = {
+    {{&desk_packet, 14, {1, 0, 0}}, {&journey_packet, 42, {2, 0, 0}}, {&padded_packet, 39, {7, 306, 0}}},
+    {{&desk_sheet, 2, {9, 1, 0}}, {&journey_sheet, 52, {2, 0, 0}}, {&desk_sheet, 24, {9, 24, 0}}},
+};
+
+// Fills a run with whole segments up to `place` and broken ones from there on, from the one at `first` on in turn.
+static void broken_from(struct bytes run[LENT], uint32_t kind, size_t place, size_t first)
+{
+    for (size_t i = 0; i < LENT; ++i) {
+        run[i] = i < place ? *WHOLE[kind] : *BROKEN[kind][(first + i) % 3].segment;
+        if (i >= place)
+            run[i].length = BROKEN[kind][(first + i) % 3].length;
+    }
+}
+
+// Checks that a run is refused for the first segment that is broken, before its train and x, and for no segment past the count.
+static void broken_runs(void)
+{
+    static struct bytes run[LENT];
+    seglink_train train = {.length = 200, .cant = 150};
+    for (uint32_t kind = 0; kind < 2; ++kind)
+        for (size_t place = 0; place < LENT; ++place)
+            for (size_t first = 0; first < 3; ++first) {
+                broken_from(run, kind, place, first);
+                for (uint32_t count = (uint32_t)place + 1; count <= LENT; ++count)
+                    run_asked("a run with a broken segment", kind, count, run, NO_TRAIN, 1, BROKEN[kind][(first + place) % 3].refused);
+                if (place > 0)
+                    run_asked("a run before a broken segment", kind, (uint32_t)place, run, train, 0, (seglink_speed){0, 0, 80});
+            }
+}
+
+// Counts that no run has; the low bits of some are those of a run's count.
+static const uint32_t NO_RUNS[] = {0, 5, 6, 8, 255, 256, 257, 260, 65537, 0x80000000, 0x80000001, 0x80000004, 0xFFFFFFFF};
+
+// Checks the order of the refusals, each with all that come after it: 15, 16, the first segment's, the second's, 10, 11. With 15 and 16 no segment
+// is read.
+static void ordered(void)
+{
+    static struct bytes run[LENT];
+    const struct lent none[LENT] = {{unreadable, 39}, {unreadable, SIZE_MAX}, {unreadable, 0}, {unreadable, 1}};
+    seglink_train train = {.length = 200, .cant = 150};
+    for (uint32_t kind = 0; kind < 2; ++kind) {
+        for (size_t i = 0; i < sizeof UNKNOWN_KINDS / sizeof *UNKNOWN_KINDS; ++i)
+            for (uint32_t count = 0; count < 8; ++count)
+                speed_answered("a run of an unknown kind", UNKNOWN_KINDS[i], run_speed(UNKNOWN_KINDS[i], count, none, NO_TRAIN, 1), (seglink_speed){15, 0, 0});
+        for (size_t i = 0; i < sizeof NO_RUNS / sizeof *NO_RUNS; ++i)
+            speed_answered("a run of none or more than four", kind, run_speed(kind, NO_RUNS[i], none, NO_TRAIN, 1), (seglink_speed){16, 0, 0});
+        broken_from(run, kind, 0, 0);
+        run_asked("the first segment's refusal", kind, 2, run, NO_TRAIN, 1, BROKEN[kind][0].refused);
+        broken_from(run, kind, 1, 0);
+        run_asked("the second segment's refusal", kind, 2, run, NO_TRAIN, 1, BROKEN[kind][1].refused);
+        broken_from(run, kind, LENT, 0);
+        run_asked("10 after the segments' refusals", kind, 2, run, NO_TRAIN, 1, (seglink_speed){10, 0, 0});
+        run_asked("11 last of all", kind, 2, run, train, 1, (seglink_speed){11, 0, 0});
+        run_asked("an answer", kind, 2, run, train, 0, (seglink_speed){0, 0, 80});
+    }
+}
+
+// Checks 11 against the last segment, and neither against another nor against the run.
+static void past_the_last(struct fields *s)
+{
+    static struct bytes run[LENT];
+    static const struct { struct plan segment[2]; uint32_t length, speed; } ENDS[] = {{{SLOW, {10, 80, 0, 0, 0}}, 10, 43}, {{{10, 80, 0, 0, 0}, FAST}, 1000, 104}};
+    static const uint32_t LOCATIONS[] = {1000, 1009, 1010, 1011, 0x01000000, 0x80000000, 0xFFFFFFFF};
+    seglink_train train = {.length = 200, .cant = 150};
+    for (size_t i = 0; i < 2; ++i) {
+        for (size_t j = 0; j < 2; ++j) {
+            planned(s, ENDS[i].segment[j]);
+            run[j] = sheet_of(s, false);
+        }
+        run_asked("the last location of a run", SEGLINK_KIND_SHEET, 2, run, train, ENDS[i].length - 1, (seglink_speed){0, 0, ENDS[i].speed});
+        run_asked("a location at the last segment's end", SEGLINK_KIND_SHEET, 2, run, train, ENDS[i].length, (seglink_speed){11, 0, 0});
+        for (size_t j = 0; j < sizeof LOCATIONS / sizeof *LOCATIONS; ++j)
+            run_asked("a location past the last segment", SEGLINK_KIND_SHEET, 2, run, train, LOCATIONS[j], (seglink_speed){11, 0, 0});
+    }
+}
+
+static void runs(struct fields *s)
+{
+    map_memory();
+    speeds_of_runs(s);
+    broken_runs();
+    ordered();
+    past_the_last(s);
+    signal(SIGSEGV, SIG_DFL);
+    signal(SIGBUS, SIG_DFL);
+}
+
 // ---- Null with length 0, for each slice of each operation
 
 static const uint8_t EMPTY[1] = {0xA5};
@@ -1613,11 +1836,10 @@ static void null_questions(void)
     static const struct bytes nothing;
     static const uint32_t refusals[] = {SEGLINK_SHORT_PACKET, SEGLINK_SHEET_FORM, SEGLINK_UNKNOWN_KIND};
     for (uint32_t kind = 0; kind < 3; ++kind) {
-        seglink_speed got = seglink_permitted_speed(kind, NULL, 0, train, 0);
-        check("a speed question about null", "the refusal", got.refusal, refusals[kind]);
-        check("a speed question about null", "the place", got.place, 0);
-        check("a speed question about null", "the speed", got.speed, 0);
-        speed_asked("a speed question about an empty array", kind, &nothing, train, 0, got);
+        seglink_speed wanted = {refusals[kind], 0, 0};
+        speed_answered("a speed question about null", kind, seglink_permitted_speed_one(kind, NULL, 0, train, 0), wanted);
+        speed_asked("a speed question about an empty array", kind, &nothing, train, 0, wanted);
+        speed_answered("a run of four times null", kind, seglink_permitted_speed(kind, 4, NULL, 0, NULL, 0, NULL, 0, NULL, 0, train, 0), wanted);
     }
     seglink_altitude got = seglink_altitude_of_packet(NULL, 0), wanted = seglink_altitude_of_packet(EMPTY, 0);
     check("the altitude of null", "the refusal", got.refusal, wanted.refusal);
@@ -1696,6 +1918,7 @@ static int all_checks(struct fields *s)
     speeds_by_kind();
     journeys(s);
     intakes();
+    runs(s);
     nulls();
     printf("%u passed, %u failed\n", passed, failed);
     return failed == 0 ? 0 : 1;

@@ -1,11 +1,12 @@
 //! Times of the archive beside the second program and asn1c: conversions and speeds of small, middle and the largest segments; beside the
-//! second program: conversions of small and the largest journeys and of journeys full of temporary constraints; and beside plain copies:
-//! the largest packets taken in deliveries.
+//! second program: conversions of small and the largest journeys and of journeys full of temporary constraints; beside questions about one
+//! segment: speeds on runs of four; and beside plain copies: the largest packets taken in deliveries.
 
 mod asn1c;
 mod deliveries;
 mod machine;
 mod measure;
+mod runs;
 
 use compare::archive::Archive;
 use compare::draft::{Draft, Kind};
@@ -50,6 +51,7 @@ asn1c: the codec that Debian's asn1c makes of an ASN.1 module of the packet. It 
 the others write a sheet, and writes a packet from that structure. Reading, it refuses only a packet that ends too soon; writing, a
 value outside its range; it answers no speeds and has no journeys. Freeing the structures is not counted. The run stops where a packet
 does not come back from it unchanged.
+Runs: four segments, with a train that stands on all of them and with one that has left three, beside one segment with the same train.
 At once and byte by byte: an intake takes a packet in one delivery, and in one for each byte; beside them plain copies of the same bytes, a
 call each. Completion judges the packet. A delivery is to cost a call and a copy, and not what a completion does.";
 
@@ -67,6 +69,9 @@ fn main() {
     for (name, count, size) in JOURNEYS {
         let drafts: Vec<Draft> = (0..count).map(|_| any_journey(&mut random, size)).collect();
         rows(name, &drafts, false);
+    }
+    for (name, count, sizes) in SIZES {
+        runs::rows(name, &mut random, count / 2, sizes);
     }
     let segments: Vec<_> = (0..TAKEN_SEGMENTS).map(|_| segment(&mut random, LARGEST).packet()).collect();
     deliveries::rows("largest segments", &segments);

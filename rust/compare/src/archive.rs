@@ -1,6 +1,6 @@
 //! The archive's operations, by the names and layouts that the server links.
 
-use crate::program::{Answer, Intake, Program, Train};
+use crate::program::{Answer, Intake, Program, Run, Train};
 
 #[repr(C)]
 struct Converted {
@@ -43,7 +43,20 @@ struct State {
 extern "C" {
     fn seglink_packet_to_sheet(packet: *const u8, packet_len: usize, room: *mut u8, room_len: usize) -> Converted;
     fn seglink_sheet_to_packet(sheet: *const u8, sheet_len: usize, room: *mut u8, room_len: usize) -> Converted;
-    fn seglink_permitted_speed(kind: u32, segment: *const u8, segment_len: usize, train: Card, x: u32) -> Speed;
+    fn seglink_permitted_speed(
+        kind: u32,
+        count: u32,
+        first: *const u8,
+        first_len: usize,
+        second: *const u8,
+        second_len: usize,
+        third: *const u8,
+        third_len: usize,
+        fourth: *const u8,
+        fourth_len: usize,
+        train: Card,
+        x: u32,
+    ) -> Speed;
     fn seglink_altitude_of_packet(packet: *const u8, packet_len: usize) -> Altitude;
     fn seglink_intake_fresh() -> State;
     fn seglink_intake_deliver(intake: State, delivery: *const u8, delivery_len: usize, room: *mut u8, room_len: usize) -> State;
@@ -63,8 +76,9 @@ impl Program for Archive {
         converted(unsafe { seglink_sheet_to_packet(sheet.as_ptr(), sheet.len(), room.as_mut_ptr(), room.len()) })
     }
 
-    fn permitted_speed(kind: u32, segment: &[u8], train: &Train, x: u32) -> Answer {
-        let asked = unsafe { seglink_permitted_speed(kind, segment.as_ptr(), segment.len(), card(train), x) };
+    fn permitted_speed(kind: u32, Run { count, lent }: Run, train: &Train, x: u32) -> Answer {
+        let [(a, a_len), (b, b_len), (c, c_len), (d, d_len)] = lent.map(|segment| (segment.as_ptr(), segment.len()));
+        let asked = unsafe { seglink_permitted_speed(kind, count, a, a_len, b, b_len, c, c_len, d, d_len, card(train), x) };
         let Speed { refusal, place, speed } = asked;
         Answer { refusal, place, value: speed.into() }
     }

@@ -5,9 +5,10 @@ use crate::case::{any_kind, any_location, any_train, Case};
 use crate::draft::Kind;
 use crate::event::Event;
 use crate::lowered::lowered;
-use crate::program::{Answer, Operation, Program, Question, Train, JOURNEY, KIND_PACKET, KIND_SHEET, UNKNOWN_KIND};
+use crate::program::{Answer, Operation, Program, Question, Run, Train, JOURNEY, KIND_PACKET, KIND_SHEET, UNKNOWN_KIND};
 use crate::random::Random;
 use crate::rooms::Rooms;
+use crate::run_check;
 use crate::second_program::Second;
 use crate::segments::LARGEST;
 use crate::sequence;
@@ -22,7 +23,8 @@ pub const LARGEST_PACKET: usize = 8_207;
 /// How many changes of voltage, and how many of current, were allowed at first.
 const FORMER_WIRES: u32 = 23;
 
-/// Compares the operations on a case, every answer and every byte of the rooms; then the demands; then packets taken in deliveries.
+/// Compares the operations on a case, every answer and every byte of the rooms; then the demands; then runs of segments; then packets taken in
+/// deliveries.
 pub fn check(random: &mut Random, case: &Case, tally: &mut Tally) -> Result<(), String> {
     for (operation, input) in [
         (Operation::PacketToSheet, &case.packet),
@@ -41,6 +43,7 @@ pub fn check(random: &mut Random, case: &Case, tally: &mut Tally) -> Result<(), 
         let x = any_location(random, &case.marks, &train);
         speeds(random, case, packet.as_deref(), (train, x), tally)?;
     }
+    run_check::check(random, tally)?;
     sequence::check(random, case, tally)?;
     wild::check(random, &case.packet, tally)
 }
@@ -90,7 +93,7 @@ fn round_trips(case: &Case) -> Result<Option<Vec<u8>>, String> {
 }
 
 /// Returns the result of a conversion into a room of `size` bytes, if it is accepted.
-fn converted(convert: fn(&[u8], &mut [u8]) -> Answer, input: &[u8], size: usize) -> Option<Vec<u8>> {
+pub fn converted(convert: fn(&[u8], &mut [u8]) -> Answer, input: &[u8], size: usize) -> Option<Vec<u8>> {
     let mut room = vec![0; size];
     let answer = convert(input, &mut room);
     room.truncate(answer.value as usize);
@@ -112,13 +115,12 @@ fn speeds(
     if let Some(draft) = case.whole.as_ref().filter(|_| by_sheet.refusal == 0) {
         let rest = draft.without_lower(train.cant);
         let (packet, sheet) = (rest.packet(), rest.sheet());
-        tally.count_fall(KIND_PACKET, by_packet != Second::permitted_speed(KIND_PACKET, &packet, &train, x));
-        tally.count_fall(KIND_SHEET, by_sheet != Second::permitted_speed(KIND_SHEET, &sheet, &train, x));
+        tally.count_fall(KIND_PACKET, by_packet != Second::permitted_speed(KIND_PACKET, Run::one(&packet), &train, x));
+        tally.count_fall(KIND_SHEET, by_sheet != Second::permitted_speed(KIND_SHEET, Run::one(&sheet), &train, x));
     }
     if let Some(packet) = packet {
-        let by_packet = Archive::permitted_speed(KIND_PACKET, packet, &train, x);
-        let lowered = Answer { value: by_sheet.value / 5 * 5, ..by_sheet };
-        require(by_packet == lowered, "the speed from a sheet's packet is not the lowered speed from the sheet")?;
+        let by_packet = Archive::permitted_speed(KIND_PACKET, Run::one(packet), &train, x);
+        require(by_packet == in_fives(by_sheet), "the speed from a sheet's packet is not the lowered speed from the sheet")?;
     }
     let (kind, (input, own)) = (any_kind(random), random.pick(&[(&case.packet, by_packet), (&case.sheet, by_sheet)]));
     let answer = compare(random, &ask(kind, input), 0, tally)?;
@@ -127,6 +129,11 @@ fn speeds(
         count_unknown(kind, &own, tally);
     }
     Ok(())
+}
+
+/// Returns the answer that a packet must give where its sheet gave `answer`: the greatest multiple of 5 not above the speed, or the refusal.
+pub fn in_fives(answer: Answer) -> Answer {
+    Answer { value: answer.value / 5 * 5, ..answer }
 }
 
 /// Counts an accepted conversion of a whole segment by its wire changes, and a sheet that is refused at a count of wire changes.

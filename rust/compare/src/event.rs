@@ -1,5 +1,5 @@
-//! Events of an intake in the random sequences and states, of a random speed question of an unknown kind, and of random counts of wire
-//! changes: each is counted, and must happen.
+//! Events of an intake in the random sequences and states, of a random speed question of an unknown kind or about a run, and of random counts of
+//! wire changes: each is counted, and must happen.
 
 #[derive(Clone, Copy)]
 pub enum Event {
@@ -46,6 +46,30 @@ pub enum Event {
     UnknownSegment,
     UnknownTrain,
     UnknownLocation,
+    RunOfOne,
+    RunOfTwo,
+    RunOfThree,
+    RunOfFour,
+    RunSlower,
+    RunOverOne,
+    RunOverTwo,
+    RunDelayEnds,
+    RunTwice,
+    RunLowered,
+    RunBeforeNoise,
+    RunBeforeWhole,
+    BrokenFirst,
+    BrokenSecond,
+    BrokenThird,
+    BrokenFourth,
+    BrokenAgain,
+    BrokenTrain,
+    CountNone,
+    CountFive,
+    CountLarge,
+    CountBroken,
+    UnknownRun,
+    UnknownCount,
     PacketVoltages,
     PacketCurrents,
     SheetVoltages,
@@ -56,7 +80,7 @@ pub enum Event {
 }
 
 /// Each event with its words, in the order of the type.
-pub const EVENTS: [(Event, &str); 50] = [
+pub const EVENTS: [(Event, &str); 74] = [
     (Event::InParts, "packets accepted in several deliveries"),
     (Event::ByteByByte, "packets accepted byte by byte"),
     (Event::NothingOnTheWay, "deliveries of no bytes before a completion"),
@@ -100,6 +124,30 @@ pub const EVENTS: [(Event, &str); 50] = [
     (Event::UnknownSegment, "speed questions of an unknown kind about a segment that is refused: 15"),
     (Event::UnknownTrain, "speed questions of an unknown kind with a train that is not allowed: 15"),
     (Event::UnknownLocation, "speed questions of an unknown kind at or past L_SP: 15"),
+    (Event::RunOfOne, "runs of one segment answered"),
+    (Event::RunOfTwo, "runs of two answered"),
+    (Event::RunOfThree, "runs of three answered"),
+    (Event::RunOfFour, "runs of four answered"),
+    (Event::RunSlower, "runs slower than their last segment alone"),
+    (Event::RunOverOne, "runs slower than their last two alone"),
+    (Event::RunOverTwo, "runs slower than their last three alone"),
+    (Event::RunDelayEnds, "runs at the last centimetre where segments before the last count"),
+    (Event::RunTwice, "runs answered with a segment that stands twice"),
+    (Event::RunLowered, "runs whose sheets give no multiple of 5, and their packets a lower speed"),
+    (Event::RunBeforeNoise, "runs answered before a segment past the count that is no segment"),
+    (Event::RunBeforeWhole, "runs answered before a whole segment past the count"),
+    (Event::BrokenFirst, "runs refused for their first segment"),
+    (Event::BrokenSecond, "runs refused for their second"),
+    (Event::BrokenThird, "runs refused for their third"),
+    (Event::BrokenFourth, "runs refused for their fourth"),
+    (Event::BrokenAgain, "runs refused for a segment before one with another refusal or place"),
+    (Event::BrokenTrain, "runs refused for a segment, with a train that is not allowed"),
+    (Event::CountNone, "runs of no segment: 16"),
+    (Event::CountFive, "runs of five: 16"),
+    (Event::CountLarge, "runs of more: 16"),
+    (Event::CountBroken, "runs of none or more than four, and the first is no segment: 16"),
+    (Event::UnknownRun, "runs of an unknown kind that its own would answer: 15"),
+    (Event::UnknownCount, "runs of an unknown kind, of none or more than four: 15"),
     (Event::PacketVoltages, "packets accepted with more than 23 voltage changes"),
     (Event::PacketCurrents, "packets accepted with more than 23 current changes"),
     (Event::SheetVoltages, "sheets accepted with more than 23 voltage changes"),

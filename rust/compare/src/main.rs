@@ -5,6 +5,7 @@ use compare::case::Case;
 use compare::check::{check, compare};
 use compare::desk;
 use compare::desk_intakes;
+use compare::desk_runs;
 use compare::random::Random;
 use compare::tally::Tally;
 use std::panic::{catch_unwind, AssertUnwindSafe};
@@ -38,6 +39,7 @@ impl Run {
     fn all(&mut self) {
         let began = Instant::now();
         self.desk();
+        self.desk_of_runs();
         self.desk_of_intakes();
         let (first, cases) = (setting("SEGLINK_SEED", FIRST_SEED), setting("SEGLINK_CASES", CASES));
         for seed in first..first + cases {
@@ -61,6 +63,15 @@ impl Run {
                 true => Ok(()),
                 false => Err(format!("both gave {answer:?}, the document {:?}", case.answer)),
             });
+            self.count(outcome.map_err(|why| format!("desk case, {}: {why}", case.name)));
+        }
+    }
+
+    fn desk_of_runs(&mut self) {
+        let cases = desk_runs::cases();
+        println!("{} desk cases of runs", cases.len());
+        for case in cases {
+            let outcome = case.check(&mut self.tally);
             self.count(outcome.map_err(|why| format!("desk case, {}: {why}", case.name)));
         }
     }

@@ -1,6 +1,6 @@
 //! The common interface of both programs: the operations, and a question that either answers.
 
-pub use second::{Intake, Train, KIND_PACKET, KIND_SHEET};
+pub use second::{Intake, Train, KIND_PACKET, KIND_SHEET, LENT};
 
 /// The packet number of a journey.
 pub const JOURNEY: u8 = 4;
@@ -23,8 +23,8 @@ impl Answer {
     }
 }
 
-/// The first number after the refusals, which are 1 to 15.
-pub const NO_REFUSAL: u32 = 16;
+/// The first number after the refusals, which are 1 to 16.
+pub const NO_REFUSAL: u32 = 17;
 
 /// The refusals that are given at a bit or a byte; the place of every other is 0.
 pub const PLACED: [u32; 6] = [4, 5, 6, 7, 9, 13];
@@ -33,7 +33,7 @@ pub const PLACED: [u32; 6] = [4, 5, 6, 7, 9, 13];
 pub enum Operation {
     PacketToSheet,
     SheetToPacket,
-    /// A speed question about a segment of this kind.
+    /// A speed question about one segment of this kind.
     PermittedSpeed(u32),
     AltitudeOfPacket,
     /// The verdict on a packet that an intake took.
@@ -86,6 +86,29 @@ impl Operation {
     }
 }
 
+/// Returns the refusals that a speed question about a run of segments of a kind can give, and 0.
+pub fn run_refusals(kind: u32) -> &'static [u32] {
+    match kind {
+        KIND_PACKET => &[0, 1, 2, 3, 4, 5, 6, 7, 10, 11, 13, 16],
+        KIND_SHEET => &[0, 2, 4, 5, 9, 10, 11, 16],
+        _ => &[15],
+    }
+}
+
+/// The segments that a speed question lends, and how many of them it counts.
+#[derive(Clone, Copy)]
+pub struct Run<'a> {
+    pub count: u32,
+    pub lent: [&'a [u8]; LENT],
+}
+
+impl<'a> Run<'a> {
+    /// Makes a run of one segment; the others are not lent.
+    pub fn one(segment: &'a [u8]) -> Run<'a> {
+        Run { count: 1, lent: [segment, &[], &[], &[]] }
+    }
+}
+
 /// Returns whether a completion can give this refusal, or 0, at this place.
 pub fn completion_gives(refusal: u32, place: u32) -> bool {
     Operation::Completion.refusals(false).contains(&refusal) && (place == 0 || PLACED.contains(&refusal))
@@ -115,7 +138,7 @@ impl<'a> Question<'a> {
 pub trait Program {
     fn packet_to_sheet(packet: &[u8], room: &mut [u8]) -> Answer;
     fn sheet_to_packet(sheet: &[u8], room: &mut [u8]) -> Answer;
-    fn permitted_speed(kind: u32, segment: &[u8], train: &Train, x: u32) -> Answer;
+    fn permitted_speed(kind: u32, run: Run, train: &Train, x: u32) -> Answer;
     fn altitude_of_packet(packet: &[u8]) -> Answer;
     fn fresh() -> Intake;
     fn deliver(intake: Intake, delivery: &[u8], room: &mut [u8]) -> Intake;
@@ -128,7 +151,7 @@ pub trait Program {
         match operation {
             Operation::PacketToSheet => Self::packet_to_sheet(input, room),
             Operation::SheetToPacket => Self::sheet_to_packet(input, room),
-            Operation::PermittedSpeed(kind) => Self::permitted_speed(*kind, input, train, *x),
+            Operation::PermittedSpeed(kind) => Self::permitted_speed(*kind, Run::one(input), train, *x),
             Operation::AltitudeOfPacket => Self::altitude_of_packet(input),
             Operation::Completion => verdict(Self::taken(input, &mut vec![0; input.len()])),
             Operation::TakenSheet => {

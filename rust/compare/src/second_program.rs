@@ -1,6 +1,6 @@
 //! The second program under the common interface.
 
-use crate::program::{Answer, Intake, Program, Train};
+use crate::program::{Answer, Intake, Program, Run, Train};
 use second::{Refused, Told};
 
 pub struct Second;
@@ -14,8 +14,8 @@ impl Program for Second {
         answer(second::sheet_to_packet(sheet, room).map(|length| length as i64))
     }
 
-    fn permitted_speed(kind: u32, segment: &[u8], train: &Train, x: u32) -> Answer {
-        answer(second::permitted_speed(kind, segment, train, x))
+    fn permitted_speed(kind: u32, Run { count, lent }: Run, train: &Train, x: u32) -> Answer {
+        answer(second::permitted_speed(kind, count, lent, train, x))
     }
 
     fn altitude_of_packet(packet: &[u8]) -> Answer {

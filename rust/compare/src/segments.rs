@@ -17,7 +17,7 @@ pub const SMALLEST: Sizes = Sizes { changes: 0, entries: (0, 0), voltages: 0, cu
 pub const LARGEST: Sizes = Sizes { changes: 31, entries: (31, 31), voltages: 31, currents: 31 };
 
 /// Largest length of a segment in centimetres.
-const LONGEST: u32 = 16_777_215;
+pub const LONGEST: u32 = 16_777_215;
 
 /// Draws sizes of every order, the smallest and the largest included.
 pub fn any_sizes(random: &mut Random) -> Sizes {
@@ -37,14 +37,24 @@ pub fn any_sizes(random: &mut Random) -> Sizes {
 
 /// Draws a segment. Counts past the limits are taken as they are; everything else keeps the rules.
 pub fn segment(random: &mut Random, sizes: Sizes) -> Draft {
-    let mut draft = Draft::default();
-    let least = 1 + sizes.changes.max(sizes.voltages).max(sizes.currents);
+    let least = shortest(sizes);
     let length = match random.between(0, 3) {
         0 => least,
         1 => random.with_ends(least, 2_000),
         2 => random.with_ends(least, 400_000),
         _ => random.with_ends(least, LONGEST),
     };
+    segment_of_length(random, sizes, length)
+}
+
+/// Returns the least length in cm of a segment with these sizes: there is a centimetre for each change.
+pub fn shortest(sizes: Sizes) -> u32 {
+    1 + sizes.changes.max(sizes.voltages).max(sizes.currents)
+}
+
+/// Draws a segment of a length in cm.
+pub fn segment_of_length(random: &mut Random, sizes: Sizes, length: u32) -> Draft {
+    let mut draft = Draft::default();
     header(random, &mut draft, 6);
     identity(random, &mut draft);
     measures(random, &mut draft, length);

@@ -1,16 +1,18 @@
-//! Counts how often each operation gave each refusal and each success, and at how many places, apart for journeys and for all else; how many
-//! speeds came from a lower cant deficiency than the train's; the answers of conversions of journeys with temporary constraints; and the
-//! events of intakes, of speed questions of an unknown kind and of counts of wire changes.
+//! Counts how often each operation gave each refusal and each success, and at how many places, apart for journeys, for runs of segments and for
+//! all else; how many speeds came from a lower cant deficiency than the train's; the answers of conversions of journeys with temporary
+//! constraints; and the events of intakes, of speed questions of an unknown kind, of runs and of counts of wire changes.
 
 use crate::event::{Event, EVENTS};
-use crate::program::{Answer, Operation, Question, KIND_PACKET, KIND_SHEET, NO_REFUSAL, OPERATIONS, PLACED, UNKNOWN_KIND};
+use crate::program::{
+    run_refusals, Answer, Operation, Question, KIND_PACKET, KIND_SHEET, NO_REFUSAL, OPERATIONS, PLACED, UNKNOWN_KIND,
+};
 use std::collections::BTreeSet;
 use std::fmt;
 
 /// How many answers are counted: 0, and the refusals.
 const ANSWERS: usize = NO_REFUSAL as usize;
 
-/// Counts of the answers of one operation, about journeys or about all else.
+/// Counts of the answers of one operation, about journeys, runs or all else.
 #[derive(Default)]
 struct Row {
     counts: [u64; ANSWERS],
@@ -25,28 +27,40 @@ struct Row {
     constrained_answers: [u64; 3],
 }
 
+impl Row {
+    fn count(&mut self, answer: &Answer) {
+        let refusal = answer.refusal as usize;
+        if refusal < ANSWERS {
+            self.counts[refusal] += 1;
+            self.places[refusal].extend(Some(answer.place).filter(|place| *place > 0));
+        }
+    }
+}
+
 /// The answers about a journey with constraints that are counted.
 const CONSTRAINED_ANSWERS: [u32; 3] = [0, 4, 5];
 
 pub struct Tally {
     rows: [[Row; OPERATIONS.len()]; 2],
+    /// Speed questions about runs, by kind; all unknown kinds count as one.
+    runs: [Row; KINDS.len()],
     events: [u64; EVENTS.len()],
 }
 
 impl Default for Tally {
     fn default() -> Tally {
-        Tally { rows: Default::default(), events: [0; EVENTS.len()] }
+        Tally { rows: Default::default(), runs: Default::default(), events: [0; EVENTS.len()] }
     }
 }
 
 impl Tally {
     pub fn count(&mut self, question: &Question, answer: &Answer) {
-        let row = &mut self.rows[usize::from(question.is_journey())][question.operation.row()];
-        let refusal = answer.refusal as usize;
-        if refusal < ANSWERS {
-            row.counts[refusal] += 1;
-            row.places[refusal].extend(Some(answer.place).filter(|place| *place > 0));
-        }
+        self.rows[usize::from(question.is_journey())][question.operation.row()].count(answer);
+    }
+
+    /// Counts an answer about a run of segments of a kind.
+    pub fn count_run(&mut self, kind: u32, answer: &Answer) {
+        self.runs[kind.min(UNKNOWN_KIND) as usize].count(answer);
     }
 
     /// Counts a speed of a random whole segment; `fallen` if it would be another without the entries of lower cant deficiencies than the train's.
@@ -72,12 +86,11 @@ impl Tally {
     }
 
     /// Returns what was never met: answers that an operation can give, or their places other than 0; speeds from a lower cant deficiency; answers
-    /// of conversions about a constraint; events of an intake, of a question of an unknown kind or of a count of wire changes.
+    /// of conversions about a constraint; events of an intake, of a question of an unknown kind, of a run or of a count of wire changes.
     pub fn missing(&self) -> Vec<String> {
         let mut missing = Vec::new();
-        for (operation, journey) in rows() {
-            let (row, title) = (self.row(operation, journey), title(operation, journey));
-            for refusal in operation.refusals(journey) {
+        for (title, row, refusals) in self.titled() {
+            for refusal in refusals {
                 if row.counts[*refusal as usize] == 0 {
                     missing.push(format!("{title}: never answered {refusal}"));
                 } else if PLACED.contains(refusal) && row.places[*refusal as usize].is_empty() {
@@ -102,8 +115,19 @@ impl Tally {
     fn row(&self, operation: Operation, journey: bool) -> &Row {
         &self.rows[usize::from(journey)][operation.row()]
     }
+
+    /// Yields each row with its title, and the answers that it must have.
+    fn titled(&self) -> impl Iterator<Item = (String, &Row, &'static [u32])> {
+        let of_operation = |(operation, journey): (Operation, bool)| {
+            (title(operation, journey), self.row(operation, journey), operation.refusals(journey))
+        };
+        let of_run = |kind: u32| (title_of_run(kind), &self.runs[kind as usize], run_refusals(kind));
+        rows().map(of_operation).chain(KINDS.map(of_run))
+    }
 }
 
+/// The kinds by which runs are counted.
+const KINDS: [u32; 3] = [KIND_PACKET, KIND_SHEET, UNKNOWN_KIND];
 const CONVERSIONS: [Operation; 2] = [Operation::PacketToSheet, Operation::SheetToPacket];
 const SPEED_OPERATIONS: [Operation; 2] = [Operation::PermittedSpeed(KIND_PACKET), Operation::PermittedSpeed(KIND_SHEET)];
 
@@ -120,21 +144,22 @@ fn title(operation: Operation, journey: bool) -> String {
     }
 }
 
+fn title_of_run(kind: u32) -> String {
+    format!("PermittedSpeed({kind}{}), runs", if kind == UNKNOWN_KIND { ".." } else { "" })
+}
+
 impl fmt::Display for Tally {
     fn fmt(&self, f: &mut fmt::Formatter) -> fmt::Result {
         write!(f, "{:29}{:>9}", "answers", "accepted")?;
         (1..ANSWERS).try_for_each(|refusal| write!(f, "{refusal:>8}"))?;
-        for (operation, journey) in rows() {
-            write!(f, "\n{:29}", title(operation, journey))?;
-            let counts = self.row(operation, journey).counts;
-            write!(f, "{:>9}", counts[0])?;
+        for (title, Row { counts, .. }, _) in self.titled() {
+            write!(f, "\n{title:29}{:>9}", counts[0])?;
             counts[1..].iter().try_for_each(|count| write!(f, "{count:>8}"))?;
         }
         write!(f, "\n{:38}", "places other than 0")?;
         PLACED.iter().try_for_each(|refusal| write!(f, "{refusal:>8}"))?;
-        for (operation, journey) in rows() {
-            write!(f, "\n{:38}", title(operation, journey))?;
-            let places = &self.row(operation, journey).places;
+        for (title, Row { places, .. }, _) in self.titled() {
+            write!(f, "\n{title:38}")?;
             PLACED.iter().try_for_each(|refusal| write!(f, "{:>8}", places[*refusal as usize].len()))?;
         }
         SPEED_OPERATIONS.into_iter().try_for_each(|operation| {

@@ -78,7 +78,7 @@ fn the_sample_goes_both_ways() {
     assert_eq!(sheet_of(&sample()), Ok(bytes.to_vec()));
     assert_eq!(packet_of(&bytes), Ok(sample()));
     assert_eq!(altitude_of_packet(&sample()), Ok(-100_000));
-    assert_eq!(permitted_speed(KIND_PACKET, &sample(), &TRAIN, 0), Ok(80));
+    assert_eq!(permitted_speed_one(KIND_PACKET, &sample(), &TRAIN, 0), Ok(80));
 }
 
 #[test]
@@ -89,7 +89,7 @@ fn speeds_are_lowered_to_the_whole_part() {
     assert!(packet_of(&sheet_with(SPEED, 85)).is_ok());
     assert_eq!(packet_of(&sheet_with(SPEED, 604)), packet_of(&sheet_with(SPEED, 600)));
     assert_eq!(packet_of(&sheet_with(SPEED, 605)), Err(Refusal::Field.at(16)));
-    assert_eq!(permitted_speed(KIND_SHEET, &sheet_with(SPEED, 84), &TRAIN, 0), Ok(84));
+    assert_eq!(permitted_speed_one(KIND_SHEET, &sheet_with(SPEED, 84), &TRAIN, 0), Ok(84));
 }
 
 #[test]
@@ -133,14 +133,14 @@ fn the_slower_element_holds_for_the_train_s_length() {
     numbers[SPEED] = 100;
     numbers.splice(SPEED_CHANGES..=SPEED_CHANGES, [1, 500, 140, 0, 0]);
     let delayed = sheet(&numbers);
-    assert_eq!(permitted_speed(KIND_SHEET, &delayed, &TRAIN, 699), Ok(100));
-    assert_eq!(permitted_speed(KIND_SHEET, &delayed, &TRAIN, 700), Ok(140));
+    assert_eq!(permitted_speed_one(KIND_SHEET, &delayed, &TRAIN, 699), Ok(100));
+    assert_eq!(permitted_speed_one(KIND_SHEET, &delayed, &TRAIN, 700), Ok(140));
     let packet = packet_of(&delayed).unwrap();
-    assert_eq!(permitted_speed(KIND_PACKET, &packet, &TRAIN, 699), Ok(100));
-    assert_eq!(permitted_speed(KIND_PACKET, &packet, &TRAIN, 700), Ok(140));
+    assert_eq!(permitted_speed_one(KIND_PACKET, &packet, &TRAIN, 699), Ok(100));
+    assert_eq!(permitted_speed_one(KIND_PACKET, &packet, &TRAIN, 700), Ok(140));
     numbers[FRONT] = 1;
-    assert_eq!(permitted_speed(KIND_SHEET, &sheet(&numbers), &TRAIN, 500), Ok(140));
-    assert_eq!(permitted_speed(KIND_SHEET, &sheet(&numbers), &TRAIN, 499), Ok(100));
+    assert_eq!(permitted_speed_one(KIND_SHEET, &sheet(&numbers), &TRAIN, 500), Ok(140));
+    assert_eq!(permitted_speed_one(KIND_SHEET, &sheet(&numbers), &TRAIN, 499), Ok(100));
 }
 
 #[test]
@@ -151,7 +151,7 @@ fn entries_replace_and_then_lower() {
     numbers.splice(SPEED_CHANGES - 1..SPEED_CHANGES, entries);
     let sheet = sheet(&numbers);
     let speed = |cant, freight_p, freight_g, passenger| {
-        permitted_speed(KIND_SHEET, &sheet, &Train { length: 1, cant, freight_p, freight_g, passenger }, 0)
+        permitted_speed_one(KIND_SHEET, &sheet, &Train { length: 1, cant, freight_p, freight_g, passenger }, 0)
     };
     assert_eq!(speed(80, false, false, false), Ok(80));
     assert_eq!(speed(100, false, false, false), Ok(120));
@@ -165,11 +165,11 @@ fn trains_and_locations_are_judged_last() {
     let sheet = sheet(&SHEET);
     for (length, cant) in [(0, 80), (150_001, 80), (200, 81)] {
         let train = Train { length, cant, ..TRAIN };
-        assert_eq!(permitted_speed(KIND_SHEET, &sheet, &train, 9), Err(Refusal::Train.nowhere()));
-        assert_eq!(permitted_speed(KIND_PACKET, &[], &train, 9), Err(Refusal::Short.nowhere()));
+        assert_eq!(permitted_speed_one(KIND_SHEET, &sheet, &train, 9), Err(Refusal::Train.nowhere()));
+        assert_eq!(permitted_speed_one(KIND_PACKET, &[], &train, 9), Err(Refusal::Short.nowhere()));
     }
-    assert_eq!(permitted_speed(KIND_SHEET, &sheet, &TRAIN, 1), Err(Refusal::PastEnd.nowhere()));
-    assert_eq!(permitted_speed(KIND_PACKET, &sample(), &TRAIN, u32::MAX), Err(Refusal::PastEnd.nowhere()));
+    assert_eq!(permitted_speed_one(KIND_SHEET, &sheet, &TRAIN, 1), Err(Refusal::PastEnd.nowhere()));
+    assert_eq!(permitted_speed_one(KIND_PACKET, &sample(), &TRAIN, u32::MAX), Err(Refusal::PastEnd.nowhere()));
 }
 
 #[test]

@@ -29,8 +29,8 @@ fn sheet_of_entries(entries: &[Entry]) -> Vec<u8> {
 fn gives(entries: &[Entry], train: &Train, speed: u32) {
     let sheet = sheet_of_entries(entries);
     let packet = packet_of(&sheet).unwrap();
-    assert_eq!(permitted_speed(KIND_SHEET, &sheet, train, 0), Ok(speed), "{entries:?}, {train:?}");
-    assert_eq!(permitted_speed(KIND_PACKET, &packet, train, 0), Ok(speed - speed % 5), "{entries:?}, {train:?}");
+    assert_eq!(permitted_speed_one(KIND_SHEET, &sheet, train, 0), Ok(speed), "{entries:?}, {train:?}");
+    assert_eq!(permitted_speed_one(KIND_PACKET, &packet, train, 0), Ok(speed - speed % 5), "{entries:?}, {train:?}");
 }
 
 /// Checks that trains of no category get these speeds, by cant deficiency, whatever the order of the entries.
@@ -128,7 +128,11 @@ fn the_packet_has_the_figure_s_place() {
     assert_eq!(bits, "00_0001_0010110_00_0100_0011010".replace('_', ""));
     for (place, speed) in [(0, 110), (2, 110), (3, 110), (4, 90), (10, 90)] {
         let train = Train { cant: 150, ..TRAIN };
-        assert_eq!(permitted_speed(KIND_PACKET, &packet_with(&packet, (268, 4), place), &train, 0), Ok(speed), "place {place}");
+        assert_eq!(
+            permitted_speed_one(KIND_PACKET, &packet_with(&packet, (268, 4), place), &train, 0),
+            Ok(speed),
+            "place {place}"
+        );
     }
 }
 
@@ -156,7 +160,7 @@ fn each_element_falls_for_itself() {
         let train = Train { length, cant: 150, ..TRAIN };
         let sheet = sheet(&numbers);
         let packet = packet_of(&sheet).unwrap();
-        assert_eq!(permitted_speed(KIND_SHEET, &sheet, &train, x), Ok(speed), "{x}");
-        assert_eq!(permitted_speed(KIND_PACKET, &packet, &train, x), Ok(speed - speed % 5), "{x}");
+        assert_eq!(permitted_speed_one(KIND_SHEET, &sheet, &train, x), Ok(speed), "{x}");
+        assert_eq!(permitted_speed_one(KIND_PACKET, &packet, &train, x), Ok(speed - speed % 5), "{x}");
     }
 }

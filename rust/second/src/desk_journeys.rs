@@ -119,12 +119,12 @@ fn the_packet_number_says_what_follows() {
 fn a_segment_is_needed_for_a_question() {
     let sheet = sheet(&JOURNEY);
     let train = Train { length: 0, ..TRAIN };
-    assert_eq!(permitted_speed(KIND_SHEET, &sheet, &train, 0), Err(Refusal::Number.nowhere()));
-    assert_eq!(permitted_speed(KIND_PACKET, &PACKET, &train, 0), Err(Refusal::Number.nowhere()));
+    assert_eq!(permitted_speed_one(KIND_SHEET, &sheet, &train, 0), Err(Refusal::Number.nowhere()));
+    assert_eq!(permitted_speed_one(KIND_PACKET, &PACKET, &train, 0), Err(Refusal::Number.nowhere()));
     assert_eq!(altitude_of_packet(&PACKET), Err(Refusal::Number.nowhere()));
     assert_eq!(altitude_of_packet(&PACKET[..41]), Err(Refusal::Number.nowhere()));
     assert_eq!(altitude_of_packet(&PACKET[..14]), Err(Refusal::Short.nowhere()));
-    assert_eq!(permitted_speed(KIND_SHEET, &[4], &train, 0), Err(Refusal::Number.nowhere()));
+    assert_eq!(permitted_speed_one(KIND_SHEET, &[4], &train, 0), Err(Refusal::Number.nowhere()));
 }
 
 #[test]

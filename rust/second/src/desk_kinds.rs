@@ -16,11 +16,11 @@ const BOTH: [u8; 39] = [
 fn the_kind_says_how_the_bytes_are_read() {
     for (x, of_packet, of_sheet) in [(0, Ok(105), Ok(84)), (99, Ok(105), Ok(84)), (100, Ok(105), Err(Refusal::PastEnd.nowhere()))]
     {
-        assert_eq!(permitted_speed(0, &BOTH, &TRAIN, x), of_packet, "{x}");
-        assert_eq!(permitted_speed(1, &BOTH, &TRAIN, x), of_sheet, "{x}");
+        assert_eq!(permitted_speed_one(0, &BOTH, &TRAIN, x), of_packet, "{x}");
+        assert_eq!(permitted_speed_one(1, &BOTH, &TRAIN, x), of_sheet, "{x}");
     }
-    assert_eq!(permitted_speed(0, &sheet(&SHEET), &TRAIN, 0), Err(Refusal::Size.nowhere()));
-    assert_eq!(permitted_speed(1, &sample(), &TRAIN, 0), Err(Refusal::Sheet.at(2)));
+    assert_eq!(permitted_speed_one(0, &sheet(&SHEET), &TRAIN, 0), Err(Refusal::Size.nowhere()));
+    assert_eq!(permitted_speed_one(1, &sample(), &TRAIN, 0), Err(Refusal::Sheet.at(2)));
 }
 
 #[test]
@@ -32,7 +32,7 @@ fn another_kind_is_refused_before_segment_train_and_location() {
         for segment in segments {
             for (train, x) in [(&TRAIN, 0), (&TRAIN, u32::MAX), (&none, 0), (&none, u32::MAX)] {
                 assert_eq!(
-                    permitted_speed(kind, segment, train, x),
+                    permitted_speed_one(kind, segment, train, x),
                     Err(Refusal::Kind.at(0)),
                     "{kind}, {segment:02X?}, {train:?}"
                 );

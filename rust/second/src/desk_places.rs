@@ -13,7 +13,7 @@ fn packet_refused(packet: &[u8], refused: Refused) {
     let train = Train { length: 0, ..TRAIN };
     assert_eq!(sheet_of(packet), Err(refused), "{packet:02X?}");
     if packet.first() != Some(&4) {
-        assert_eq!(permitted_speed(KIND_PACKET, packet, &train, 9), Err(refused));
+        assert_eq!(permitted_speed_one(KIND_PACKET, packet, &train, 9), Err(refused));
         assert_eq!(altitude_of_packet(packet), Err(refused));
     }
 }
@@ -23,7 +23,7 @@ fn sheet_refused(sheet: &[u8], refused: Refused) {
     let train = Train { length: 0, ..TRAIN };
     assert_eq!(packet_of(sheet), Err(refused), "{sheet:02X?}");
     if sheet.first() != Some(&4) {
-        assert_eq!(permitted_speed(KIND_SHEET, sheet, &train, 9), Err(refused));
+        assert_eq!(permitted_speed_one(KIND_SHEET, sheet, &train, 9), Err(refused));
     }
 }
 

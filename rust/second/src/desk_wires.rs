@@ -23,7 +23,7 @@ fn a_segment_has_up_to_31_changes_of_voltage_and_31_of_current() {
         let packet = packet_of(&whole).unwrap();
         assert_eq!(packet.len() as u32, 15 + (185 + voltages * 38 + currents * 34 + 7) / 8);
         assert_eq!(sheet_of(&packet), Ok(whole));
-        assert_eq!(permitted_speed(KIND_PACKET, &packet, &TRAIN, 999), Ok(80));
+        assert_eq!(permitted_speed_one(KIND_PACKET, &packet, &TRAIN, 999), Ok(80));
     }
 }
 

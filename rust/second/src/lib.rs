@@ -20,6 +20,8 @@ mod desk_kinds;
 #[cfg(test)]
 mod desk_places;
 #[cfg(test)]
+mod desk_runs;
+#[cfg(test)]
 mod desk_wires;
 mod intake;
 mod journey;
@@ -36,6 +38,8 @@ pub use intake::{Intake, Told};
 pub use refusal::{Refusal, Refused};
 pub use speed::Train;
 
+use segment::Segment;
+
 /// Writes the sheet of a packet at the start of the room and returns its length.
 pub fn packet_to_sheet(packet: &[u8], room: &mut [u8]) -> Result<usize, Refused> {
     let carried = packet_reading::carried_in(packet)?;
@@ -48,18 +52,31 @@ pub fn sheet_to_packet(sheet: &[u8], room: &mut [u8]) -> Result<usize, Refused> 
     lay(&packet_writing::packet_of(&carried)?, room)
 }
 
-/// Kinds of a segment that the speed question takes.
+/// Kinds of the segments that the speed question takes.
 pub const KIND_PACKET: u32 = 0;
 pub const KIND_SHEET: u32 = 1;
 
-/// Returns the permitted speed in km/h at location `x`, in cm, of a segment of a kind: a packet's speeds count 5 km/h, a sheet's 1 km/h.
-pub fn permitted_speed(kind: u32, segment: &[u8], train: &Train, x: u32) -> Result<u32, Refused> {
-    let segment = match kind {
-        KIND_PACKET => packet_reading::segment_of(segment)?,
-        KIND_SHEET => sheet_reading::segment_of(segment)?,
+/// How many segments a question lends; a run has one of them, or up to all.
+pub const LENT: usize = 4;
+
+/// Returns the permitted speed in km/h at location `x`, in cm, of the last segment of a run: the first `count` of the segments lent, in order of
+/// travel, all of one kind. A packet's speeds count 5 km/h, a sheet's 1 km/h.
+pub fn permitted_speed(kind: u32, count: u32, lent: [&[u8]; LENT], train: &Train, x: u32) -> Result<u32, Refused> {
+    let read: fn(&[u8]) -> Result<Segment, Refused> = match kind {
+        KIND_PACKET => packet_reading::segment_of,
+        KIND_SHEET => sheet_reading::segment_of,
         _ => return Err(Refusal::Kind.nowhere()),
     };
-    speed::permitted(&segment, train, x)
+    if count == 0 || count as usize > LENT {
+        return Err(Refusal::Run.nowhere());
+    }
+    let run = lent[..count as usize].iter().map(|segment| read(segment)).collect::<Result<Vec<_>, _>>()?;
+    speed::permitted(&run, train, x)
+}
+
+/// Returns the permitted speed on a run of one segment.
+pub fn permitted_speed_one(kind: u32, segment: &[u8], train: &Train, x: u32) -> Result<u32, Refused> {
+    permitted_speed(kind, 1, [segment, &[], &[], &[]], train, x)
 }
 
 /// Returns the altitude of a packet in signed centimetres.

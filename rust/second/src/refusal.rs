@@ -23,7 +23,7 @@ pub enum Refusal {
     Sheet = 9,
     /// The train's length or cant deficiency is not allowed.
     Train = 10,
-    /// x is at or past L_SP.
+    /// x is at or past L_SP of the run's last segment.
     PastEnd = 11,
     /// A sheet's body would exceed 65,535 bits.
     Body = 12,
@@ -32,8 +32,10 @@ pub enum Refusal {
     /// An intake's sheet is asked for before a completion or after the next delivery, in phase 2 with a refusal or a place that no
     /// completion gives, or with the packet's room cut short.
     Early = 14,
-    /// The kind of a segment is neither 0, a packet, nor 1, a sheet.
+    /// The kind of the segments is neither 0, packets, nor 1, sheets.
     Kind = 15,
+    /// A run has no segment, or more than 4.
+    Run = 16,
 }
 
 /// A refusal, and the bit of the packet or the byte of the sheet at which it is given, both counted from 0.

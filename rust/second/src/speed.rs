@@ -1,4 +1,4 @@
-//! The permitted speed: the lowest speed of the elements that hold at a location.
+//! The permitted speed on a run of segments: the lowest speed of the elements that hold at a location.
 
 use crate::refusal::{Refusal, Refused};
 use crate::segment::{Class, Element, Segment, CANTS};
@@ -23,25 +23,45 @@ impl Train {
     }
 }
 
-/// Returns the permitted speed in km/h of a train at location `x`, in cm, of a segment.
-pub fn permitted(segment: &Segment, train: &Train, x: u32) -> Result<u32, Refused> {
+/// Returns the permitted speed in km/h of a train at location `x`, in cm, of the last segment of a run.
+pub fn permitted(run: &[Segment], train: &Train, x: u32) -> Result<u32, Refused> {
+    let (last, before) = run.split_last().expect("a run has a segment");
     if !train.is_allowed() {
         return Err(Refusal::Train.nowhere());
     }
-    if x >= segment.length {
+    if x >= last.length {
         return Err(Refusal::PastEnd.nowhere());
     }
-    let starts = segment.elements.iter().map(|element| element.start);
-    let ends = starts.skip(1).chain([segment.length]);
-    let holding = segment.elements.iter().zip(ends).filter(|(element, end)| holds(element, *end, train, x));
-    let speed = holding.map(|(element, _)| speed_of(element, train)).min();
-    Ok(speed.expect("the elements together cover the segment"))
+    let location = before.iter().map(|segment| segment.length).sum::<u32>() + x;
+    let holding = laid(run).into_iter().filter(|stretch| holds(stretch, train, location));
+    let speed = holding.map(|stretch| speed_of(stretch.element, train)).min();
+    Ok(speed.expect("the elements together cover the run"))
 }
 
-/// Returns whether an element holds at `x`: from its start to its end, with Q_FRONT 0 to its end plus the train's length.
-fn holds(element: &Element, end: u32, train: &Train, x: u32) -> bool {
-    let delay = if element.front { 0 } else { train.length };
-    element.start <= x && x < end + delay
+/// An element, with its start and its end in cm from the run's start.
+struct Stretch<'a> {
+    element: &'a Element,
+    start: u32,
+    end: u32,
+}
+
+/// Lays the elements of a run end to end: each ends where the next starts, the last with its segment.
+fn laid(run: &[Segment]) -> Vec<Stretch<'_>> {
+    let mut elements = Vec::new();
+    let mut end = 0;
+    for segment in run {
+        elements.extend(segment.elements.iter().map(|element| (element, end + element.start)));
+        end += segment.length;
+    }
+    let starts = elements.iter().map(|(_, start)| *start);
+    let ends: Vec<u32> = starts.skip(1).chain([end]).collect();
+    elements.into_iter().zip(ends).map(|((element, start), end)| Stretch { element, start, end }).collect()
+}
+
+/// Returns whether an element holds at a location: from its start to its end, with Q_FRONT 0 to its end plus the train's length.
+fn holds(stretch: &Stretch, train: &Train, location: u32) -> bool {
+    let delay = if stretch.element.front { 0 } else { train.length };
+    stretch.start <= location && location < stretch.end + delay
 }
 
 /// Returns an element's speed in km/h for a train.

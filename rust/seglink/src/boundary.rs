@@ -35,14 +35,27 @@ pub(crate) struct State {
     pub(crate) place: u32,
 }
 
-// Declarations as in include/seglink.h.
-pub(crate) const KIND_PACKET: u32 = 0;
-pub(crate) const KIND_SHEET: u32 = 1;
+/// How many segments a speed question lends.
+const LENT: usize = 4;
 
+// Declarations as in include/seglink.h.
 extern "C" {
     fn seglink_packet_to_sheet(packet: *const u8, packet_len: usize, room: *mut u8, room_len: usize) -> Converted;
     fn seglink_sheet_to_packet(sheet: *const u8, sheet_len: usize, room: *mut u8, room_len: usize) -> Converted;
-    fn seglink_permitted_speed(kind: u32, segment: *const u8, segment_len: usize, train: Train, x: u32) -> Speed;
+    fn seglink_permitted_speed(
+        kind: u32,
+        count: u32,
+        first: *const u8,
+        first_len: usize,
+        second: *const u8,
+        second_len: usize,
+        third: *const u8,
+        third_len: usize,
+        fourth: *const u8,
+        fourth_len: usize,
+        train: Train,
+        x: u32,
+    ) -> Speed;
     fn seglink_altitude_of_packet(packet: *const u8, packet_len: usize) -> Altitude;
     fn seglink_intake_fresh() -> State;
     fn seglink_intake_deliver(intake: State, delivery: *const u8, delivery_len: usize, room: *mut u8, room_len: usize) -> State;
@@ -60,9 +73,17 @@ pub(crate) fn sheet_to_packet(sheet: &[u8], room: &mut [u8]) -> Converted {
     unsafe { seglink_sheet_to_packet(sheet.as_ptr(), sheet.len(), room.as_mut_ptr(), room.len()) }
 }
 
-pub(crate) fn permitted_speed(kind: u32, segment: &[u8], train: Train, x: u32) -> Speed {
-    // SAFETY: the pointer comes with its slice's length, is not null and is only read; Train has the C layout.
-    unsafe { seglink_permitted_speed(kind, segment.as_ptr(), segment.len(), train, x) }
+/// Lends the first four of the segments, and empty ones where there are fewer; the library counts all of them.
+pub(crate) fn permitted_speed(kind: u32, segments: &[&[u8]], train: Train, x: u32) -> Speed {
+    let count = u32::try_from(segments.len()).unwrap_or(u32::MAX);
+    let mut lent: [&[u8]; LENT] = [&[]; LENT];
+    lent.iter_mut().zip(segments).for_each(|(lent, segment)| *lent = segment);
+    let [(first, first_len), (second, second_len), (third, third_len), (fourth, fourth_len)] =
+        lent.map(|segment| (segment.as_ptr(), segment.len()));
+    // SAFETY: each pointer comes with its own slice's length, is not null and is only read; Train has the C layout.
+    unsafe {
+        seglink_permitted_speed(kind, count, first, first_len, second, second_len, third, third_len, fourth, fourth_len, train, x)
+    }
 }
 
 pub(crate) fn altitude_of_packet(packet: &[u8]) -> Altitude {

@@ -10,12 +10,14 @@
 //! An element of the speed profile gives a train the lowest speed of its entries by cant deficiency (Q_DIFF 0) that name the train's own
 //! figure or, if there are none, the greatest figure below it; V_STATIC if there are none either. The lowest entry with Q_DIFF 1 for a category
 //! of the train replaces that speed, entries with Q_DIFF 2 can only lower it. The permitted speed is the lowest of the elements that hold.
+//! An element with Q_FRONT 0 holds for the train's length past its end. So a question takes a run of up to four segments, in order of travel, the
+//! last of them with the train's front: their elements are laid end to end, and those on which the tail still stands count.
 //!
 //! Any bytes may be handed over. An operation answers, or gives the one [`Refusal`] that the build definition names, with its place,
 //! and then a lent room keeps every byte it had.
 //!
 //! ```
-//! use seglink::{Refusal, Refused, Segment, Train};
+//! use seglink::{Kind, Refusal, Refused, Train};
 //!
 //! // The build definition's sample sheet: a segment of 1 cm, 80 km/h.
 //! let sheet = [6, 0xC5, 0xC6, 4, 1, 0, 0, 7, 0, 0, 0, 0, 1, 0, 0, 0, 80, 0, 0, 0, 0, 0, 0, 0, 0];
@@ -25,9 +27,15 @@
 //! assert_eq!(seglink::altitude_of_packet(&packet)?, -100_000);
 //!
 //! let train = Train { length: 200, cant: 150, freight_p: false, freight_g: false, passenger: true };
-//! assert_eq!(seglink::permitted_speed(Segment::Packet(&packet), train, 0)?, 80);
-//! assert_eq!(seglink::permitted_speed(Segment::Sheet(&sheet), train, 0)?, 80);
-//! assert_eq!(seglink::permitted_speed(Segment::Packet(&packet), train, 1).unwrap_err().refusal, Refusal::PastEnd);
+//! assert_eq!(seglink::permitted_speed(Kind::Packet, &[&packet], train, 0)?, 80);
+//! assert_eq!(seglink::permitted_speed(Kind::Sheet, &[&sheet], train, 0)?, 80);
+//! assert_eq!(seglink::permitted_speed(Kind::Packet, &[&packet], train, 1).unwrap_err().refusal, Refusal::PastEnd);
+//!
+//! // The next segment allows 120 km/h, and the train's tail is still on the first.
+//! let mut next = sheet;
+//! next[16] = 120;
+//! assert_eq!(seglink::permitted_speed(Kind::Sheet, &[&next], train, 0)?, 120);
+//! assert_eq!(seglink::permitted_speed(Kind::Sheet, &[&sheet, &next], train, 0)?, 80);
 //!
 //! packet[38] = 0x24; // two padding bits
 //! let refused = seglink::sheet_of(&packet).unwrap_err();
@@ -39,17 +47,17 @@
 
 mod boundary;
 mod intake;
-#[cfg(test)]
-mod kinds;
+mod kind;
 mod refusal;
 mod refused;
-mod segment;
+#[cfg(test)]
+mod refused_first;
 mod train;
 
 pub use intake::Intake;
+pub use kind::Kind;
 pub use refusal::Refusal;
 pub use refused::{Refused, Unit};
-pub use segment::Segment;
 pub use train::Train;
 
 /// Bytes of a segment's smallest packet.
@@ -85,14 +93,14 @@ pub fn packet_of(sheet: &[u8]) -> Result<Vec<u8>, Refused> {
     filled(LARGEST_JOURNEY_PACKET, |room| sheet_to_packet(sheet, room))
 }
 
-/// Returns the permitted speed in km/h of a train at `x` cm from the segment's start. A packet's speeds are multiples of 5 km/h.
-pub fn permitted_speed(segment: Segment<'_>, train: Train, x: u32) -> Result<u32, Refused> {
-    let (kind, bytes, unit) = match segment {
-        Segment::Packet(packet) => (boundary::KIND_PACKET, packet, Unit::Bit),
-        Segment::Sheet(sheet) => (boundary::KIND_SHEET, sheet, Unit::Byte),
-    };
-    let asked = boundary::permitted_speed(kind, bytes, train, x);
-    answer(asked.refusal, asked.place, unit, asked.speed)
+/// Returns the permitted speed in km/h of a train at `x` cm from the start of the last segment of a run. The segments, one to four of them, are
+/// in order of travel and all of one kind; the same may stand twice. Packets' speeds are multiples of 5 km/h.
+///
+/// Refused, in this order: a run of none or more than four, of which none is read; the segments, one after the other, each with its own refusal
+/// at a place within it; the train; x at or past the end of the last segment.
+pub fn permitted_speed(kind: Kind, segments: &[&[u8]], train: Train, x: u32) -> Result<u32, Refused> {
+    let asked = boundary::permitted_speed(kind.number(), segments, train, x);
+    answer(asked.refusal, asked.place, kind.unit(), asked.speed)
 }
 
 /// Returns the altitude of a packet's segment in signed centimetres.

@@ -25,7 +25,7 @@ pub enum Refusal {
     SheetForm = 9,
     /// 10: the train's length or cant deficiency is not allowed.
     TrainValue = 10,
-    /// 11: x is at or past L_SP.
+    /// 11: x is at or past L_SP of the run's last segment.
     PastEnd = 11,
     /// 12: a sheet's body would exceed 65,535 bits.
     LongBody = 12,
@@ -35,12 +35,14 @@ pub enum Refusal {
     /// completion gives; or with the packet's room cut short. An [`Intake`](crate::Intake) has only states that the library returned, and
     /// never cuts its room short.
     TooEarly = 14,
-    /// 15: the kind is neither 0 nor 1. A [`Segment`](crate::Segment) never has another.
+    /// 15: the kind is neither 0 nor 1. A [`Kind`](crate::Kind) is never another.
     UnknownKind = 15,
+    /// 16: the run has no segment or more than 4.
+    RunCount = 16,
 }
 
 /// Each refusal with its ground, in the words of the C header.
-const GROUNDS: [(Refusal, &str); 15] = [
+const GROUNDS: [(Refusal, &str); 16] = [
     (Refusal::ShortPacket, "a packet has fewer than 15 bytes"),
     (Refusal::PacketNumber, "the packet number is neither 4 nor 6, or is 4 where a segment is needed"),
     (Refusal::PacketLength, "the packet's bytes are not 15 + L_PACKET_ATO / 8, rounded up"),
@@ -61,7 +63,7 @@ const GROUNDS: [(Refusal, &str); 15] = [
         "a sheet ends too soon, has bytes left, or a number is not in its shortest form or not below 4,294,967,296",
     ),
     (Refusal::TrainValue, "the train's length or cant deficiency is not allowed"),
-    (Refusal::PastEnd, "x is at or past L_SP"),
+    (Refusal::PastEnd, "x is at or past L_SP of the run's last segment"),
     (Refusal::LongBody, "a sheet's body would exceed 65,535 bits"),
     (Refusal::BitsLeft, "bits of the body are left after the last field"),
     (
@@ -70,10 +72,11 @@ const GROUNDS: [(Refusal, &str); 15] = [
          completion gives; or with the packet's room cut short",
     ),
     (Refusal::UnknownKind, "the kind is neither 0 nor 1"),
+    (Refusal::RunCount, "the run has no segment or more than 4"),
 ];
 
 impl Refusal {
-    /// Returns the number of the build definition, 1 to 15.
+    /// Returns the number of the build definition, 1 to 16.
     pub fn number(self) -> u32 {
         self as u32
     }

@@ -1,5 +1,5 @@
 //! Tests that the C header and this crate name the same refusals, grounds, kinds and sizes.
-use seglink::{Refusal, LARGEST_JOURNEY_PACKET, LARGEST_JOURNEY_SHEET, LARGEST_PACKET, LARGEST_SHEET, SMALLEST_PACKET};
+use seglink::{Kind, Refusal, LARGEST_JOURNEY_PACKET, LARGEST_JOURNEY_SHEET, LARGEST_PACKET, LARGEST_SHEET, SMALLEST_PACKET};
 
 const HEADER: &str = include_str!("../../../../include/seglink.h");
 
@@ -23,7 +23,7 @@ fn in_rust(name: &str) -> String {
 #[test]
 fn every_refusal_has_its_name_number_and_ground_in_both() {
     let named: Vec<_> = constants().into_iter().filter(|(_, _, comment)| !comment.is_empty()).collect();
-    assert_eq!(named.iter().map(|&(_, number, _)| number).collect::<Vec<_>>(), (1..=15).collect::<Vec<_>>());
+    assert_eq!(named.iter().map(|&(_, number, _)| number).collect::<Vec<_>>(), (1..=16).collect::<Vec<_>>());
     for (name, number, ground) in named {
         let refusal = Refusal::from_number(number).unwrap();
         assert_eq!(refusal.number(), number);
@@ -35,7 +35,7 @@ fn every_refusal_has_its_name_number_and_ground_in_both() {
 
 #[test]
 fn no_other_number_is_a_refusal() {
-    for number in [0, 16, u32::MAX] {
+    for number in [0, 17, u32::MAX] {
         assert_eq!(Refusal::from_number(number), None);
     }
 }
@@ -47,6 +47,7 @@ fn value(name: &str) -> u32 {
 #[test]
 fn a_packet_s_kind_is_0_and_a_sheet_s_1() {
     assert_eq!((value("KIND_PACKET"), value("KIND_SHEET")), (0, 1));
+    assert_eq!((Kind::Packet as u32, Kind::Sheet as u32), (0, 1));
 }
 
 #[test]

@@ -3,7 +3,7 @@ use crate::constraints::constraint;
 use crate::segments::{bit_of, byte_of, packet, same, sheet, Field};
 use crate::told;
 use seglink::{
-    altitude_of_packet, packet_of, packet_to_sheet, permitted_speed, sheet_of, sheet_to_packet, Refusal, Segment, Train,
+    altitude_of_packet, packet_of, packet_to_sheet, permitted_speed, sheet_of, sheet_to_packet, Kind, Refusal, Train,
     LARGEST_JOURNEY_PACKET, LARGEST_JOURNEY_SHEET,
 };
 
@@ -178,8 +178,8 @@ fn a_damaged_journey_is_refused_at_its_place() {
 fn a_question_needs_a_segment() {
     let train = Train { length: 0, cant: 0, freight_p: false, freight_g: false, passenger: false };
     for fields in [journey(0, 0, 0), journey(1, 1, 0), journey(1, 1, 1)] {
-        assert_eq!(told(permitted_speed(Segment::Packet(&packet(&fields)), train, 0)), Err((Refusal::PacketNumber, 0)));
-        assert_eq!(told(permitted_speed(Segment::Sheet(&sheet(&fields)), train, 0)), Err((Refusal::PacketNumber, 0)));
+        assert_eq!(told(permitted_speed(Kind::Packet, &[&packet(&fields)], train, 0)), Err((Refusal::PacketNumber, 0)));
+        assert_eq!(told(permitted_speed(Kind::Sheet, &[&sheet(&fields)], train, 0)), Err((Refusal::PacketNumber, 0)));
         assert_eq!(told(altitude_of_packet(&packet(&fields))), Err((Refusal::PacketNumber, 0)));
     }
 }

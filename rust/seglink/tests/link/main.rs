@@ -5,6 +5,7 @@ mod header;
 mod intakes;
 mod journeys;
 mod refusals;
+mod runs;
 mod segments;
 mod speeds;
 mod wires;

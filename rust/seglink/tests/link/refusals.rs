@@ -1,7 +1,7 @@
 //! Tests of every refusal with its place, from every operation that can give it. The places are counted by hand.
 use crate::segments::{element, packet, segment, sheet, DESK_PACKET, DESK_SHEET};
 use crate::told;
-use seglink::{altitude_of_packet, packet_to_sheet, permitted_speed, sheet_to_packet, Refusal, Segment, Train};
+use seglink::{altitude_of_packet, packet_to_sheet, permitted_speed, sheet_to_packet, Kind, Refusal, Train};
 use std::error::Error;
 
 const TRAIN: Train = Train { length: 200, cant: 150, freight_p: false, freight_g: false, passenger: true };
@@ -11,7 +11,7 @@ pub fn refuses_packet(given: &[u8], refusal: Refusal, place: u32) {
     let mut room = [0xA5; 64];
     assert_eq!(told(packet_to_sheet(given, &mut room)), Err((refusal, place)));
     assert_eq!(room, [0xA5; 64]);
-    assert_eq!(told(permitted_speed(Segment::Packet(given), TRAIN, 0)), Err((refusal, place)));
+    assert_eq!(told(permitted_speed(Kind::Packet, &[given], TRAIN, 0)), Err((refusal, place)));
     assert_eq!(told(altitude_of_packet(given)), Err((refusal, place)));
 }
 
@@ -20,7 +20,7 @@ pub fn refuses_sheet(given: &[u8], refusal: Refusal, place: u32) {
     let mut room = [0xA5; 64];
     assert_eq!(told(sheet_to_packet(given, &mut room)), Err((refusal, place)));
     assert_eq!(room, [0xA5; 64]);
-    assert_eq!(told(permitted_speed(Segment::Sheet(given), TRAIN, 0)), Err((refusal, place)));
+    assert_eq!(told(permitted_speed(Kind::Sheet, &[given], TRAIN, 0)), Err((refusal, place)));
 }
 
 /// Returns the desk packet with one byte changed.
@@ -112,16 +112,16 @@ fn train_value() {
         Train { cant: 151, ..TRAIN },
     ];
     for train in refused {
-        assert_eq!(told(permitted_speed(Segment::Packet(&DESK_PACKET), train, 1)), Err((Refusal::TrainValue, 0)));
-        assert_eq!(told(permitted_speed(Segment::Sheet(&DESK_SHEET), train, 1)), Err((Refusal::TrainValue, 0)));
+        assert_eq!(told(permitted_speed(Kind::Packet, &[&DESK_PACKET], train, 1)), Err((Refusal::TrainValue, 0)));
+        assert_eq!(told(permitted_speed(Kind::Sheet, &[&DESK_SHEET], train, 1)), Err((Refusal::TrainValue, 0)));
     }
 }
 
 #[test]
 fn past_end() {
     for x in [1, u32::MAX] {
-        assert_eq!(told(permitted_speed(Segment::Packet(&DESK_PACKET), TRAIN, x)), Err((Refusal::PastEnd, 0)));
-        assert_eq!(told(permitted_speed(Segment::Sheet(&DESK_SHEET), TRAIN, x)), Err((Refusal::PastEnd, 0)));
+        assert_eq!(told(permitted_speed(Kind::Packet, &[&DESK_PACKET], TRAIN, x)), Err((Refusal::PastEnd, 0)));
+        assert_eq!(told(permitted_speed(Kind::Sheet, &[&DESK_SHEET], TRAIN, x)), Err((Refusal::PastEnd, 0)));
     }
 }
 
@@ -131,10 +131,10 @@ fn a_refusal_is_an_error_that_says_its_number_its_place_and_its_ground() {
     assert_eq!(error.to_string(), "3 at 0: the packet's bytes are not 15 + L_PACKET_ATO / 8, rounded up");
     let error = altitude_of_packet(&desk_packet_with(2, 0xB8)[..38]).unwrap_err();
     assert_eq!(error.to_string(), "6 at bit 300: a field does not fit in the body's remaining bits");
-    let error = permitted_speed(Segment::Packet(&desk_packet_with(2, 0xBA)), TRAIN, 0).unwrap_err();
+    let error = permitted_speed(Kind::Packet, &[&desk_packet_with(2, 0xBA)], TRAIN, 0).unwrap_err();
     assert_eq!(error.to_string(), "13 at bit 305: bits of the body are left after the last field");
     let error = sheet_to_packet(&DESK_SHEET[..24], &mut []).unwrap_err();
     assert!(error.to_string().starts_with("9 at byte 24: a sheet ends too soon, "));
-    let error = permitted_speed(Segment::Sheet(&[]), TRAIN, 0).unwrap_err();
+    let error = permitted_speed(Kind::Sheet, &[&[]], TRAIN, 0).unwrap_err();
     assert!(error.to_string().starts_with("9 at byte 0: "));
 }

@@ -1,14 +1,14 @@
 //! Tests of the permitted speed, from a packet and from a sheet.
 use crate::segments::{element, packet, segment, sheet, Field, DESK_PACKET, DESK_SHEET};
 use crate::told;
-use seglink::{permitted_speed, Refusal, Segment, Train};
+use seglink::{permitted_speed, Kind, Refusal, Train};
 
 const SHUTTLE: Train = Train { length: 200, cant: 150, freight_p: false, freight_g: false, passenger: false };
 
 /// Returns the speed from the packet, and checks that the sheet gives it too; all speeds are multiples of 5.
 fn permitted(fields: &[Field], train: Train, x: u32) -> u32 {
-    let answer = permitted_speed(Segment::Packet(&packet(fields)), train, x).unwrap();
-    assert_eq!(permitted_speed(Segment::Sheet(&sheet(fields)), train, x), Ok(answer));
+    let answer = permitted_speed(Kind::Packet, &[&packet(fields)], train, x).unwrap();
+    assert_eq!(permitted_speed(Kind::Sheet, &[&sheet(fields)], train, x), Ok(answer));
     answer
 }
 
@@ -86,8 +86,8 @@ fn categories_replace_and_lower_a_lower_figure_s_speed() {
 #[test]
 fn a_sheet_answers_with_its_own_speeds() {
     let fields = segment(1000, 0, &element(84, 0, &[]), &[]);
-    assert_eq!(permitted_speed(Segment::Sheet(&sheet(&fields)), SHUTTLE, 0), Ok(84));
-    assert_eq!(permitted_speed(Segment::Packet(&packet(&fields)), SHUTTLE, 0), Ok(80));
+    assert_eq!(permitted_speed(Kind::Sheet, &[&sheet(&fields)], SHUTTLE, 0), Ok(84));
+    assert_eq!(permitted_speed(Kind::Packet, &[&packet(&fields)], SHUTTLE, 0), Ok(80));
 }
 
 #[test]
@@ -96,15 +96,15 @@ fn the_same_bytes_are_asked_as_a_packet_or_as_a_sheet() {
     let start = [0x06, 0x00, 0xB9, 0x01, 0x00, 0x00, 0x07, 0x00, 0x00, 0x00, 0x00, 0x64, 0x00, 0x00, 0x00, 0x54, 0x00, 0x05];
     let both = [&start[..], &[0x01, 0x00, 0x50].repeat(4), &[0x01, 0x01, 0x50], &[0; 6]].concat();
     for (x, of_sheet) in [(0, Ok(84)), (99, Ok(84)), (100, Err((Refusal::PastEnd, 0)))] {
-        assert_eq!(told(permitted_speed(Segment::Packet(&both), SHUTTLE, x)), Ok(105));
-        assert_eq!(told(permitted_speed(Segment::Sheet(&both), SHUTTLE, x)), of_sheet);
+        assert_eq!(told(permitted_speed(Kind::Packet, &[&both], SHUTTLE, x)), Ok(105));
+        assert_eq!(told(permitted_speed(Kind::Sheet, &[&both], SHUTTLE, x)), of_sheet);
     }
 }
 
 #[test]
 fn a_segment_of_the_other_kind_is_refused() {
-    assert_eq!(told(permitted_speed(Segment::Packet(&DESK_SHEET), SHUTTLE, 0)), Err((Refusal::PacketLength, 0)));
-    assert_eq!(told(permitted_speed(Segment::Sheet(&DESK_PACKET), SHUTTLE, 0)), Err((Refusal::SheetForm, 2)));
+    assert_eq!(told(permitted_speed(Kind::Packet, &[&DESK_SHEET], SHUTTLE, 0)), Err((Refusal::PacketLength, 0)));
+    assert_eq!(told(permitted_speed(Kind::Sheet, &[&DESK_PACKET], SHUTTLE, 0)), Err((Refusal::SheetForm, 2)));
 }
 
 #[test]
@@ -120,6 +120,6 @@ fn trains_at_the_ends_of_their_range_are_allowed() {
 #[test]
 fn empty_slices_are_refused_before_train_and_x() {
     let train = Train { length: 0, ..SHUTTLE };
-    assert_eq!(told(permitted_speed(Segment::Packet(&[]), train, u32::MAX)), Err((Refusal::ShortPacket, 0)));
-    assert_eq!(told(permitted_speed(Segment::Sheet(&[]), train, u32::MAX)), Err((Refusal::SheetForm, 0)));
+    assert_eq!(told(permitted_speed(Kind::Packet, &[&[]], train, u32::MAX)), Err((Refusal::ShortPacket, 0)));
+    assert_eq!(told(permitted_speed(Kind::Sheet, &[&[]], train, u32::MAX)), Err((Refusal::SheetForm, 0)));
 }

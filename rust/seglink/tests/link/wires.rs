@@ -1,7 +1,7 @@
 //! Tests of changes of voltage and of current: up to 31 of each.
 use crate::refusals::{refuses_packet, refuses_sheet};
 use crate::segments::{packet, sheet, wired, DESK_PACKET, DESK_SHEET};
-use seglink::{altitude_of_packet, packet_of, permitted_speed, sheet_of, Refusal, Segment, Train};
+use seglink::{altitude_of_packet, packet_of, permitted_speed, sheet_of, Kind, Refusal, Train};
 
 const TRAIN: Train = Train { length: 200, cant: 150, freight_p: false, freight_g: false, passenger: true };
 
@@ -11,8 +11,8 @@ fn up_to_31_of_each_go_both_ways() {
         let (packet, sheet) = (packet(&wired(voltages, currents)), sheet(&wired(voltages, currents)));
         assert_eq!(sheet_of(&packet).unwrap(), sheet);
         assert_eq!(packet_of(&sheet).unwrap(), packet);
-        assert_eq!(permitted_speed(Segment::Packet(&packet), TRAIN, 999), Ok(80));
-        assert_eq!(permitted_speed(Segment::Sheet(&sheet), TRAIN, 999), Ok(80));
+        assert_eq!(permitted_speed(Kind::Packet, &[&packet], TRAIN, 999), Ok(80));
+        assert_eq!(permitted_speed(Kind::Sheet, &[&sheet], TRAIN, 999), Ok(80));
         assert_eq!(altitude_of_packet(&packet), Ok(-100_000));
     }
 }
