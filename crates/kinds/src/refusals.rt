@@ -27,7 +27,7 @@ pub const SHORT_ROOM: u32 = 8;
 // A sheet ends too soon, has bytes left, or a number is not in its shortest form or not below 4,294,967,296.
 pub const SHEET_FORM: u32 = 9;
 
-// The train's length or cant deficiency is not allowed.
+// The train's length, cant deficiency or maximum speed is not allowed.
 pub const TRAIN_VALUE: u32 = 10;
 
 // Location x of a speed question is at or past L_SP of the last segment.

@@ -1,4 +1,4 @@
-// The eight public operations, under the names that the customer's server links. None has a `requires`: any bytes and numbers may be handed over.
+// The eight public operations and the interface's number, under the names that the customer's server links. None has a `requires`: any bytes and numbers may be handed over.
 ghost use mathlib.Core.Path.{_≡_};
 ghost use Rattle.convert.specs.Convert.{packetToSheet, sheetToPacket};
 ghost use Rattle.speed_question.specs.Question.{permittedSpeed};
@@ -9,6 +9,9 @@ use convert::Converted;
 use intake::Intake;
 use speed::Train;
 use speed_question::Speed;
+
+// The number of the interface: that of the request that last changed a layout or a function which the header had. A new function leaves it.
+const INTERFACE: u32 = 10;
 
 // Writes the sheet of a packet at the start of `room`. Answers 0, 0 and the sheet's length in bytes;
 // or a refusal's number, its place (a bit of the packet) and 0, and then writes nothing.
@@ -85,4 +88,20 @@ pub extern "C" fn seglink_intake_sheet(intake: Intake, taken: &[u8], room: &mut 
     ensures { λ r. ⌜ record { answer = r; room = now (room .exit) } ≡ asked intake (now (taken .entry)) (now (room .entry)) ⌝ }
 {
     intake::sheet(intake, taken, room)
+}
+
+// Answers the number of the interface that the header and this archive have in common.
+#[no_mangle]
+pub extern "C" fn seglink_version() -> u32
+    ensures { λ r. ⌜ r ≡ 10 ⌝ }
+{
+    INTERFACE
+}
+
+// Answers the number of the interface too. Its name carries the number: an object that was built with a header of another number does not link.
+#[no_mangle]
+pub extern "C" fn seglink_interface_10() -> u32
+    ensures { λ r. ⌜ r ≡ 10 ⌝ }
+{
+    INTERFACE
 }

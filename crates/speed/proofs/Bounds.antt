@@ -1,4 +1,4 @@
--- A permitted speed is at most 604 km/h: every speed of a sheet is, and the permitted speed is one of them.
+-- The profile's speed is at most 604 km/h: every speed of a sheet is, and the profile's speed is one of them.
 use mathlib.Core.Path.{_≡_, refl}
 use mathlib.Core.Bool.{Bool, true, false, cond, _&&_}
 use mathlib.Core.List.{List, [], _∷_, _++_}

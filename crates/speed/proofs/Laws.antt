@@ -7,7 +7,7 @@ use Prim.Native.Nat.{ℕ, zero, suc, _+_, _*_, _/_, _%_, _^_, _≤_, _<_, min}
 use mir.Val.{boolByte}
 use native.Mathlib.Omega.{arith}
 use borrow.Author.Tests.{le-leb, lt-leb, lt-ltb, ltb-false, ltb-true}
-use lib.Dec.{eqb, ltb, leb}
+use lib.Dec.{eqb, ltb}
 use lib.ListN.{getD}
 use native.Mathlib.Nat.{pow-le-pow-right, div-eq-of-lt}
 use Rattle.bits.proofs.Tests.{by-cases}
@@ -143,15 +143,22 @@ figure-place a v e = rw e (go (place 0 cantFigures a) refl)
     go none p = refl
     go (some i) p = lt-ltb i 16 (omega (arith, place-small 0 cantFigures a i p))
 
+-- ---- which trains are valid
+
 pub valid-short : (t : Train) → t .length < 1 → false ≡ validTrain t
 valid-short t h = rw (lt-leb 1 (t .length) h)
 
-pub valid-long : (t : Train) → 150000 < t .length → false ≡ validTrain t
-valid-long t h = rw (lt-leb (t .length) 150000 h) (sym (and-false (leb 1 (t .length))))
-  where
-    and-false : (b : Bool) → (b && false) ≡ false
-    and-false true = refl
-    and-false false = refl
+module _ (t : Train) (short : 1 ≤ t .length) where
+  pub valid-long : 150000 < t .length → false ≡ validTrain t
+  valid-long h = rw (le-leb 1 (t .length) short, lt-leb (t .length) 150000 h)
 
-pub valid-figure : (t : Train) → 1 ≤ t .length → t .length ≤ 150000 → figure (t .cant) ≡ validTrain t
-valid-figure t a b = rw (le-leb 1 (t .length) a, le-leb (t .length) 150000 b)
+  module _ (long : t .length ≤ 150000) where
+    pub valid-slow : t .maximum < 1 → false ≡ validTrain t
+    valid-slow h = rw (le-leb 1 (t .length) short, le-leb (t .length) 150000 long, lt-leb 1 (t .maximum) h)
+
+    module _ (slow : 1 ≤ t .maximum) where
+      pub valid-fast : 600 < t .maximum → false ≡ validTrain t
+      valid-fast h = rw (le-leb 1 (t .length) short, le-leb (t .length) 150000 long, le-leb 1 (t .maximum) slow, lt-leb (t .maximum) 600 h)
+
+      pub valid-figure : t .maximum ≤ 600 → figure (t .cant) ≡ validTrain t
+      valid-figure h = rw (le-leb 1 (t .length) short, le-leb (t .length) 150000 long, le-leb 1 (t .maximum) slow, le-leb (t .maximum) 600 h)

@@ -12,9 +12,14 @@ pub record SpeedCase : Type 0 where
   pub run : List (List ℕ)
   pub answer : ℕ
 
--- "a length .., a cant deficiency .., and three yes/no memberships": freight in P position, freight in G position, passenger
+-- "a length .., a cant deficiency .., and three yes/no memberships": freight in P position, freight in G position, passenger; with this maximum in km/h
+abbrev pub trainUpTo : ℕ → ℕ → ℕ → Bool → Bool → Bool → Train
+trainUpTo maximum length cant p g passenger =
+    record { length = length; cant = cant; maximum = maximum; «freight_p» = p; «freight_g» = g; passenger = passenger }
+
+-- one with the highest maximum
 abbrev pub trainOf : ℕ → ℕ → Bool → Bool → Bool → Train
-trainOf length cant p g passenger = record { length = length; cant = cant; «freight_p» = p; «freight_g» = g; passenger = passenger }
+trainOf length cant p g passenger = trainUpTo 600 length cant p g passenger
 
 -- the numbers of a segment of `length` cm with the numbers `profile` as its speed profile
 abbrev pub segmentOf : ℕ → List ℕ → List ℕ

@@ -1,4 +1,5 @@
--- The permitted speed in a run of segments, from the numbers of each segment's sheet. A single segment is a run of one.
+-- The profile's speed in a run of segments, from the numbers of each segment's sheet: the permitted speed, but for the train's own maximum.
+-- A single segment is a run of one.
 use mathlib.Core.List.{List, [], _∷_, _++_, map}
 use Prim.Native.Nat.{ℕ, _+_}
 use Rattle.kinds.specs.declared.Item.{Item}
@@ -47,6 +48,6 @@ lastStart from (s ∷ n ∷ r) = lastStart (from + segmentLength s) (n ∷ r)
 abbrev pub heldInRun : Train → ℕ → List (List ℕ) → List ℕ
 heldInRun t x r = heldSpeeds t (runEnd 0 r) (lastStart 0 r + x) (runElements 0 r)
 
--- "The permitted speed at x is the lowest speed of the elements that hold there", "with x in the last"
+-- "The permitted speed at x is the lowest speed of the elements that hold there", "with x in the last": the profile's speed
 abbrev pub speedInRun : Train → ℕ → List (List ℕ) → ℕ
 speedInRun t x r = permitted t (runEnd 0 r) (lastStart 0 r + x) (runElements 0 r)

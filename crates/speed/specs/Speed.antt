@@ -19,9 +19,13 @@ found (some v) = true
 abbrev pub figure : ℕ → Bool
 figure a = found (place 0 cantFigures a)
 
--- "a length (1 to 150,000 cm), a cant deficiency"
+-- "a length (1 to 150,000 cm), a cant deficiency"; "a maximum speed, 1 to 600 km/h"
 abbrev pub validTrain : Train → Bool
-validTrain t = leb 1 (t .length) && (leb (t .length) 150000 && figure (t .cant))
+validTrain t = leb 1 (t .length) && (leb (t .length) 150000 && (leb 1 (t .maximum) && (leb (t .maximum) 600 && figure (t .cant))))
+
+-- "every permitted speed is the lower of that and the profile's"
+abbrev pub limited : Train → ℕ → ℕ
+limited t v = min (t .maximum) v
 
 -- "three yes/no memberships: freight in P position (0), freight in G position (1), passenger (2)"
 abbrev pub belongs : Train → ℕ → Bool

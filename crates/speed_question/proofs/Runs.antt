@@ -8,7 +8,7 @@ use borrow.Author.Tests.{ne-eqb, eq-eqb}
 use lib.ListN.{drop}
 use Rattle.format.specs.Format.{Read, valuesOf}
 use Rattle.speed.specs.declared.Train.{Train}
-use Rattle.speed.specs.Speed.{segmentLength}
+use Rattle.speed.specs.Speed.{limited, segmentLength}
 use Rattle.speed.specs.Run.{Each, numbersOf, runEnd, lastOf, lastStart, speedInRun}
 use Rattle.speed.proofs.Runs.{last-start, run-end}
 use Rattle.speed_element.specs.declared.Head.{Head}
@@ -245,12 +245,12 @@ module _ (b : Brought) (p q u v : List ℕ) (count : ℕ) where
           let e : count - 1 ≡ i = omega arith in
           subst (λ (s : List ℕ). HeadOf b s (l .head .lsp) (l .head .profile)) (end-is ∙ ap (λ (n : ℕ). nth n p q u v) e) (k .head)
 
-      -- the answer from the length of the last segment and from the speed in the run
-      pub lent-speed : (t : Train) (x : ℕ) {lsp w : ℕ} → lsp ≡ segmentLength (numbersAs b (lastOf all)) → w ≡ speedInRun t x (numbersIn b all)
+      -- the answer from the length of the last segment and from the profile's speed in the run
+      pub lent-speed : (t : Train) (x : ℕ) {lsp w : ℕ} → lsp ≡ segmentLength (numbersAs b (lastOf all)) → w ≡ limited t (speedInRun t x (numbersIn b all))
           → judgedSpeed t x lsp w ≡ speedOfRun t x (valuesIn b all)
       lent-speed t x {lsp} {w} d e =
           ap₂ (judgedSpeed t x) (d ∙ ap segmentLength (sym last-is)) e
-          ∙ ap (λ (n : List (List ℕ)). judgedSpeed t x (segmentLength (lastOf n)) (speedInRun t x n)) (sym (numbers-in b all))
+          ∙ ap (λ (n : List (List ℕ)). judgedSpeed t x (segmentLength (lastOf n)) (limited t (speedInRun t x n))) (sym (numbers-in b all))
 
     pub judging-last : {i : ℕ} → Judging i → count ≤ i → Accepted ≡ runJudged (judgedRun (readAs b) all)
     judging-last {i} g e = let z : i ≡ count = omega (arith, g .up) in ap (λ (r : List (List ℕ)). runJudged (judgedRun (readAs b) r)) (sym (lent-over p q u v count few) ∙ ap left (sym z)) ∙ g .same

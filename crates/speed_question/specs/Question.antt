@@ -10,7 +10,7 @@ use Rattle.format.specs.Format.{Read}
 use Rattle.grammar.specs.segment.Segment.{wireChanges}
 use Rattle.grammar.specs.segment.Judgement.{fromPacket, fromSheet}
 use Rattle.speed.specs.declared.Train.{Train}
-use Rattle.speed.specs.Speed.{validTrain, segmentLength}
+use Rattle.speed.specs.Speed.{validTrain, limited, segmentLength}
 use Rattle.speed.specs.Run.{numbersOf, lastOf, speedInRun}
 use Rattle.speed_question.specs.declared.Speed.{Speed}
 
@@ -76,9 +76,10 @@ answerOfRun refusal value (refused r place) = refusal r place
 abbrev pub judgedSpeed : Train → ℕ → ℕ → ℕ → Speed
 judgedSpeed t x lsp v = cond (validTrain t) (cond (ltb x lsp) (record { refusal = 0; place = 0; speed = v }) (noSpeed 11 0)) (noSpeed 10 0)
 
--- "then 10, then 11 against the last"; "Speed from a packet uses the packet's speeds times 5, from a sheet the sheet's own"
+-- "then 10, then 11 against the last"; "Speed from a packet uses the packet's speeds times 5, from a sheet the sheet's own";
+-- "every permitted speed is the lower of that and the profile's"
 abbrev pub speedOfRun : Train → ℕ → List (List Item) → Speed
-speedOfRun t x r = judgedSpeed t x (segmentLength (lastOf (numbersOf r))) (speedInRun t x (numbersOf r))
+speedOfRun t x r = judgedSpeed t x (segmentLength (lastOf (numbersOf r))) (limited t (speedInRun t x (numbersOf r)))
 
 -- "each segment is then judged in order (place within it), then 10, then 11 against the last"
 abbrev pub speedFrom : Brought → List (List ℕ) → Train → ℕ → Speed

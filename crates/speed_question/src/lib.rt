@@ -45,7 +45,7 @@ fn refusal_of(train: Train, x: u32, lsp: u32) -> u32
     TRAIN_VALUE
 }
 
-// Judges `train` and the place `x` in the last of the `count` accepted segments, and answers with the speed.
+// Judges `train` and the place `x` in the last of the `count` accepted segments, and answers with the lower of the train's maximum and the profile's speed.
 fn of_run<'a>(
     medium: u32,
     count: u32,
@@ -65,11 +65,8 @@ fn of_run<'a>(
     if refusal != 0 {
         return answer(refusal, 0, 0);
     }
-    answer(
-        0,
-        0,
-        run::speed_in_run(medium, count, first, second, third, fourth, last, train, x),
-    )
+    let profile = run::speed_in_run(medium, count, first, second, third, fourth, last, train, x);
+    answer(0, 0, speed::limited(train, profile))
 }
 
 // Answers the permitted speed of `train` at `x` cm from the start of the last of the `count` segments, or a refusal.
