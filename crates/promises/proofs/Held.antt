@@ -32,7 +32,7 @@ lowest-among v (w ∷ l) =
     front first = first
     front (later a) = later (later a)
 
-lowest-of : (v : ℕ) (l : List ℕ) → LowestOf (lowest v l) (v ∷ l)
+pub lowest-of : (v : ℕ) (l : List ℕ) → LowestOf (lowest v l) (v ∷ l)
 lowest-of v l = record { one = lowest-among v l; lowest = under }
   where
     under : (w : ℕ) → Among w (v ∷ l) → lowest v l ≤ w

@@ -2,6 +2,7 @@ pub mod Values
 pub mod Agreeing
 pub mod Standing
 pub mod Held
+pub mod Maximum
 pub mod Refused
 pub mod Runs
 pub mod Ranges

@@ -27,7 +27,7 @@ use Rattle.speed_question.specs.Question.{Brought}
 use Rattle.altitude.specs.Altitude.{altitudeField}
 use Rattle.promises.specs.Promised.{SegmentValues}
 use Rattle.promises.specs.Refused.{ConversionGround, SegmentGround, PacketToSheetGround, SheetToPacketGround, packetToSheetRefusals, sheetToPacketRefusals, speedRefusals, altitudeRefusals}
-use Rattle.promises.specs.Ranges.{highestSpeed}
+use Rattle.promises.specs.Ranges.{highestOfProfile}
 use Rattle.promises.proofs.Values.{either-good-sheet}
 use Rattle.promises.proofs.Agreeing.{lowered-same}
 use Rattle.promises.proofs.Standing.{altitude-stands}
@@ -57,8 +57,8 @@ packet-speed-fives t x v c = ap (λ (w : List (List Item)). speedInRun t x (numb
     same [] c = refl
     same (l ∷ v) c = ap₂ (λ (a : List Item) (r : List (List Item)). a ∷ r) (lowered-same (c .0)) (same v (c .1))
 
--- the highest speed is 600 km/h from packets and 604 from sheets
-pub highest : (b : Brought) (t : Train) (x : ℕ) (v : List (List Item)) → Each (SegmentValues b) v → speedInRun t x (numbersOf v) ≤ highestSpeed b
+-- the highest speed of a profile is 600 km/h from packets and 604 from sheets
+pub highest : (b : Brought) (t : Train) (x : ℕ) (v : List (List Item)) → Each (SegmentValues b) v → speedInRun t x (numbersOf v) ≤ highestOfProfile b
 highest Brought.packet t x v c = omega (arith, packet-speed-fives t x v c, speed-most t x v (each-on (λ l. good-sheet) v c))
 highest Brought.sheet t x v c = speed-most t x v c
 

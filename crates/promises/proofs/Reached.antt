@@ -28,7 +28,7 @@ unfolding fieldAt numberOf groupsIn digits place entries changes lists body fiel
 sheet-to-packet-reached = refl
 
 -- in the first, second, third and fourth segment of a run
-pub permitted-speed-reached : map (λ n. map (λ o. o .refusal) (askedSpeeds n)) (0 ∷ 1 ∷ 2 ∷ 3 ∷ []) ≡ replicate 4 (15 ∷ 16 ∷ 16 ∷ speedRefusals Brought.packet ++ speedRefusals Brought.sheet)
+pub permitted-speed-reached : map (λ n. map (λ o. o .refusal) (askedSpeeds n)) (0 ∷ 1 ∷ 2 ∷ 3 ∷ []) ≡ replicate 4 (15 ∷ 16 ∷ 16 ∷ 10 ∷ 10 ∷ 10 ∷ 10 ∷ speedRefusals Brought.packet ++ speedRefusals Brought.sheet)
 unfolding fieldAt numberOf groupsIn digits place entries changes lists body fields sheetFields fromPacket fromSheet toPacket toSheet permittedSpeed
 permitted-speed-reached = refl
 

@@ -2,7 +2,7 @@
 use mathlib.Core.Path.{_≡_, refl, sym, ap, ap₂, _∙_, subst, subst₂}
 use mathlib.Core.List.{List, [], _∷_, _++_, map, append-nil}
 use mathlib.Core.Logic.{_↔_}
-use Prim.Native.Nat.{ℕ, zero, suc, _+_, _≤_}
+use Prim.Native.Nat.{ℕ, zero, suc, _+_, _≤_, min}
 use native.Mathlib.Omega.{arith}
 use lib.Dec.{ltb}
 use lib.ListN.{take}
@@ -14,16 +14,17 @@ use Rattle.format.specs.Conforming.{InPacket, InSheet}
 use Rattle.grammar.specs.segment.Segment.{wireChanges}
 use Rattle.grammar.specs.segment.Judgement.{toPacket, toSheet}
 use Rattle.speed.specs.declared.Train.{Train}
-use Rattle.speed.specs.Speed.{Element, validTrain, elementsFrom, segmentLength, profileOf, inFives}
+use Rattle.speed.specs.Speed.{Element, validTrain, limited, elementsFrom, segmentLength, profileOf, inFives}
 use Rattle.speed.specs.Run.{Each, numbersOf, eachGivenBack, runElements, runEnd, lastOf, lastStart, speedInRun}
 use Rattle.speed.specs.Standing.{SegmentStands}
 use Rattle.speed.proofs.Lowering.{length-stays}
 use Rattle.speed.proofs.Runs.{run-in-fives}
 use Rattle.speed.proofs.Standing.{segment-stands, segment-only, packet-count, sheet-count}
+use Rattle.speed_question.specs.declared.Speed.{Speed}
 use Rattle.speed_question.specs.Question.{Brought, noSpeed, readAs, runCount, RunRead, accepted, refused, inFront, judgedRun, answerOfRun, judgedSpeed, speedOfRun, speedAsked}
 use Rattle.speed_question.specs.Grounds.{RunGround, here, later}
 use Rattle.speed_question.proofs.Judged.{run-taken, run-values, run-refused, run-grounded}
-use Rattle.promises.specs.Promised.{goodIn, SegmentValues, segmentOf, SegmentOfValues, RunOfValues, answerInFives, RunStands}
+use Rattle.promises.specs.Promised.{goodIn, SegmentValues, segmentOf, SegmentOfValues, RunOfValues, withMaximum, answerInFives, answerWith, RunStands}
 use Rattle.promises.specs.Refused.{SegmentGround}
 use Rattle.promises.proofs.Values.{segments, lowered-packet, lowered-good}
 use Rattle.promises.proofs.Refused.{segments-on, of-values, taken}
@@ -150,19 +151,42 @@ last-lowered [] c = refl
 last-lowered (l ∷ []) c = length-stays l (c .0)
 last-lowered (l ∷ n ∷ v) c = last-lowered (n ∷ v) (c .1)
 
--- lowering the speed of an answer changes nothing else in it
-answered-lowered : (t : Train) (x lsp v : ℕ) → judgedSpeed t x lsp (inFives v) ≡ answerInFives (judgedSpeed t x lsp v)
-answered-lowered t x lsp v = by-cases (validTrain t) (λ e. by-cases (ltb x lsp) (λ b. rw (e, b)) (λ b. rw (e, b))) (λ e. rw e)
+-- a change of an answer that keeps the refusals of a question about good values
+record Keeping (change : Speed → Speed) : Type 0 where
+  badTrain : change (noSpeed 10 0) ≡ noSpeed 10 0
+  pastEnd : change (noSpeed 11 0) ≡ noSpeed 11 0
+  badCount : change (noSpeed 16 0) ≡ noSpeed 16 0
 
--- the question about the packets of a run of sheets: any medium's refusals stay
-pub asked-lowered : (count : ℕ) (v : List (List Item)) (t : Train) (x : ℕ) → Each (SegmentValues Brought.sheet) v
-    → speedAsked 0 count (map (toPacket wireChanges) v) t x ≡ answerInFives (speedAsked 1 count (map (toSheet wireChanges) v) t x)
-asked-lowered count v t x c =
+abbrev answering : ℕ → Speed
+answering v = record { refusal = 0; place = 0; speed = v }
+
+-- the question about the packets of a run of sheets: what changes the one speed to the other, and no refusal, changes the answer
+asked-changed : {change : Speed → Speed} → Keeping change → (count : ℕ) (v : List (List Item)) (t : Train) (x : ℕ) → Each (SegmentValues Brought.sheet) v
+    → (let p = speedInRun t x (numbersOf v) in answering (limited t (inFives p)) ≡ change (answering (limited t p)))
+    → speedAsked 0 count (map (toPacket wireChanges) v) t x ≡ change (speedAsked 1 count (map (toSheet wireChanges) v) t x)
+asked-changed {change} k count v t x c e =
     let packets = ap (judgedRun (readAs Brought.packet)) (sym (packets-lowered v)) ∙ written Brought.packet (eachGivenBack v) (each-lowered v c) in
     let sheets = written Brought.sheet v c in
-    let values : speedOfRun t x (eachGivenBack v) ≡ answerInFives (speedOfRun t x v) =
-    ap₂ (judgedSpeed t x) (last-lowered v c) (run-in-fives t x v c) ∙ answered-lowered t x (segmentLength (lastOf (numbersOf v))) (speedInRun t x (numbersOf v)) in
+    let lsp = segmentLength (lastOf (numbersOf v)) in
+    let p = speedInRun t x (numbersOf v) in
+    let judged : judgedSpeed t x lsp (limited t (inFives p)) ≡ change (judgedSpeed t x lsp (limited t p)) =
+    by-cases (validTrain t) (λ d. by-cases (ltb x lsp) (λ b. rw (d, b) e) (λ b. rw (d, b) (sym (k .pastEnd)))) (λ d. rw d (sym (k .badTrain))) in
+    let values : speedOfRun t x (eachGivenBack v) ≡ change (speedOfRun t x v) =
+    ap₂ (λ (n w : ℕ). judgedSpeed t x n (limited t w)) (last-lowered v c) (run-in-fives t x v c) ∙ judged in
     by-cases (runCount count)
-    (λ d. rw d
-    (ap (answerOfRun noSpeed (speedOfRun t x)) packets ∙ values ∙ ap (λ (o : RunRead). answerInFives (answerOfRun noSpeed (speedOfRun t x) o)) (sym sheets)))
-    (λ d. rw d)
+    (λ d. rw d (ap (answerOfRun noSpeed (speedOfRun t x)) packets ∙ values ∙ ap (λ (o : RunRead). change (answerOfRun noSpeed (speedOfRun t x) o)) (sym sheets)))
+    (λ d. rw d (sym (k .badCount)))
+
+-- its speed is the lower of the maximum and the greatest multiple of 5 not above the profile's speed from the sheets, its refusal theirs
+pub asked-profile : (count : ℕ) (v : List (List Item)) (t : Train) (x : ℕ) → Each (SegmentValues Brought.sheet) v
+    → speedAsked 0 count (map (toPacket wireChanges) v) t x
+    ≡ answerWith (limited t (inFives (speedInRun t x (numbersOf v)))) (speedAsked 1 count (map (toSheet wireChanges) v) t x)
+asked-profile count v t x c = asked-changed {change = answerWith (limited t (inFives (speedInRun t x (numbersOf v))))} (record { badTrain = refl; pastEnd = refl; badCount = refl }) count v t x c refl
+
+-- to a train with the maximum 600 it is their answer with its speed lowered
+pub asked-lowered : (count : ℕ) (v : List (List Item)) (t : Train) (x : ℕ) → Each (SegmentValues Brought.sheet) v
+    → speedAsked 0 count (map (toPacket wireChanges) v) (withMaximum 600 t) x ≡ answerInFives (speedAsked 1 count (map (toSheet wireChanges) v) (withMaximum 600 t) x)
+asked-lowered count v t x c =
+    let p = speedInRun (withMaximum 600 t) x (numbersOf v) in
+    let e : min 600 (inFives p) ≡ inFives (min 600 p) = omega arith in
+    asked-changed {change = answerInFives} (record { badTrain = refl; pastEnd = refl; badCount = refl }) count v (withMaximum 600 t) x c (ap answering e)

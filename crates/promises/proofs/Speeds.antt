@@ -1,29 +1,30 @@
 -- The promises on speeds, for runs of packets and of sheets by one law: when a question is answered, with which speed, and on which ground it is refused.
--- A question about one segment is one with a count of 1.
+-- A question about one segment is one with a count of 1. The profile's speed has its own promises, and the card's maximum is one step above it.
 use mathlib.Core.Path.{_≡_, refl, sym, ap, _∙_, subst}
 use mathlib.Core.Bool.{true, false}
 use mathlib.Core.List.{List, [], _∷_, map}
-use mathlib.Core.Logic.{_↔_}
-use Prim.Native.Nat.{ℕ, _+_, _*_, _/_, _≤_, _<_}
+use mathlib.Core.Logic.{_↔_, _⊎_, inl, inr}
+use Prim.Native.Nat.{ℕ, _+_, _*_, _/_, _≤_, _<_, min}
 use native.Mathlib.Omega.{arith}
-use borrow.Author.Tests.{ltb-true, ltb-false, lt-ltb, le-ltb}
-use lib.Dec.{ltb}
+use borrow.Author.Tests.{leb-true, leb-false, ltb-true, ltb-false, lt-ltb, le-ltb}
+use lib.Dec.{ltb, leb}
 use Rattle.bits.specs.Bits.{Bytes}
 use Rattle.bits.proofs.Tests.{by-cases}
 use Rattle.kinds.specs.declared.Item.{Item}
 use Rattle.format.specs.Format.{sheetNumbers}
 use Rattle.format.specs.Grounds.{OneEnding}
 use Rattle.speed.specs.declared.Train.{Train}
-use Rattle.speed.specs.Speed.{Element, validTrain, heldSpeeds, permitted, segmentLength, inFives}
+use Rattle.speed.specs.Speed.{Element, validTrain, limited, heldSpeeds, permitted, segmentLength, inFives}
 use Rattle.speed.specs.Run.{Each, numbersOf, runElements, runEnd, lastOf, lastStart, speedInRun}
 use Rattle.speed.proofs.Runs.{run-not-above}
 use Rattle.speed_question.specs.declared.Speed.{Speed}
 use Rattle.speed_question.specs.Question.{Brought, mediumOf, Neither, noSpeed, readAs, lent, runCount, RunRead, accepted, refused, judgedRun, answerOfRun, speedOfRun, speedFrom, speedAsked, permittedSpeed}
 use Rattle.speed_question.proofs.Asked.{either-medium, neither-first, count-next, run-asked}
-use Rattle.promises.specs.Promised.{goodIn, SegmentValues, segmentOf, Answerable, LengthOf, RunStands, TheirElements, LowestOf}
+use Rattle.promises.specs.Promised.{goodIn, SegmentValues, segmentOf, Answerable, withMaximum, answerLimited, LengthOf, RunStands, TheirElements, LowestOf}
 use Rattle.promises.specs.Refused.{Refuses, SpeedGround}
-use Rattle.promises.specs.Ranges.{SpeedEnds, OneOutcome}
+use Rattle.promises.specs.Ranges.{highestOfProfile, SpeedEnds, OneOutcome}
 use Rattle.promises.proofs.Held.{lowest-held}
+use Rattle.promises.proofs.Maximum.{profile-same, valid-maximum, valid-same, limited-lower, limited-lowest, judged-limited}
 use Rattle.promises.proofs.Standing.{length-stands}
 use Rattle.promises.proofs.Refused.{one-outcome, one-ending}
 use Rattle.promises.proofs.Runs.{ground-own, last-values, run-accepted, run-of-values, run-refuses, run-on, run-only, run-stands}
@@ -76,36 +77,66 @@ module _ (medium count : ℕ) (first second third fourth : List ℕ) (t : Train)
 
   -- ==== "Every permitted speed is the one the speed rules give."
 
-  -- a question that has an answer is answered with the permitted speed of the run's values
-  pub permitted-speed-value : (c : Answerable medium count run t x) → answer ≡ record { refusal = 0; place = 0; speed = speedInRun t x (numbersOf (c .of .values)) }
+  -- the profile's speed, from the values of a question that has an answer
+  abbrev profile : Answerable medium count run t x → ℕ
+  profile c = speedInRun t x (numbersOf (c .of .values))
+
+  -- a question that has an answer is answered with "the lower of that and the profile's"
+  pub permitted-speed-value : (c : Answerable medium count run t x) → answer ≡ record { refusal = 0; place = 0; speed = limited t (speedInRun t x (numbersOf (c .of .values))) }
   permitted-speed-value c =
       permitted-speed-judged (c .brought) (c .named) (c .few) ∙ ap ofRun (run-accepted (c .brought) run (c .of))
       ∙ rw (c .valid, lt-ltb x (segmentLength (lastOf (numbersOf (c .of .values)))) (c .inside))
 
-  -- in the words of the tree: the answer is the rule's over the elements that stand in the values, laid end to end
-  pub permitted-speed-rule : (c : Answerable medium count run t x) (es : List Element) (start stop : ℕ) → RunStands (c .brought) 0 (c .of .values) es start stop
-      → answer ≡ record { refusal = 0; place = 0; speed = permitted t stop (start + x) es }
-  permitted-speed-rule c es start stop w = let p = run-only (c .brought) w in rw (p .0, p .1, p .2) (permitted-speed-value c)
+  module _ (c : Answerable medium count run t x) (es : List Element) (start stop : ℕ) (w : RunStands (c .brought) 0 (c .of .values) es start stop) where
+    -- in the words of the tree: the profile's speed is the rule's over the elements that stand in the values, laid end to end
+    pub profile-rule : speedInRun t x (numbersOf (c .of .values)) ≡ permitted t stop (start + x) es
+    profile-rule = let p = run-only (c .brought) w in rw (p .0, p .1, p .2)
 
-  -- it is "the lowest speed of the elements that hold there": some element holds, so it is never a speed that no element has
-  pub permitted-speed-held : (c : Answerable medium count run t x) (es : List Element) (start stop : ℕ) → RunStands (c .brought) 0 (c .of .values) es start stop
-      → LowestOf (answer .speed) (heldSpeeds t stop (start + x) es)
-  permitted-speed-held c es start stop w =
-      let p = run-only (c .brought) w in
-      rw (permitted-speed-value c, p .0, p .1, p .2) (lowest-held t x (numbersOf (c .of .values)) (c .inside))
+    -- the answer is the lower of the card's maximum and that
+    pub permitted-speed-rule : answer ≡ record { refusal = 0; place = 0; speed = limited t (permitted t stop (start + x) es) }
+    permitted-speed-rule = permitted-speed-value c ∙ rw profile-rule
+
+    -- the profile's speed is "the lowest speed of the elements that hold there": some element holds, so it is never a speed that no element has
+    pub profile-held : LowestOf (permitted t stop (start + x) es) (heldSpeeds t stop (start + x) es)
+    profile-held = let p = run-only (c .brought) w in rw (p .0, p .1, p .2) (lowest-held t x (numbersOf (c .of .values)) (c .inside))
+
+    -- the answer is the lowest of the card's maximum and these
+    pub permitted-speed-held : LowestOf (answer .speed) (t .maximum ∷ heldSpeeds t stop (start + x) es)
+    permitted-speed-held = rw permitted-speed-rule (limited-lowest t profile-held)
+
+  -- "every permitted speed is the lower of that and the profile's"
+  pub permitted-speed-lower : (c : Answerable medium count run t x) → LowestOf (answer .speed) (t .maximum ∷ speedInRun t x (numbersOf (c .of .values)) ∷ [])
+  permitted-speed-lower c = rw (permitted-speed-value c) (limited-lower t (profile c))
+
+  -- it is the profile's own where that is not above the maximum
+  pub permitted-speed-own : (c : Answerable medium count run t x) → speedInRun t x (numbersOf (c .of .values)) ≤ t .maximum
+      → answer ≡ record { refusal = 0; place = 0; speed = speedInRun t x (numbersOf (c .of .values)) }
+  permitted-speed-own c h = let e : limited t (profile c) ≡ profile c = omega arith in permitted-speed-value c ∙ rw e
+
+  -- the profile's speed is at most 600 from packets and 604 from sheets
+  pub profile-highest : (c : Answerable medium count run t x) → speedInRun t x (numbersOf (c .of .values)) ≤ highestOfProfile (c .brought)
+  profile-highest c = highest (c .brought) t x (c .of .values) (c .of .good)
+
+  -- what is true of every refusal and of every limited speed is true of the answer
+  always : (P : Speed → Type 0) → ((r place : ℕ) → P (noSpeed r place)) → ((v : ℕ) → P (record { refusal = 0; place = 0; speed = limited t v })) → P answer
+  always P f g =
+      asking medium count (λ m. subst P (sym (permitted-speed-neither m)) (f 15 0)) (λ b k c. subst P (sym (permitted-speed-count b k c)) (f 16 0))
+      (λ b k c. subst P (sym (permitted-speed-judged b k c)) (go (judgedRun (readAs b) run)))
+    where
+      go : (o : RunRead) → P (ofRun o)
+      go (refused q place) = f q place
+      go (accepted v) =
+          by-cases (validTrain t)
+          (λ d. by-cases (ltb x (segmentLength (lastOf (numbersOf v)))) (λ b. rw (d, b) (g (speedInRun t x (numbersOf v)))) (λ b. rw (d, b) (f 11 0)))
+          (λ d. rw d (f 10 0))
 
   -- "It returns its number with .. speed .. 0"
   pub permitted-speed-none : (answer .refusal ≡ 0 → ⊥) → answer .speed ≡ 0
-  permitted-speed-none n =
-      asking medium count (λ m. ap (λ (o : Speed). o .speed) (permitted-speed-neither m)) (λ b k c. ap (λ (o : Speed). o .speed) (permitted-speed-count b k c))
-      (λ b k c. let e = permitted-speed-judged b k c in ap (λ (o : Speed). o .speed) e ∙ go (judgedRun (readAs b) run) (λ d. n (ap (λ (o : Speed). o .refusal) e ∙ d)))
-    where
-      go : (o : RunRead) → (ofRun o .refusal ≡ 0 → ⊥) → ofRun o .speed ≡ 0
-      go (refused q place) m = refl
-      go (accepted v) m =
-          by-cases (validTrain t)
-          (λ f. by-cases (ltb x (segmentLength (lastOf (numbersOf v)))) (λ b. absurd (m (rw (f, b)))) (λ b. rw (f, b)))
-          (λ f. rw f)
+  permitted-speed-none = always (λ o. (o .refusal ≡ 0 → ⊥) → o .speed ≡ 0) (λ r place n. refl) (λ v n. absurd (n refl))
+
+  -- no answer is above the card's maximum, whatever is asked
+  pub permitted-speed-maximum : answer .speed ≤ t .maximum
+  permitted-speed-maximum = always (λ o. o .speed ≤ t .maximum) (λ r place. omega arith) (λ v. omega arith)
 
   module _ (ok : Each Bytes run) where
     -- every question can be answered, or has a ground and is refused with it
@@ -170,7 +201,7 @@ module _ (medium count : ℕ) (first second third fourth : List ℕ) (t : Train)
     permitted-speed-outcome = one-outcome answer (ends success (λ r place g e h. rw e (on r place g)))
       where
         success : Answerable medium count run t x → SpeedEnds medium count answer
-        success c = rw (permitted-speed-value c) (SpeedEnds.success (c .brought) (c .named) (c .few) refl refl (highest (c .brought) t x (c .of .values) (c .of .good)))
+        success c = rw (permitted-speed-value c) (SpeedEnds.success (c .brought) (c .named) (c .few) refl refl (omega (arith, valid-maximum t (c .valid) .1)))
 
         on : (r place : ℕ) → SpeedGround medium count run t x r place → SpeedEnds medium count (noSpeed r place)
         on r place (SpeedGround.neither m e p) = SpeedEnds.neither m e p refl
@@ -185,14 +216,67 @@ pub permitted-speed-past : (medium count : ℕ) (a b c d e f g h : List ℕ) (t 
 unfolding permittedSpeed
 permitted-speed-past medium count a b c d e f g h t x same = ap (λ (r : List (List ℕ)). speedAsked medium count r t x) same
 
+module _ (medium count : ℕ) (a b c d : List ℕ) (t : Train) (x : ℕ) where
+  -- the card with the maximum 600, and the answer to a card
+  abbrev highestCard : Train
+  highestCard = withMaximum 600 t
+
+  abbrev answerTo : Train → Speed
+  answerTo u = permittedSpeed medium count a b c d u x
+
+  -- in the operation's own words: under a maximum within its range the answer is that under 600, refusals too, with its speed limited
+  pub permitted-speed-step : 1 ≤ t .maximum → t .maximum ≤ 600 → permittedSpeed medium count a b c d t x ≡ answerLimited t (permittedSpeed medium count a b c d (withMaximum 600 t) x)
+  permitted-speed-step h g =
+      asking medium count (λ n. by 15 (λ u. permitted-speed-neither medium count a b c d u x n)) (λ m k e. by 16 (λ u. permitted-speed-count medium count a b c d u x m k e))
+      (λ m k e. permitted-speed-judged medium count a b c d t x m k e ∙ go (judgedRun (readAs m) (lent count a b c d))
+      ∙ sym (ap (answerLimited t) (permitted-speed-judged medium count a b c d highestCard x m k e)))
+    where
+      none : (r place : ℕ) → noSpeed r place ≡ answerLimited t (noSpeed r place)
+      none r place = let e : 0 ≡ limited t 0 = omega arith in ap (λ (v : ℕ). record { refusal = r; place = place; speed = v }) e
+
+      by : (r : ℕ) → ((u : Train) → answerTo u ≡ noSpeed r 0) → answerTo t ≡ answerLimited t (answerTo highestCard)
+      by r f = f t ∙ none r 0 ∙ sym (ap (answerLimited t) (f highestCard))
+
+      go : (o : RunRead) → answerOfRun noSpeed (speedOfRun t x) o ≡ answerLimited t (answerOfRun noSpeed (speedOfRun highestCard x) o)
+      go (refused q place) = none q place
+      go (accepted v) =
+          judged-limited t x (segmentLength (lastOf (numbersOf v))) (speedInRun t x (numbersOf v)) (speedInRun highestCard x (numbersOf v)) h g
+          (profile-same 600 t x (numbersOf v))
+
+  -- to the card with the maximum 600 a question is answered with the profile's speed, and with 600 where that is above 600
+  pub profile-asked : (q : Answerable medium count (lent count a b c d) t x)
+      → permittedSpeed medium count a b c d (withMaximum 600 t) x ≡ record { refusal = 0; place = 0; speed = min 600 (speedInRun t x (numbersOf (q .of .values))) }
+  profile-asked q =
+      let own = valid-maximum t (q .valid) in
+      let r : Answerable medium count (lent count a b c d) highestCard x =
+      record {
+        brought = q .brought;
+        named = q .named;
+        few = q .few;
+        of = q .of;
+        valid = sym (valid-same t (own .0) (own .1)) ∙ q .valid;
+        inside = q .inside;
+      } in
+      permitted-speed-value medium count a b c d highestCard x r
+      ∙ ap (λ (v : ℕ). record { refusal = 0; place = 0; speed = min 600 v }) (profile-same 600 t x (numbersOf (q .of .values)))
+
 module _ (count : ℕ) (first second third fourth : List ℕ) (t : Train) (x : ℕ) where
+  -- segments before the last never make the profile's speed higher
+  pub profile-not-above : (medium : ℕ) (c : Answerable medium count (lent count first second third fourth) t x)
+      → speedInRun t x (numbersOf (c .of .values)) ≤ speedInRun t x (lastOf (numbersOf (c .of .values)) ∷ [])
+  profile-not-above medium c = go (c .of .values) (c .inside)
+    where
+      go : (v : List (List Item)) → x < segmentLength (lastOf (numbersOf v)) → speedInRun t x (numbersOf v) ≤ speedInRun t x (lastOf (numbersOf v) ∷ [])
+      go [] h = absurd (omega arith)
+      go (l ∷ v) h = run-not-above t x (sheetNumbers l) (numbersOf v) h
+
   -- "while half the set stands in the slower segment": a run's speed is never above that of its last segment alone, whatever else is lent
   pub permitted-speed-not-above : (medium : ℕ) (a b c : List ℕ) → Answerable medium count (lent count first second third fourth) t x
       → permittedSpeed medium count first second third fourth t x .speed ≤ permittedSpeed medium 1 (lastOf (lent count first second third fourth)) a b c t x .speed
   permitted-speed-not-above medium a b c q = go (q .of .values) (q .of .good) (q .of .whole) (q .inside) (permitted-speed-value medium count first second third fourth t x q)
     where
       go : (v : List (List Item)) → Each (SegmentValues (q .brought)) v → lent count first second third fourth ≡ map (segmentOf (q .brought)) v → x < segmentLength (lastOf (numbersOf v))
-          → permittedSpeed medium count first second third fourth t x ≡ record { refusal = 0; place = 0; speed = speedInRun t x (numbersOf v) }
+          → permittedSpeed medium count first second third fourth t x ≡ record { refusal = 0; place = 0; speed = limited t (speedInRun t x (numbersOf v)) }
           → permittedSpeed medium count first second third fourth t x .speed ≤ permittedSpeed medium 1 (lastOf (lent count first second third fourth)) a b c t x .speed
       go [] good whole h e = absurd (omega arith)
       go (l ∷ v) good whole h e =
@@ -206,16 +290,26 @@ module _ (count : ℕ) (first second third fourth : List ℕ) (t : Train) (x : �
             valid = q .valid;
             inside = rw n at h;
           } in
-          rw (e, permitted-speed-value medium 1 (lastOf (lent count first second third fourth)) a b c t x alone, ← n) (run-not-above t x (sheetNumbers l) (numbersOf v) h)
+          let own = run-not-above t x (sheetNumbers l) (numbersOf v) h in
+          rw (e, permitted-speed-value medium 1 (lastOf (lent count first second third fourth)) a b c t x alone, ← n) (omega arith)
 
-  -- "the packet's speeds times 5": a speed from packets is a multiple of 5
-  pub packet-fives : Answerable 0 count (lent count first second third fourth) t x
-      → permittedSpeed 0 count first second third fourth t x .speed ≡ permittedSpeed 0 count first second third fourth t x .speed / 5 * 5
-  packet-fives c = rw (permitted-speed-value 0 count first second third fourth t x c) (go (c .brought) (c .named) (c .of .good))
-    where
-      go : (b : Brought) → 0 ≡ mediumOf b → Each (SegmentValues b) (c .of .values) → speedInRun t x (numbersOf (c .of .values)) ≡ inFives (speedInRun t x (numbersOf (c .of .values)))
-      go Brought.packet e g = packet-speed-fives t x (c .of .values) g
-      go Brought.sheet e g = absurd (omega arith)
+  module _ (c : Answerable 0 count (lent count first second third fourth) t x) where
+    -- "the packet's speeds times 5": the profile's speed from packets is a multiple of 5
+    pub profile-fives : speedInRun t x (numbersOf (c .of .values)) ≡ speedInRun t x (numbersOf (c .of .values)) / 5 * 5
+    profile-fives = go (c .brought) (c .named) (c .of .good)
+      where
+        go : (b : Brought) → 0 ≡ mediumOf b → Each (SegmentValues b) (c .of .values) → speedInRun t x (numbersOf (c .of .values)) ≡ inFives (speedInRun t x (numbersOf (c .of .values)))
+        go Brought.packet e g = packet-speed-fives t x (c .of .values) g
+        go Brought.sheet e g = absurd (omega arith)
+
+    -- a speed from packets is the card's maximum or a multiple of 5
+    pub packet-fives : let v = permittedSpeed 0 count first second third fourth t x .speed in (v ≡ t .maximum) ⊎ (v ≡ v / 5 * 5)
+    packet-fives =
+        let p = speedInRun t x (numbersOf (c .of .values)) in
+        rw (permitted-speed-value 0 count first second third fourth t x c)
+        (by-cases (leb (t .maximum) p)
+        (λ d. let h = leb-true (t .maximum) p d in inl (omega arith))
+        (λ d. let h = leb-false (t .maximum) p d in let e : limited t p ≡ p = omega arith in inr (rw e profile-fives)))
 
 -- the length that x is compared with is the number of L_SP
 pub segment-length : (b : Brought) (l : List Item) → SegmentValues b l → LengthOf (goodIn b) l (segmentLength (sheetNumbers l))

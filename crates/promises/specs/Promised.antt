@@ -2,7 +2,7 @@
 use mathlib.Core.Path.{_≡_}
 use mathlib.Core.Bool.{Bool, true, cond}
 use mathlib.Core.List.{List, [], _∷_, _++_, map}
-use Prim.Native.Nat.{ℕ, _+_, _*_, _-_, _/_, _≤_, _<_}
+use Prim.Native.Nat.{ℕ, _+_, _*_, _-_, _/_, _≤_, _<_, min}
 use lib.Dec.{eqb}
 use lib.IntN.{ℤ, pos, _-ℤ_}
 use lib.ListN.{length, take}
@@ -86,9 +86,21 @@ pub record Answerable (medium count : ℕ) (run : List (List ℕ)) (t : Train) (
   pub valid : validTrain t ≡ true
   pub inside : x < segmentLength (lastOf (numbersOf (of .values)))
 
--- "the greatest multiple of 5 not above the speed from the sheet": an answer with its speed lowered to it
+-- "The train card gains a maximum speed": the card with the maximum m in km/h, all else as it was
+abbrev pub withMaximum : ℕ → Train → Train
+withMaximum m t = record { length = t .length; cant = t .cant; maximum = m; «freight_p» = t .«freight_p»; «freight_g» = t .«freight_g»; passenger = t .passenger }
+
+-- "the greatest multiple of 5 not above": an answer with its speed lowered to it
 abbrev pub answerInFives : Speed → Speed
 answerInFives o = record { refusal = o .refusal; place = o .place; speed = inFives (o .speed) }
+
+-- "the lower of that and the profile's": an answer with its speed limited to the card's maximum; it is said without `limited`, so that a wrong one would be found
+abbrev pub answerLimited : Train → Speed → Speed
+answerLimited t o = record { refusal = o .refusal; place = o .place; speed = min (t .maximum) (o .speed) }
+
+-- "It returns its number with .. speed .. 0": an answer with the speed v where it is no refusal
+abbrev pub answerWith : ℕ → Speed → Speed
+answerWith v o = record { refusal = o .refusal; place = o .place; speed = cond (eqb (o .refusal) 0) v 0 }
 
 -- w is "the greatest multiple of 5 not above" v
 pub record GreatestFive (v w : ℕ) : Type 0 where
@@ -166,10 +178,19 @@ pub data EachConverted : List (List ℕ) → List (List ℕ) → Type 0 where
   none : EachConverted [] []
   another : {s packet : List ℕ} {sheets packets : List (List ℕ)} → ConvertedTo s packet → EachConverted sheets packets → EachConverted (s ∷ sheets) (packet ∷ packets)
 
--- "the speed from its packet is the greatest multiple of 5 not above the speed from the sheet": the answers from the sheets and from their packets
-pub record Lowered (sheets packets : Speed) : Type 0 where
+-- "the lowest speed of the elements that hold there", "the lower of that and the profile's": v is one of the speeds l, and none of them is lower
+pub record LowestOf (v : ℕ) (l : List ℕ) : Type 0 where
+  pub one : Among v l
+  pub lowest : (w : ℕ) → Among w l → v ≤ w
+
+-- "from the packet, the lower of the card's maximum and the greatest multiple of 5 not above the profile's speed from the sheet": `packets` is the answer from the packets,
+-- `profile` the profile's speed from the sheets, and `sheets` the answer from the sheets to a card with the maximum 600
+pub record Lowered (maximum profile : ℕ) (sheets packets : Speed) : Type 0 where
   pub answered : packets .refusal ≡ 0
-  pub greatest : GreatestFive (sheets .speed) (packets .speed)
+  pub fives : ℕ
+  pub greatest : GreatestFive profile fives
+  pub asked : GreatestFive (sheets .speed) fives
+  pub lower : LowestOf (packets .speed) (maximum ∷ fives ∷ [])
 
 -- l are values of a sheet whose body has `bits` bits, whose packet has `packet` bytes and whose sheet has `sheet` bytes; 96 bits of the header stand after L_PACKET_ATO
 pub record Reaches (l : List Item) (bits packet sheet : ℕ) : Type 0 where
@@ -214,8 +235,3 @@ pub record TheirElements (b : Brought) (run : List (List Item)) : Type 0 where
   pub stop : ℕ
   pub stand : RunStands b 0 run elements start stop
   pub only : (es : List Element) (a e : ℕ) → RunStands b 0 run es a e → (es ≡ elements) × (a ≡ start) × (e ≡ stop)
-
--- "the lowest speed of the elements that hold there": v is one of the speeds l, and none of them is lower
-pub record LowestOf (v : ℕ) (l : List ℕ) : Type 0 where
-  pub one : Among v l
-  pub lowest : (w : ℕ) → Among w l → v ≤ w

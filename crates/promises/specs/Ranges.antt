@@ -21,14 +21,18 @@ pub data ConversionEnds (room refusals : List ℕ) (least most : ℕ) (o : Outco
   -- "It returns its number with length .. 0, and the lent room keeps every byte it had"
   refusal : Among (o .answer .refusal) refusals → o .answer .length ≡ 0 → o .room ≡ room → ConversionEnds room refusals least most o
 
--- "km/h, 0 to 604", and "the packet's speeds times 5"
-abbrev pub highestSpeed : Brought → ℕ
-highestSpeed packet = 600
-highestSpeed sheet = 604
+-- "km/h, 0 to 604", and "the packet's speeds times 5": the highest speed of a profile
+abbrev pub highestOfProfile : Brought → ℕ
+highestOfProfile packet = 600
+highestOfProfile sheet = 604
+
+-- "a maximum speed, 1 to 600 km/h": the highest answer
+abbrev pub highestSpeed : ℕ
+highestSpeed = 600
 
 -- a speed, or "It returns its number with .. speed .. 0"; 15 for a medium that is neither, and for no other; then 16 for a count that is not 1 to 4, and for no other
 pub data SpeedEnds (medium count : ℕ) (o : Speed) : Type 0 where
-  success : (b : Brought) → medium ≡ mediumOf b → runCount count ≡ true → o .refusal ≡ 0 → o .place ≡ 0 → o .speed ≤ highestSpeed b → SpeedEnds medium count o
+  success : (b : Brought) → medium ≡ mediumOf b → runCount count ≡ true → o .refusal ≡ 0 → o .place ≡ 0 → o .speed ≤ highestSpeed → SpeedEnds medium count o
   refusal : (b : Brought) → medium ≡ mediumOf b → runCount count ≡ true → Among (o .refusal) (speedRefusals b) → o .speed ≡ 0 → SpeedEnds medium count o
   counted : (b : Brought) → medium ≡ mediumOf b → runCount count ≡ false → o .refusal ≡ 16 → o .place ≡ 0 → o .speed ≡ 0 → SpeedEnds medium count o
   neither : Neither medium → o .refusal ≡ 15 → o .place ≡ 0 → o .speed ≡ 0 → SpeedEnds medium count o

@@ -40,7 +40,7 @@ pub data SpeedGround (medium count : ℕ) (run : List (List ℕ)) (t : Train) (x
   badCount : (b : Brought) → medium ≡ mediumOf b → runCount count ≡ false → r ≡ 16 → place ≡ 0 → SpeedGround medium count run t x r place
   -- the first segment that is not of good values has this ground
   own : (b : Brought) → medium ≡ mediumOf b → runCount count ≡ true → RunGround (SegmentGround b) (SegmentOfValues b) r place run → SpeedGround medium count run t x r place
-  -- "10: train length or cant deficiency not allowed"
+  -- "10: train length or cant deficiency not allowed"; "10 also covers a maximum outside its range"
   badTrain : (b : Brought) → medium ≡ mediumOf b → runCount count ≡ true → RunOfValues b run → validTrain t ≡ false → r ≡ 10 → place ≡ 0
       → SpeedGround medium count run t x r place
   -- "11: x at or past L_SP"

@@ -8,7 +8,7 @@ use Rattle.grammar.specs.segment.Segment.{wireChanges}
 use Rattle.grammar.specs.segment.Judgement.{toPacket, toSheet}
 use Rattle.grammar.specs.segment.Desk.{packetWith, firstPacket, firstSheet, counting}
 use Rattle.speed.specs.declared.Train.{Train}
-use Rattle.speed.specs.Desk.{trainOf, plain}
+use Rattle.speed.specs.Desk.{trainUpTo, trainOf, plain}
 use Rattle.speed_question.specs.declared.Speed.{Speed}
 use Rattle.speed_question.specs.Question.{permittedSpeed}
 use Rattle.convert.specs.Convert.{Outcome}
@@ -73,12 +73,17 @@ abbrev questions : ℕ → List (List ℕ) → List (List ℕ) → List ℕ → 
 questions medium before [] s = askedRun medium (before ++ s ∷ []) (trainOf 0 80 false false false) 1 ∷ askedRun medium (before ++ s ∷ []) plain 1 ∷ []
 questions medium before (r ∷ l) s = askedRun medium (before ++ r ∷ []) plain 0 ∷ questions medium before l s
 
+-- 10, "a maximum outside its range": the answers about a run, past L_SP of the last, to trains with the maximum 0 and 601
+abbrev maxima : ℕ → List (List ℕ) → List Speed
+maxima medium run = map (λ m. askedRun medium run (trainUpTo m 200 80 false false false) 1) (0 ∷ 601 ∷ [])
+
 -- 15, "a kind that is neither": 2, with no segment and a train of no length; 16, "a run of none or more than 4": of none, and of five without a byte;
--- then the refusals of a packet and of a sheet, after n accepted segments
+-- 10 for a maximum, of n + 1 accepted packets and sheets; then the refusals of a packet and of a sheet, after n accepted segments
 abbrev pub askedSpeeds : ℕ → List Speed
 askedSpeeds n =
     askedRun 2 [] (trainOf 0 80 false false false) 1 ∷ askedRun 0 [] plain 0 ∷ askedRun 1 (replicate 5 []) plain 0
-    ∷ questions 0 (replicate n firstPacket) refusedPackets firstPacket ++ questions 1 (replicate n firstSheet) (refusedSheets ++ [] ∷ []) firstSheet
+    ∷ maxima 0 (replicate (suc n) firstPacket) ++ maxima 1 (replicate (suc n) firstSheet)
+    ++ questions 0 (replicate n firstPacket) refusedPackets firstPacket ++ questions 1 (replicate n firstSheet) (refusedSheets ++ [] ∷ []) firstSheet
 
 -- "judged when the radio says the packet is complete": each packet that is refused, in a room that holds it; then 8, where "the deliveries together exceeded the room"
 abbrev pub completions : List Intake

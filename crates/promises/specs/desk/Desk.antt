@@ -6,7 +6,7 @@ use lib.IntN.{pos, negsuc}
 use lib.ListN.{length, replicate, take, drop}
 use Rattle.grammar.specs.segment.Desk.{Question, askSheetOf, askPacketOf, Reply, bytes, refusal, packetWith, firstPacket, firstSheet, conversions}
 use Rattle.speed.specs.declared.Train.{Train}
-use Rattle.speed.specs.Desk.{trainOf, plain, canted}
+use Rattle.speed.specs.Desk.{trainUpTo, trainOf, plain, canted}
 use Rattle.convert.specs.Convert.{Outcome, packetToSheet, sheetToPacket}
 use Rattle.speed_question.specs.declared.Speed.{Speed}
 use Rattle.speed_question.specs.Question.{Brought, permittedSpeed}
@@ -312,6 +312,39 @@ runCases =
     ∷ record { said = speedSaid (permittedSpeed 1 2 (slow Brought.sheet) (fast Brought.sheet) [] brokenSheet plain 199); due = speedSaid (record { refusal = 0; place = 0; speed = 63 }) }
     ∷ []
 
+-- ---- A10: "A train's own top speed"
+
+-- 100 km/h with Q_FRONT 0
+abbrev pub hundred : Brought → List ℕ
+hundred b = even (0x64 ∷ []) 0 0x01 0x40 b
+
+-- 604 km/h in the sheet and 600 in the packet, with Q_FRONT 0
+abbrev pub fastest : Brought → List ℕ
+fastest b = even (0xDC ∷ 0x04 ∷ []) 0 0x07 0x80 b
+
+-- a train of 200 cm whose maximum is m km/h
+abbrev pub upTo : ℕ → Train
+upTo m = trainUpTo m 200 80 false false false
+
+-- the cases of a train's own maximum
+abbrev pub maximumCases : List Case
+maximumCases =
+    converts (askPacketOf (hundred Brought.sheet)) (bytes (hundred Brought.packet)) ∷ converts (askPacketOf (fastest Brought.sheet)) (bytes (fastest Brought.packet))
+    -- "Since 83 is allowed": it is not lowered to a multiple of 5
+    ∷ toldBoth (hundred ∷ []) (upTo 83) 0 0 83 83
+    -- "1 to 600 km/h"
+    ++ toldBoth (hundred ∷ []) (upTo 1) 0 0 1 1 ++ toldBoth (hundred ∷ []) (upTo 600) 0 0 100 100
+    -- "10 also covers a maximum outside its range", before 11
+    ++ toldBoth (hundred ∷ []) (upTo 0) 0 10 0 0 ++ toldBoth (hundred ∷ []) (upTo 601) 0 10 0 0
+    ++ toldBoth (hundred ∷ []) (upTo 4294967295) 0 10 0 0 ++ toldBoth (hundred ∷ []) (upTo 601) 1000 10 0 0 ++ toldBoth (hundred ∷ []) (upTo 83) 1000 11 0 0
+    -- "the lower of the card's maximum and the greatest multiple of 5 not above the profile's speed": 63 gives 60, and 62 does not
+    ++ toldBoth (slow ∷ []) (upTo 62) 0 0 62 60 ++ toldBoth (slow ∷ []) (upTo 59) 0 0 59 59 ++ toldBoth (slow ∷ []) (upTo 83) 0 0 63 60
+    -- 604 in a profile, and no answer above 600
+    ++ toldBoth (fastest ∷ []) (upTo 600) 0 0 600 600 ++ toldBoth (fastest ∷ []) (upTo 599) 0 0 599 599
+    -- "for runs too"
+    ++ toldBoth (slow ∷ fast ∷ []) (upTo 83) 199 0 63 60 ++ toldBoth (slow ∷ fast ∷ []) (upTo 83) 200 0 83 83
+    ++ toldBoth (slow ∷ fast ∷ []) (upTo 0) 1000 10 0 0
+
 -- "The (P) cases form a single table proved by a single statement"
 abbrev pub desk : List Case
 desk =
@@ -337,3 +370,4 @@ desk =
     ++ constraintCases
     ++ wireCases
     ++ runCases
+    ++ maximumCases
