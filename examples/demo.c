@@ -9,10 +9,10 @@ static const struct {
     const char *name;
     seglink_train train;
 } TRAINS[] = {
-    {"passenger, 15 m, 150 mm", {.length = 1500, .cant = 150, .passenger = true}},
-    {"passenger, 15 m, 180 mm", {.length = 1500, .cant = 180, .passenger = true}}, // has no entry of its own: falls to 150 mm
-    {"freight P, 25 m, 130 mm", {.length = 2500, .cant = 130, .freight_p = true}},
-    {"freight G, 40 m,  80 mm", {.length = 4000, .cant = 80, .freight_g = true}},
+    {"passenger, 15 m, 150 mm, 160 km/h", {.length = 1500, .cant = 150, .maximum = 160, .passenger = true}},
+    {"passenger, 15 m, 180 mm, 160 km/h", {.length = 1500, .cant = 180, .maximum = 160, .passenger = true}}, // has no entry of its own: falls to 150 mm
+    {"freight P, 25 m, 130 mm,  83 km/h", {.length = 2500, .cant = 130, .maximum = 83, .freight_p = true}},
+    {"freight G, 40 m,  80 mm, 100 km/h", {.length = 4000, .cant = 80, .maximum = 100, .freight_g = true}},
 };
 static const uint32_t PLACES[] = {6000, 11800}, NEXT_PLACES[] = {300, 1800, 4500};
 enum { JOURNEY = 4 };

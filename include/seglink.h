@@ -1,4 +1,5 @@
-// The eight operations of the segment link, for C11 and C++: link with libseglink.a, which `rt staticlib seglink` writes for x86-64.
+// The operations of the segment link, for C11 and C++: link with libseglink.a, which `rt staticlib seglink` writes for x86-64.
+// This is the interface number 10: it links with an archive of that number and with no other.
 // A packet or a sheet is of a segment (packet number 6) or of a journey (packet number 4). The conversions and the intake take both; the questions
 // on speed and altitude take a segment alone. A segment has up to 31 changes of speed, 31 of voltage and 31 of current.
 //
@@ -19,6 +20,9 @@
 #ifdef __cplusplus
 extern "C" {
 #endif
+
+// Number of this interface: it rises whenever a name, a layout or a meaning here changes.
+#define SEGLINK_INTERFACE 10
 
 // Why an operation refused: the numbers of the build definition, each with its ground.
 //
@@ -53,7 +57,7 @@ enum {
     SEGLINK_PADDING_BIT = 7,     // a padding bit is 1
     SEGLINK_SHORT_ROOM = 8,      // the result is longer than the lent room, or a packet's deliveries together are
     SEGLINK_SHEET_FORM = 9,      // a sheet ends too soon, has bytes left, or a number is not in its shortest form or not below 4,294,967,296
-    SEGLINK_TRAIN_VALUE = 10,    // the train's length or cant deficiency is not allowed
+    SEGLINK_TRAIN_VALUE = 10,    // the train's length, cant deficiency or maximum is not allowed
     SEGLINK_PAST_END = 11,       // x is at or past L_SP of the run's last segment
     SEGLINK_LONG_BODY = 12,      // a sheet's body would exceed 65,535 bits
     SEGLINK_BITS_LEFT = 13,      // bits of the body are left after the last field
@@ -83,7 +87,7 @@ typedef struct {
     uint32_t refusal, place, length;
 } seglink_converted;
 
-// Answer to a speed question: 0, 0 and the speed in km/h; or a refusal, its place and 0.
+// Answer to a speed question: 0, 0 and the speed in km/h, 0 to 600; or a refusal, its place and 0.
 typedef struct {
     uint32_t refusal, place, speed;
 } seglink_speed;
@@ -94,12 +98,13 @@ typedef struct {
     int32_t altitude;
 } seglink_altitude;
 
-// A train: its length in cm, 1 to 150,000; its cant deficiency in mm, 80, 100, 130, 150, 165, 180, 210, 225, 245, 275 or 300 (any other length
-// or cant deficiency is refused with 10); whether it is freight in P position, freight in G position, a passenger train.
+// A train: its length in cm, 1 to 150,000; its cant deficiency in mm, 80, 100, 130, 150, 165, 180, 210, 225, 245, 275 or 300; its own top speed in
+// km/h, 1 to 600 (any other length, cant deficiency or maximum is refused with 10); whether it is freight in P position, freight in G position, a
+// passenger train.
 // An element's entries with Q_DIFF 0 count if they name the train's cant deficiency or, if no entry does, the greatest figure below it. The lowest
 // speed of the entries that count is taken; V_STATIC if none counts. With entries for 100 and 165, a train of 150 mm has the speed of the entry for 100.
 typedef struct {
-    uint32_t length, cant;
+    uint32_t length, cant, maximum;
     bool freight_p, freight_g, passenger;
 } seglink_train;
 
@@ -122,7 +127,8 @@ seglink_converted seglink_sheet_to_packet(const uint8_t *sheet, size_t sheet_len
 
 // Returns the permitted speed of `train` at `x` cm from the start of the last segment of a run: the first `count` of the four segments, in order of
 // travel. Their elements are laid end to end; each ends where the next starts, across boundaries too. An element with Q_FRONT 0 holds for the train's
-// length past its end, over several short segments if need be: so the segments on which the tail still stands are to be lent.
+// length past its end, over several short segments if need be: so the segments on which the tail still stands are to be lent. No answer is above the
+// train's maximum, which need be no multiple of 5.
 // `kind` says what the segments are: 0 packets, whose speeds are multiples of 5 km/h, 1 sheets, whose speeds are in km/h. The same segment may stand
 // twice; NID_C, NID_SP, version and D_EoA_Offset play no part.
 // Any kind, count, bytes, train and x may be handed over. A kind that is neither is refused with 15, first of all, and a count of 0 or above 4 with
@@ -161,6 +167,22 @@ seglink_intake seglink_intake_complete(seglink_intake intake, const uint8_t *roo
 // fewer bytes than an accepted packet, the refusal is 14 at 0. If the verdict was a refusal, the answer is its number and place again. A refusal
 // leaves the room as it was.
 seglink_converted seglink_intake_sheet(seglink_intake intake, const uint8_t *taken, size_t taken_len, uint8_t *room, size_t room_len);
+
+// Returns the number of the archive's interface, which is SEGLINK_INTERFACE: an archive of another number does not link with this header.
+uint32_t seglink_version(void);
+
+// The symbol of this number. Every object that includes this header refers to it, by a pointer that stays where unused sections are removed; so an
+// object that was built with another number's header does not link ("undefined reference to `seglink_interface_..`"), and is to be built again.
+uint32_t seglink_interface_10(void);
+#ifdef __has_attribute
+#if __has_attribute(retain)
+#define SEGLINK_KEPT __attribute__((used, retain))
+#endif
+#endif
+#ifndef SEGLINK_KEPT
+#define SEGLINK_KEPT __attribute__((used))
+#endif
+static uint32_t (*const seglink_interface)(void) SEGLINK_KEPT = seglink_interface_10;
 
 #ifdef __cplusplus
 }

@@ -1,5 +1,5 @@
 // Calls the static library from C: both conversions of segments and journeys, the intake, the questions' refusals, speeds by kind, by cant
-// deficiency and on runs of segments, and null with length 0.
+// deficiency, by the train's maximum and on runs of segments, null with length 0, and the interface's number.
 // Checks the answers against packets, sheets, states, places and speeds that are written here from the build definition. 'time' measures times instead.
 #define _DEFAULT_SOURCE
 #include <signal.h>
@@ -1045,7 +1045,7 @@ static void damaged_sheets(void)
 // ---- Speeds by cant deficiency, worked out by hand
 
 // Speeds at 0 cm of the desk sheet, 80 km/h, with entries from the byte 19 on: from the sheet, and from its packet. The sheet's last six numbers are 0.
-#define MM(figure) {.length = 200, .cant = figure}
+#define MM(figure) {.length = 200, .cant = figure, .maximum = 600}
 #define FOR_100_AND_165 2, BYTES("\x00\x64\x6E\x00\xA5\x01\x82\x01")
 #define BESIDE_CATEGORIES 3, BYTES("\x00\x64\x70\x01\x01\x8C\x01\x02\x02\x68")
 static const struct { const char *name; uint8_t count; const char *entries; size_t length; seglink_train train; uint32_t sheet, packet; } BY_CANT[] = {
@@ -1063,8 +1063,8 @@ static const struct { const char *name; uint8_t count; const char *entries; size
     {"lower figures, the greater of them faster", 2, BYTES("\x00\x50\x3C\x00\x82\x01\x78"), MM(150), 120, 120},
     {"lower figures, the greater of them slower", 2, BYTES("\x00\x50\x78\x00\x82\x01\x3C"), MM(150), 60, 60},
     {"a lower figure beside categories", BESIDE_CATEGORIES, MM(150), 112, 110},
-    {"a lower figure, and freight G instead", BESIDE_CATEGORIES, {.length = 200, .cant = 150, .freight_g = true}, 140, 140},
-    {"a lower figure, and passenger lower", BESIDE_CATEGORIES, {.length = 200, .cant = 150, .passenger = true}, 104, 100},
+    {"a lower figure, and freight G instead", BESIDE_CATEGORIES, {.length = 200, .cant = 150, .maximum = 600, .freight_g = true}, 140, 140},
+    {"a lower figure, and passenger lower", BESIDE_CATEGORIES, {.length = 200, .cant = 150, .maximum = 600, .passenger = true}, 104, 100},
 };
 
 static void speeds_by_cant(void)
@@ -1082,6 +1082,42 @@ static void speeds_by_cant(void)
     }
 }
 
+// ---- Speeds by the train's maximum
+
+// Speeds at 0 cm of the desk's segment with another V_STATIC, and a train with a maximum: from the packet and from the sheet.
+static const struct { uint32_t profile, maximum, packet, sheet; } BY_MAXIMUM[] = {
+    {100, 83, 83, 83}, {85, 83, 83, 83}, {84, 83, 80, 83}, {83, 83, 80, 83}, {82, 83, 80, 82}, {80, 83, 80, 80}, {80, 80, 80, 80},
+    {100, 1, 1, 1}, {4, 1, 0, 1}, {1, 1, 0, 1}, {0, 1, 0, 0}, {604, 600, 600, 600}, {600, 600, 600, 600}, {599, 600, 595, 599},
+    {604, 599, 599, 599}, {600, 599, 599, 599}, {604, 2, 2, 2},
+};
+
+// Maxima that are not allowed; the low bits of some are those of one that is.
+static const uint32_t NO_MAXIMA[] = {0, 601, 604, 605, 65536, 65619, 0x80000053, 0xFFFFFFFF};
+
+static void speeds_by_maximum(struct fields *s)
+{
+    static const char name[] = "a train's maximum", refused[] = "a maximum that is not allowed";
+    seglink_train train = {.length = 200, .cant = 150};
+    for (size_t i = 0; i < sizeof BY_MAXIMUM / sizeof *BY_MAXIMUM; ++i) {
+        desk(s, BY_MAXIMUM[i].profile);
+        struct bytes packet = packet_of(s), sheet = sheet_of(s, false);
+        train.maximum = BY_MAXIMUM[i].maximum;
+        kinds_asked(name, SEGLINK_KIND_PACKET, &packet, train, 0, (seglink_speed){0, 0, BY_MAXIMUM[i].packet});
+        kinds_asked(name, SEGLINK_KIND_SHEET, &sheet, train, 0, (seglink_speed){0, 0, BY_MAXIMUM[i].sheet});
+        speed_asked(name, SEGLINK_KIND_SHEET, &sheet, train, 1, (seglink_speed){11, 0, 0});
+    }
+    for (size_t i = 0; i < sizeof NO_MAXIMA / sizeof *NO_MAXIMA; ++i) {
+        struct bytes cut = desk_sheet;
+        cut.length = 24;
+        train.maximum = NO_MAXIMA[i];
+        for (uint32_t x = 0; x < 2; ++x) {
+            speed_asked(refused, SEGLINK_KIND_PACKET, &desk_packet, train, x, (seglink_speed){10, 0, 0});
+            speed_asked(refused, SEGLINK_KIND_SHEET, &desk_sheet, train, x, (seglink_speed){10, 0, 0});
+            speed_asked(refused, SEGLINK_KIND_SHEET, &cut, train, x, (seglink_speed){9, 24, 0});
+        }
+    }
+}
+
 // ---- Speeds by kind
 
 // Bytes that are a packet of 81,924 cm and 105 km/h, and also a sheet of 100 cm and 84 km/h with five entries for freight P.
@@ -1092,7 +1128,7 @@ static const struct bytes packet_and_sheet = {
 // Questions about bytes as a packet and as a sheet; a train that is not allowed is refused before x.
 static const struct { const char *name; const struct bytes *asked; seglink_train train; uint32_t x; seglink_speed packet, sheet; } BY_KIND[] = {
     {"a packet that is a sheet too, at 0", &packet_and_sheet, MM(150), 0, {0, 0, 105}, {0, 0, 84}},
-    {"a packet that is a sheet too, freight P", &packet_and_sheet, {.length = 200, .cant = 150, .freight_p = true}, 0, {0, 0, 105}, {0, 0, 80}},
+    {"a packet that is a sheet too, freight P", &packet_and_sheet, {.length = 200, .cant = 150, .maximum = 600, .freight_p = true}, 0, {0, 0, 105}, {0, 0, 80}},
     {"a packet that is a sheet too, at 99", &packet_and_sheet, MM(150), 99, {0, 0, 105}, {0, 0, 84}},
     {"a packet that is a sheet too, at 100", &packet_and_sheet, MM(150), 100, {0, 0, 105}, {11, 0, 0}},
     {"a packet that is a sheet too, at 81,924", &packet_and_sheet, MM(150), 81924, {11, 0, 0}, {11, 0, 0}},
@@ -1673,7 +1709,7 @@ static void run_asked(const char *name, uint32_t kind, uint32_t count, const str
 }
 
 // Runs with the speed that their sheets give a train of `length` cm at x; their packets give the greatest multiple of 5 not above it. Past the
-// count the desk's segments are lent too, which are slower than most of these.
+// count the desk's segments are lent too, which are slower than most of these. Each run is asked with slower trains too.
 #define SLOW {1000, 43, 0, 0, 0}
 #define FAST {1000, 104, 0, 0, 0}
 #define TURNS_SLOW {1000, 104, 0, 800, 43}
@@ -1704,6 +1740,25 @@ static const struct { const char *name; uint32_t count; struct plan segment[LENT
     {"three segments left", 4, {SLOW, SLOW, SLOW, FAST}, 200, 999, 104},
 };
 
+static uint32_t lower(uint32_t a, uint32_t b)
+{
+    return a < b ? a : b;
+}
+
+// Asks about a run with trains of other maxima; `speed` is the profile's from the sheets.
+static void slower_trains(uint32_t count, const struct bytes packet[LENT], const struct bytes sheet[LENT], seglink_train train, uint32_t x, uint32_t speed)
+{
+    static const char name[] = "a run with a train's maximum";
+    static const uint32_t MAXIMA[] = {1, 41, 83, 103};
+    for (size_t i = 0; i < sizeof MAXIMA / sizeof *MAXIMA; ++i) {
+        train.maximum = MAXIMA[i];
+        run_asked(name, SEGLINK_KIND_PACKET, count, packet, train, x, (seglink_speed){0, 0, lower(train.maximum, speed / 5 * 5)});
+        run_asked(name, SEGLINK_KIND_SHEET, count, sheet, train, x, (seglink_speed){0, 0, lower(train.maximum, speed)});
+    }
+    train.maximum = 601;
+    run_asked(name, SEGLINK_KIND_SHEET, count, sheet, train, x, (seglink_speed){10, 0, 0});
+}
+
 static void speeds_of_runs(struct fields *s)
 {
     static struct bytes packet[LENT], sheet[LENT];
@@ -1713,9 +1768,10 @@ static void speeds_of_runs(struct fields *s)
             packet[j] = packet_of(s);
             sheet[j] = sheet_of(s, false);
         }
-        seglink_train train = {.length = RUNS[i].length, .cant = 150};
+        seglink_train train = {.length = RUNS[i].length, .cant = 150, .maximum = 600};
         run_asked(RUNS[i].name, SEGLINK_KIND_PACKET, RUNS[i].count, packet, train, RUNS[i].x, (seglink_speed){0, 0, RUNS[i].speed / 5 * 5});
         run_asked(RUNS[i].name, SEGLINK_KIND_SHEET, RUNS[i].count, sheet, train, RUNS[i].x, (seglink_speed){0, 0, RUNS[i].speed});
+        slower_trains(RUNS[i].count, packet, sheet, train, RUNS[i].x, RUNS[i].speed);
     }
 }
 
@@ -1740,7 +1796,7 @@ static void broken_from(struct bytes run[LENT], uint32_t kind, size_t place, siz
 static void broken_runs(void)
 {
     static struct bytes run[LENT];
-    seglink_train train = {.length = 200, .cant = 150};
+    seglink_train train = {.length = 200, .cant = 150, .maximum = 600};
     for (uint32_t kind = 0; kind < 2; ++kind)
         for (size_t place = 0; place < LENT; ++place)
             for (size_t first = 0; first < 3; ++first) {
@@ -1761,7 +1817,7 @@ static void ordered(void)
 {
     static struct bytes run[LENT];
     const struct lent none[LENT] = {{unreadable, 39}, {unreadable, SIZE_MAX}, {unreadable, 0}, {unreadable, 1}};
-    seglink_train train = {.length = 200, .cant = 150};
+    seglink_train train = {.length = 200, .cant = 150, .maximum = 600};
     for (uint32_t kind = 0; kind < 2; ++kind) {
         for (size_t i = 0; i < sizeof UNKNOWN_KINDS / sizeof *UNKNOWN_KINDS; ++i)
             for (uint32_t count = 0; count < 8; ++count)
@@ -1785,7 +1841,7 @@ static void past_the_last(struct fields *s)
     static struct bytes run[LENT];
     static const struct { struct plan segment[2]; uint32_t length, speed; } ENDS[] = {{{SLOW, {10, 80, 0, 0, 0}}, 10, 43}, {{{10, 80, 0, 0, 0}, FAST}, 1000, 104}};
     static const uint32_t LOCATIONS[] = {1000, 1009, 1010, 1011, 0x01000000, 0x80000000, 0xFFFFFFFF};
-    seglink_train train = {.length = 200, .cant = 150};
+    seglink_train train = {.length = 200, .cant = 150, .maximum = 600};
     for (size_t i = 0; i < 2; ++i) {
         for (size_t j = 0; j < 2; ++j) {
             planned(s, ENDS[i].segment[j]);
@@ -1832,7 +1888,7 @@ static void null_conversions(const char *name, conversion *convert, const struct
 
 static void null_questions(void)
 {
-    static const seglink_train train = {.length = 200, .cant = 150};
+    static const seglink_train train = {.length = 200, .cant = 150, .maximum = 600};
     static const struct bytes nothing;
     static const uint32_t refusals[] = {SEGLINK_SHORT_PACKET, SEGLINK_SHEET_FORM, SEGLINK_UNKNOWN_KIND};
     for (uint32_t kind = 0; kind < 3; ++kind) {
@@ -1883,17 +1939,30 @@ static void nulls(void)
 static void largest_asked(const struct fields *s)
 {
     static const char name[] = "the largest segment";
-    static const seglink_train train = {.length = 200, .cant = 300};
+    static const seglink_train train = {.length = 200, .cant = 300, .maximum = 600};
     struct bytes packet = packet_of(s), sheet = sheet_of(s, false);
     seglink_altitude altitude = seglink_altitude_of_packet(packet.byte, packet.length);
     check(name, "the refusal of its altitude", altitude.refusal, 0);
     check(name, "its altitude", (size_t)altitude.altitude, 948575);
     kinds_asked(name, SEGLINK_KIND_PACKET, &packet, train, 16777214, (seglink_speed){0, 0, 600});
-    kinds_asked(name, SEGLINK_KIND_SHEET, &sheet, train, 16777214, (seglink_speed){0, 0, 604});
+    kinds_asked(name, SEGLINK_KIND_SHEET, &sheet, train, 16777214, (seglink_speed){0, 0, 600});
+}
+
+// Checks the interface's number, and where a train's numbers lie.
+static void interface(void)
+{
+    static const char name[] = "the interface";
+    check(name, "the archive's number", seglink_version(), SEGLINK_INTERFACE);
+    check(name, "the number of its symbol", seglink_interface(), SEGLINK_INTERFACE);
+    check(name, "the size of a train", sizeof(seglink_train), 16);
+    check(name, "where the maximum lies", offsetof(seglink_train, maximum), 8);
+    check(name, "where the first membership lies", offsetof(seglink_train, freight_p), 12);
+    check(name, "where the last membership lies", offsetof(seglink_train, passenger), 14);
 }
 
 static int all_checks(struct fields *s)
 {
+    interface();
     smallest(s);
     sizes("the smallest segment", s, 185, 39, 23);
     both("the smallest segment", s, 0, 0);
@@ -1915,6 +1984,7 @@ static int all_checks(struct fields *s)
     damaged_packets();
     damaged_sheets();
     speeds_by_cant();
+    speeds_by_maximum(s);
     speeds_by_kind();
     journeys(s);
     intakes();

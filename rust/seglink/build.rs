@@ -1,6 +1,10 @@
-//! Finds the static library: in the folder that SEGLINK_LIB_DIR names, else in the repository's target/staticlib.
+//! Finds the static library: in the folder that SEGLINK_LIB_DIR names, else in the repository's target/staticlib. It must be of the crate's interface.
 use std::env;
-use std::path::PathBuf;
+use std::fs;
+use std::path::{Path, PathBuf};
+
+#[path = "src/interface.rs"]
+mod interface;
 
 fn main() {
     println!("cargo:rerun-if-env-changed=SEGLINK_LIB_DIR");
@@ -16,9 +20,22 @@ fn main() {
         "{} is missing: run `rt staticlib seglink`, or set SEGLINK_LIB_DIR to its folder",
         library.display()
     );
+    assert!(
+        has_interface(&library),
+        "{} is not of the interface {}: run `rt staticlib seglink`, or set SEGLINK_LIB_DIR to the folder of one that is",
+        library.display(),
+        interface::INTERFACE
+    );
     println!("cargo:rerun-if-changed={}", library.display());
     println!("cargo:rustc-link-search=native={}", folder.display());
     println!("cargo:rustc-link-lib=static=seglink");
+}
+
+/// Returns whether the library has the symbol of the interface's number: its names end with a byte 0.
+fn has_interface(library: &Path) -> bool {
+    let symbol = format!("seglink_interface_{}\0", interface::INTERFACE);
+    let bytes = fs::read(library).expect("the library can be read");
+    bytes.windows(symbol.len()).any(|part| part == symbol.as_bytes())
 }
 
 fn library_folder() -> PathBuf {

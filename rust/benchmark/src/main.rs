@@ -33,7 +33,7 @@ const JOURNEYS: [(&str, usize, Size); 3] = [
 const TAKEN_SEGMENTS: usize = 30;
 const TAKEN_JOURNEYS: usize = 12;
 const LARGEST_RESULT: usize = 15_226;
-const TRAIN: Train = Train { length: 20_000, cant: 150, freight_p: false, freight_g: true, passenger: false };
+const TRAIN: Train = Train { length: 20_000, cant: 150, maximum: 600, freight_p: false, freight_g: true, passenger: false };
 
 /// The operations that are measured. The conversions come first: journeys have only these.
 const OPERATIONS: [(Operation, &str); 4] = [

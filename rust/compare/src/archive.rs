@@ -27,6 +27,7 @@ struct Altitude {
 struct Card {
     length: u32,
     cant: u32,
+    maximum: u32,
     freight_p: bool,
     freight_g: bool,
     passenger: bool,
@@ -112,8 +113,8 @@ fn converted(Converted { refusal, place, length }: Converted) -> Answer {
 }
 
 fn card(train: &Train) -> Card {
-    let Train { length, cant, freight_p, freight_g, passenger } = *train;
-    Card { length, cant, freight_p, freight_g, passenger }
+    let Train { length, cant, maximum, freight_p, freight_g, passenger } = *train;
+    Card { length, cant, maximum, freight_p, freight_g, passenger }
 }
 
 fn state(Intake { phase, length, refusal, place }: Intake) -> State {

@@ -141,11 +141,15 @@ fn overwrite(bytes: &mut [u8], start: &[u8]) {
     bytes.iter_mut().zip(start).for_each(|(byte, other)| *byte = *other);
 }
 
-/// Draws a train, one time in eight a train that is not allowed.
+/// The highest maximum of a train in km/h.
+pub const FASTEST: u32 = 600;
+
+/// Draws a train, three times in sixteen a train that is not allowed.
 pub fn any_train(random: &mut Random, named: &[u32]) -> Train {
     let mut train = Train {
         length: if random.one_in(2) { random.with_ends(1, 1_000) } else { random.with_ends(1, 150_000) },
         cant: any_cant(random, named),
+        maximum: if random.one_in(3) { random.with_ends(1, FASTEST) } else { FASTEST },
         freight_p: random.one_in(2),
         freight_g: random.one_in(2),
         passenger: random.one_in(2),
@@ -153,6 +157,7 @@ pub fn any_train(random: &mut Random, named: &[u32]) -> Train {
     match random.between(0, 15) {
         0 => train.length = random.pick(&[0, 150_001, u32::MAX]),
         1 => train.cant = random.pick(&[0, 1, 10, 79, 81, 301, 336]),
+        2 => train.maximum = random.pick(&[0, 0, 601, 601, 604, 605, 65_536, 65_537, 0x8000_0001, u32::MAX]),
         _ => {}
     }
     train

@@ -1,7 +1,7 @@
 //! Checks one case with both programs, and the customer's demands directly.
 
 use crate::archive::Archive;
-use crate::case::{any_kind, any_location, any_train, Case};
+use crate::case::{any_kind, any_location, any_train, Case, FASTEST};
 use crate::draft::Kind;
 use crate::event::Event;
 use crate::lowered::lowered;
@@ -100,7 +100,8 @@ pub fn converted(convert: fn(&[u8], &mut [u8]) -> Answer, input: &[u8], size: us
     (answer.refusal == 0).then_some(room)
 }
 
-/// Compares the speeds at one location, and checks that the packet of a sheet gives the greatest multiple of 5 not above the sheet's speed.
+/// Compares the speeds at one location, and checks that the packet of a sheet gives the lower of the train's maximum and the greatest multiple of 5
+/// not above the profile's speed from the sheet.
 /// Then asks about the packet or the sheet as any kind: an unknown kind is refused first of all.
 fn speeds(
     random: &mut Random,
@@ -112,6 +113,9 @@ fn speeds(
     let ask = |kind, input| Question { operation: Operation::PermittedSpeed(kind), input, train: train.clone(), x };
     let by_packet = compare(random, &ask(KIND_PACKET, &case.packet), 0, tally)?;
     let by_sheet = compare(random, &ask(KIND_SHEET, &case.sheet), 0, tally)?;
+    for (kind, segment, answer) in [(KIND_PACKET, &case.packet, by_packet), (KIND_SHEET, &case.sheet, by_sheet)] {
+        count_maximum(kind, Run::one(segment), (&train, x), answer, tally);
+    }
     if let Some(draft) = case.whole.as_ref().filter(|_| by_sheet.refusal == 0) {
         let rest = draft.without_lower(train.cant);
         let (packet, sheet) = (rest.packet(), rest.sheet());
@@ -120,7 +124,8 @@ fn speeds(
     }
     if let Some(packet) = packet {
         let by_packet = Archive::permitted_speed(KIND_PACKET, Run::one(packet), &train, x);
-        require(by_packet == in_fives(by_sheet), "the speed from a sheet's packet is not the lowered speed from the sheet")?;
+        let lowered = lowered_answer(by_sheet, Run::one(&case.sheet), &train, x);
+        require(by_packet == lowered, "the speed from a sheet's packet is not the lowered speed from the sheet")?;
     }
     let (kind, (input, own)) = (any_kind(random), random.pick(&[(&case.packet, by_packet), (&case.sheet, by_sheet)]));
     let answer = compare(random, &ask(kind, input), 0, tally)?;
@@ -131,9 +136,17 @@ fn speeds(
     Ok(())
 }
 
-/// Returns the answer that a packet must give where its sheet gave `answer`: the greatest multiple of 5 not above the speed, or the refusal.
-pub fn in_fives(answer: Answer) -> Answer {
-    Answer { value: answer.value / 5 * 5, ..answer }
+/// Returns the answer that packets must give where their sheets gave `answer`: the lower of the train's maximum and the greatest multiple of 5 not
+/// above the profile's speed from the sheets; or the refusal. The fastest train gets the profile's speed, or 600 where that is above.
+pub fn lowered_answer(answer: Answer, sheets: Run, train: &Train, x: u32) -> Answer {
+    let fastest = Train { maximum: FASTEST, ..train.clone() };
+    match answer.refusal {
+        0 => {
+            let profile = Archive::permitted_speed(KIND_SHEET, sheets, &fastest, x);
+            Answer::success((profile.value / 5 * 5).min(train.maximum.into()))
+        }
+        _ => answer,
+    }
 }
 
 /// Counts an accepted conversion of a whole segment by its wire changes, and a sheet that is refused at a count of wire changes.
@@ -155,6 +168,21 @@ fn count_wires(operation: Operation, case: &Case, answer: &Answer, tally: &mut T
         let past = |byte: &u32| *answer == Answer::refused(4, *byte);
         tally.count_events(&[(Event::PastVoltages, past(voltages)), (Event::PastCurrents, past(currents))]);
     }
+}
+
+/// Counts an answered question by what the train's maximum did to the profile's speed.
+pub fn count_maximum(kind: u32, run: Run, (train, x): (&Train, u32), answer: Answer, tally: &mut Tally) {
+    if answer.refusal > 0 || train.maximum == FASTEST {
+        return;
+    }
+    let profile = Archive::permitted_speed(kind, run, &Train { maximum: FASTEST, ..train.clone() }, x).value;
+    let lowered = answer.value < profile;
+    tally.count_events(&[
+        (Event::PacketMaximum, lowered && kind == KIND_PACKET),
+        (Event::SheetMaximum, lowered && kind == KIND_SHEET),
+        (Event::OddMaximum, lowered && kind == KIND_PACKET && answer.value % 5 > 0),
+        (Event::HigherMaximum, profile < train.maximum.into()),
+    ]);
 }
 
 /// Counts a question of an unknown kind by the answer that the right kind of its bytes gives.

@@ -4,6 +4,7 @@ use crate::desk_cants;
 use crate::desk_constraints;
 use crate::desk_journeys;
 use crate::desk_kinds;
+use crate::desk_maxima;
 use crate::desk_wires;
 use crate::draft::{Draft, Kind};
 use crate::program::{Answer, Operation, Question, Train, KIND_PACKET, KIND_SHEET};
@@ -46,7 +47,7 @@ pub struct Plan {
 pub const DOCUMENT: Plan =
     Plan { seconds: 0, length: 1, speed: 80, front: 0, entries: &[], change: None, voltages: 0, currents: 0, current: 0 };
 pub const CHANGED: Plan = Plan { length: 1_000, speed: 100, change: Some(500), ..DOCUMENT };
-pub const TRAIN: Train = Train { length: 200, cant: 150, freight_p: true, freight_g: false, passenger: false };
+pub const TRAIN: Train = Train { length: 200, cant: 150, maximum: 600, freight_p: true, freight_g: false, passenger: false };
 
 pub fn draft(plan: Plan) -> Draft {
     let mut draft = Draft::default();
@@ -158,6 +159,7 @@ pub fn cases() -> Vec<Desk> {
     speeds(&mut cases);
     desk_cants::speeds(&mut cases);
     desk_kinds::speeds(&mut cases);
+    desk_maxima::speeds(&mut cases);
     cases.extend(desk_journeys::cases());
     cases.extend(desk_constraints::cases());
     desk_kinds::unknown(&mut cases);

@@ -39,7 +39,7 @@ const FIGURES: [(&str, Entries, Speeds); 14] = [
     ("the next figure above alone", &[(0, MM_165, 60)], &[(150, 100), (165, 60)]),
     ("lower figures, the greater of them faster", &[(0, MM_80, 60), (0, MM_130, 120)], &[(150, 120), (100, 60)]),
     ("lower figures, the greater of them slower", &[(0, MM_80, 120), (0, MM_130, 60)], &[(150, 60), (100, 120)]),
-    ("a lower figure of 600 km/h, and one of 0", &[(0, MM_100, 604), (0, MM_80, 0)], &[(150, 604), (80, 0)]),
+    ("a lower figure of 599 km/h, and one of 0", &[(0, MM_100, 599), (0, MM_80, 0)], &[(150, 599), (80, 0)]),
     ("the least figure and the next to the greatest", &[(0, MM_80, 90), (0, MM_275, 110)], &[(300, 110), (275, 110), (245, 90)]),
 ];
 

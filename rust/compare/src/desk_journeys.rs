@@ -185,7 +185,7 @@ fn too_long(cases: &mut Vec<Desk>) {
 
 /// Adds questions about journeys: they need a segment, and refuse before they judge the train and the fields after the packet number.
 fn questions(cases: &mut Vec<Desk>) {
-    let train = Train { length: 0, cant: 0, freight_p: false, freight_g: false, passenger: false };
+    let train = Train { length: 0, cant: 0, maximum: 0, freight_p: false, freight_g: false, passenger: false };
     let (bytes, numbers) = (passing().packet(), passing().sheet());
     for (operation, input) in [
         (Operation::PermittedSpeed(KIND_PACKET), bytes.clone()),

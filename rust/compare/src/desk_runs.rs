@@ -86,6 +86,7 @@ pub fn cases() -> Vec<RunDesk> {
         give(&mut cases, name, run, &TRAIN, speeds);
     }
     by_train(&mut cases);
+    by_maximum(&mut cases);
     the_longest(&mut cases);
     past_the_count(&mut cases);
     broken(&mut cases);
@@ -133,6 +134,22 @@ fn by_train(cases: &mut Vec<RunDesk>) {
         ("freight P in the segment before", TRAIN, 77),
     ] {
         give(cases, name, &run, &train, &[(0, speed), (199, speed), (200, 160)]);
+    }
+}
+
+/// Adds speeds by the train's maximum: below the segment before, between both, above both; and maxima that are not allowed, before x is judged.
+fn by_maximum(cases: &mut Vec<RunDesk>) {
+    let of = |maximum: u32| Train { maximum, ..TRAIN };
+    for (maximum, before, after) in
+        [(1, [1, 1], [1, 1]), (41, [40, 41], [41, 41]), (83, [40, 43], [83, 83]), (600, [40, 43], [100, 104])]
+    {
+        asked(cases, "a maximum, the tail before", &[SLOW, FAST], (&of(maximum), 199), before.map(Answer::success));
+        asked(cases, "a maximum, the tail past", &[SLOW, FAST], (&of(maximum), 200), after.map(Answer::success));
+    }
+    for maximum in [0, 601, u32::MAX] {
+        asked(cases, "a maximum that is not allowed", &[FAST; LENT], (&of(maximum), 1_000), [Answer::refused(10, 0); 2]);
+        let no_length = [Answer::refused(4, 178), Answer::refused(4, 12)];
+        asked(cases, "a maximum, after the last segment", &[FAST, FAST, plan(0, 80)], (&of(maximum), 1_000), no_length);
     }
 }
 

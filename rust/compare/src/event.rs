@@ -1,5 +1,5 @@
-//! Events of an intake in the random sequences and states, of a random speed question of an unknown kind or about a run, and of random counts of
-//! wire changes: each is counted, and must happen.
+//! Events of an intake in the random sequences and states, of a random speed question of an unknown kind, about a run or with a train's maximum, and
+//! of random counts of wire changes: each is counted, and must happen.
 
 #[derive(Clone, Copy)]
 pub enum Event {
@@ -70,6 +70,10 @@ pub enum Event {
     CountBroken,
     UnknownRun,
     UnknownCount,
+    PacketMaximum,
+    SheetMaximum,
+    OddMaximum,
+    HigherMaximum,
     PacketVoltages,
     PacketCurrents,
     SheetVoltages,
@@ -80,7 +84,7 @@ pub enum Event {
 }
 
 /// Each event with its words, in the order of the type.
-pub const EVENTS: [(Event, &str); 74] = [
+pub const EVENTS: [(Event, &str); 78] = [
     (Event::InParts, "packets accepted in several deliveries"),
     (Event::ByteByByte, "packets accepted byte by byte"),
     (Event::NothingOnTheWay, "deliveries of no bytes before a completion"),
@@ -148,6 +152,10 @@ pub const EVENTS: [(Event, &str); 74] = [
     (Event::CountBroken, "runs of none or more than four, and the first is no segment: 16"),
     (Event::UnknownRun, "runs of an unknown kind that its own would answer: 15"),
     (Event::UnknownCount, "runs of an unknown kind, of none or more than four: 15"),
+    (Event::PacketMaximum, "speeds from packets that the train's maximum lowers"),
+    (Event::SheetMaximum, "speeds from sheets that the train's maximum lowers"),
+    (Event::OddMaximum, "speeds from packets that are no multiple of 5"),
+    (Event::HigherMaximum, "speeds below the train's maximum"),
     (Event::PacketVoltages, "packets accepted with more than 23 voltage changes"),
     (Event::PacketCurrents, "packets accepted with more than 23 current changes"),
     (Event::SheetVoltages, "sheets accepted with more than 23 voltage changes"),

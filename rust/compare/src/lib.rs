@@ -10,6 +10,7 @@ pub mod desk_constraints;
 pub mod desk_intakes;
 pub mod desk_journeys;
 pub mod desk_kinds;
+pub mod desk_maxima;
 pub mod desk_runs;
 pub mod desk_wires;
 pub mod draft;

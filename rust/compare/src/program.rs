@@ -130,7 +130,7 @@ impl<'a> Question<'a> {
 
     /// Makes a question to an operation that needs no train.
     pub fn without_train(operation: Operation, input: &'a [u8]) -> Question<'a> {
-        let train = Train { length: 0, cant: 0, freight_p: false, freight_g: false, passenger: false };
+        let train = Train { length: 0, cant: 0, maximum: 0, freight_p: false, freight_g: false, passenger: false };
         Question { operation, input, train, x: 0 }
     }
 }

@@ -1,8 +1,8 @@
 //! Checks speed questions about random runs with both programs, and what is asked of runs directly.
 
 use crate::archive::Archive;
-use crate::case::any_kind;
-use crate::check::{converted, in_fives, require, LARGEST_PACKET};
+use crate::case::{any_kind, FASTEST};
+use crate::check::{converted, count_maximum, lowered_answer, require, LARGEST_PACKET};
 use crate::draft::CANTS;
 use crate::event::Event;
 use crate::program::{Answer, Program, Run, Train, KIND_PACKET, KIND_SHEET, LENT, UNKNOWN_KIND};
@@ -12,7 +12,7 @@ use crate::second_program::Second;
 use crate::tally::Tally;
 
 /// A train that is allowed.
-const TRAIN: Train = Train { length: 1, cant: 80, freight_p: false, freight_g: false, passenger: false };
+const TRAIN: Train = Train { length: 1, cant: 80, maximum: 600, freight_p: false, freight_g: false, passenger: false };
 const NO_RUN: Answer = Answer { refusal: 16, place: 0, value: 0 };
 
 /// Compares the answers about a random run.
@@ -35,6 +35,7 @@ fn checked(random: &mut Random, drawn: &Drawn, tally: &mut Tally) -> Result<(), 
         judged_in_order(kind, run, (train, x), answer, tally)?;
         if answer.refusal == 0 {
             answered(kind, drawn, answer, tally)?;
+            count_maximum(kind, run, (train, x), answer, tally);
         }
     }
     lowered(drawn, answers[KIND_SHEET as usize], tally)?;
@@ -82,7 +83,7 @@ fn judged_in_order(kind: u32, run: Run, (train, x): (&Train, u32), answer: Answe
 
 /// Counts a run that is refused for the segment at a place, by the answers of all its segments.
 fn count_broken(owns: &[Answer], place: usize, train: &Train, tally: &mut Tally) {
-    let allowed = (1..=150_000).contains(&train.length) && CANTS.contains(&train.cant);
+    let allowed = (1..=150_000).contains(&train.length) && CANTS.contains(&train.cant) && (1..=FASTEST).contains(&train.maximum);
     let other = |own: &Answer| own.refusal > 0 && *own != owns[place];
     let events = [Event::BrokenFirst, Event::BrokenSecond, Event::BrokenThird, Event::BrokenFourth];
     tally.count_events(&[
@@ -120,7 +121,8 @@ fn answered(kind: u32, drawn: &Drawn, answer: Answer, tally: &mut Tally) -> Resu
     Ok(())
 }
 
-/// Checks that the packets of a run's sheets give the greatest multiple of 5 not above the sheets' speed, or the sheets' refusal.
+/// Checks that the packets of a run's sheets give the lower of the train's maximum and the greatest multiple of 5 not above the profile's speed from
+/// the sheets, or the sheets' refusal.
 fn lowered(drawn: &Drawn, by_sheets: Answer, tally: &mut Tally) -> Result<(), String> {
     let packet = |sheet: &Vec<u8>| converted(Archive::sheet_to_packet, sheet, LARGEST_PACKET);
     let counted = drawn.sheets.iter().take(drawn.count as usize);
@@ -130,9 +132,11 @@ fn lowered(drawn: &Drawn, by_sheets: Answer, tally: &mut Tally) -> Result<(), St
     };
     let mut lent: [&[u8]; LENT] = [&[]; LENT];
     lent.iter_mut().zip(&packets).for_each(|(lent, packet)| *lent = packet);
-    let by_packets = Archive::permitted_speed(KIND_PACKET, Run { count: drawn.count, lent }, &drawn.train, drawn.x);
+    let (train, x) = (&drawn.train, drawn.x);
+    let by_packets = Archive::permitted_speed(KIND_PACKET, Run { count: drawn.count, lent }, train, x);
     tally.count_events(&[(Event::RunLowered, by_packets.value < by_sheets.value)]);
-    require(by_packets == in_fives(by_sheets), "the speed from the sheets' packets is not the lowered speed from the sheets")
+    let lowered = lowered_answer(by_sheets, drawn.run(KIND_SHEET), train, x);
+    require(by_packets == lowered, "the speed from the sheets' packets is not the lowered speed from the sheets")
 }
 
 /// Asks about the run as any kind: an unknown kind is refused first of all.

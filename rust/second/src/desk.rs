@@ -20,7 +20,7 @@ const SECONDS_BITS: (usize, u32) = (95, 17);
 pub const VOLTAGE_COUNT_BITS: (usize, u32) = (120 + 165, 5);
 pub const CURRENT_COUNT_BITS: (usize, u32) = (120 + 180, 5);
 
-pub const TRAIN: Train = Train { length: 200, cant: 80, freight_p: false, freight_g: false, passenger: false };
+pub const TRAIN: Train = Train { length: 200, cant: 80, maximum: 600, freight_p: false, freight_g: false, passenger: false };
 
 pub fn sheet(numbers: &[u32]) -> Vec<u8> {
     let mut sheet = Vec::new();
@@ -151,7 +151,7 @@ fn entries_replace_and_then_lower() {
     numbers.splice(SPEED_CHANGES - 1..SPEED_CHANGES, entries);
     let sheet = sheet(&numbers);
     let speed = |cant, freight_p, freight_g, passenger| {
-        permitted_speed_one(KIND_SHEET, &sheet, &Train { length: 1, cant, freight_p, freight_g, passenger }, 0)
+        permitted_speed_one(KIND_SHEET, &sheet, &Train { length: 1, cant, freight_p, freight_g, passenger, ..TRAIN }, 0)
     };
     assert_eq!(speed(80, false, false, false), Ok(80));
     assert_eq!(speed(100, false, false, false), Ok(120));

@@ -18,6 +18,8 @@ mod desk_journeys;
 #[cfg(test)]
 mod desk_kinds;
 #[cfg(test)]
+mod desk_maxima;
+#[cfg(test)]
 mod desk_places;
 #[cfg(test)]
 mod desk_runs;
@@ -60,7 +62,7 @@ pub const KIND_SHEET: u32 = 1;
 pub const LENT: usize = 4;
 
 /// Returns the permitted speed in km/h at location `x`, in cm, of the last segment of a run: the first `count` of the segments lent, in order of
-/// travel, all of one kind. A packet's speeds count 5 km/h, a sheet's 1 km/h.
+/// travel, all of one kind. A packet's speeds count 5 km/h, a sheet's 1 km/h; no speed is above the train's maximum.
 pub fn permitted_speed(kind: u32, count: u32, lent: [&[u8]; LENT], train: &Train, x: u32) -> Result<u32, Refused> {
     let read: fn(&[u8]) -> Result<Segment, Refused> = match kind {
         KIND_PACKET => packet_reading::segment_of,

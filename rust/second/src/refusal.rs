@@ -21,7 +21,7 @@ pub enum Refusal {
     Room = 8,
     /// A sheet ends too soon, has bytes left, or a number is not well formed.
     Sheet = 9,
-    /// The train's length or cant deficiency is not allowed.
+    /// The train's length, cant deficiency or maximum is not allowed.
     Train = 10,
     /// x is at or past L_SP of the run's last segment.
     PastEnd = 11,

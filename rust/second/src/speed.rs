@@ -7,6 +7,8 @@ use crate::segment::{Class, Element, Segment, CANTS};
 pub struct Train {
     pub length: u32,
     pub cant: u32,
+    /// The train's own top speed in km/h.
+    pub maximum: u32,
     pub freight_p: bool,
     pub freight_g: bool,
     pub passenger: bool,
@@ -14,7 +16,7 @@ pub struct Train {
 
 impl Train {
     fn is_allowed(&self) -> bool {
-        (1..=150_000).contains(&self.length) && CANTS.contains(&self.cant)
+        (1..=150_000).contains(&self.length) && CANTS.contains(&self.cant) && (1..=600).contains(&self.maximum)
     }
 
     /// Returns whether the train belongs to a category: 0 freight in P position, 1 freight in G position, 2 passenger.
@@ -23,7 +25,8 @@ impl Train {
     }
 }
 
-/// Returns the permitted speed in km/h of a train at location `x`, in cm, of the last segment of a run.
+/// Returns the permitted speed in km/h of a train at location `x`, in cm, of the last segment of a run: the profile's, or the train's maximum where
+/// that is lower.
 pub fn permitted(run: &[Segment], train: &Train, x: u32) -> Result<u32, Refused> {
     let (last, before) = run.split_last().expect("a run has a segment");
     if !train.is_allowed() {
@@ -35,7 +38,7 @@ pub fn permitted(run: &[Segment], train: &Train, x: u32) -> Result<u32, Refused>
     let location = before.iter().map(|segment| segment.length).sum::<u32>() + x;
     let holding = laid(run).into_iter().filter(|stretch| holds(stretch, train, location));
     let speed = holding.map(|stretch| speed_of(stretch.element, train)).min();
-    Ok(speed.expect("the elements together cover the run"))
+    Ok(speed.expect("the elements together cover the run").min(train.maximum))
 }
 
 /// An element, with its start and its end in cm from the run's start.

@@ -57,6 +57,7 @@ extern "C" {
         x: u32,
     ) -> Speed;
     fn seglink_altitude_of_packet(packet: *const u8, packet_len: usize) -> Altitude;
+    fn seglink_version() -> u32;
     fn seglink_intake_fresh() -> State;
     fn seglink_intake_deliver(intake: State, delivery: *const u8, delivery_len: usize, room: *mut u8, room_len: usize) -> State;
     fn seglink_intake_complete(intake: State, room: *const u8, room_len: usize) -> State;
@@ -89,6 +90,11 @@ pub(crate) fn permitted_speed(kind: u32, segments: &[&[u8]], train: Train, x: u3
 pub(crate) fn altitude_of_packet(packet: &[u8]) -> Altitude {
     // SAFETY: the pointer comes with its slice's length, is not null and is only read.
     unsafe { seglink_altitude_of_packet(packet.as_ptr(), packet.len()) }
+}
+
+pub(crate) fn version() -> u32 {
+    // SAFETY: nothing is handed over.
+    unsafe { seglink_version() }
 }
 
 pub(crate) fn intake_fresh() -> State {

@@ -12,6 +12,7 @@
 //! of the train replaces that speed, entries with Q_DIFF 2 can only lower it. The permitted speed is the lowest of the elements that hold.
 //! An element with Q_FRONT 0 holds for the train's length past its end. So a question takes a run of up to four segments, in order of travel, the
 //! last of them with the train's front: their elements are laid end to end, and those on which the tail still stands count.
+//! No permitted speed is above the train's own maximum.
 //!
 //! Any bytes may be handed over. An operation answers, or gives the one [`Refusal`] that the build definition names, with its place,
 //! and then a lent room keeps every byte it had.
@@ -26,7 +27,7 @@
 //! assert_eq!(seglink::sheet_of(&packet)?, sheet);
 //! assert_eq!(seglink::altitude_of_packet(&packet)?, -100_000);
 //!
-//! let train = Train { length: 200, cant: 150, freight_p: false, freight_g: false, passenger: true };
+//! let train = Train { length: 200, cant: 150, maximum: 600, freight_p: false, freight_g: false, passenger: true };
 //! assert_eq!(seglink::permitted_speed(Kind::Packet, &[&packet], train, 0)?, 80);
 //! assert_eq!(seglink::permitted_speed(Kind::Sheet, &[&sheet], train, 0)?, 80);
 //! assert_eq!(seglink::permitted_speed(Kind::Packet, &[&packet], train, 1).unwrap_err().refusal, Refusal::PastEnd);
@@ -36,6 +37,10 @@
 //! next[16] = 120;
 //! assert_eq!(seglink::permitted_speed(Kind::Sheet, &[&next], train, 0)?, 120);
 //! assert_eq!(seglink::permitted_speed(Kind::Sheet, &[&sheet, &next], train, 0)?, 80);
+//!
+//! // A slower train keeps to its own maximum.
+//! let slower = Train { maximum: 63, ..train };
+//! assert_eq!(seglink::permitted_speed(Kind::Packet, &[&packet], slower, 0)?, 63);
 //!
 //! packet[38] = 0x24; // two padding bits
 //! let refused = seglink::sheet_of(&packet).unwrap_err();
@@ -47,6 +52,7 @@
 
 mod boundary;
 mod intake;
+mod interface;
 mod kind;
 mod refusal;
 mod refused;
@@ -55,6 +61,7 @@ mod refused_first;
 mod train;
 
 pub use intake::Intake;
+pub use interface::INTERFACE;
 pub use kind::Kind;
 pub use refusal::Refusal;
 pub use refused::{Refused, Unit};
@@ -93,8 +100,9 @@ pub fn packet_of(sheet: &[u8]) -> Result<Vec<u8>, Refused> {
     filled(LARGEST_JOURNEY_PACKET, |room| sheet_to_packet(sheet, room))
 }
 
-/// Returns the permitted speed in km/h of a train at `x` cm from the start of the last segment of a run. The segments, one to four of them, are
-/// in order of travel and all of one kind; the same may stand twice. Packets' speeds are multiples of 5 km/h.
+/// Returns the permitted speed in km/h of a train at `x` cm from the start of the last segment of a run: the profile's speed, or the train's maximum
+/// where that is lower. The segments, one to four of them, are in order of travel and all of one kind; the same may stand twice. Packets' speeds
+/// are multiples of 5 km/h, a train's maximum need not be one.
 ///
 /// Refused, in this order: a run of none or more than four, of which none is read; the segments, one after the other, each with its own refusal
 /// at a place within it; the train; x at or past the end of the last segment.
@@ -107,6 +115,11 @@ pub fn permitted_speed(kind: Kind, segments: &[&[u8]], train: Train, x: u32) -> 
 pub fn altitude_of_packet(packet: &[u8]) -> Result<i32, Refused> {
     let asked = boundary::altitude_of_packet(packet);
     answer(asked.refusal, asked.place, Unit::Bit, asked.altitude)
+}
+
+/// Returns the number of the static library's interface, which is [`INTERFACE`].
+pub fn version() -> u32 {
+    boundary::version()
 }
 
 /// Lends a conversion a room of `size` bytes and returns the bytes that it wrote.

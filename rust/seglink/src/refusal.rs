@@ -23,7 +23,7 @@ pub enum Refusal {
     ShortRoom = 8,
     /// 9: a sheet ends too soon, has bytes left, or a number is not in its shortest form or not below 4,294,967,296.
     SheetForm = 9,
-    /// 10: the train's length or cant deficiency is not allowed.
+    /// 10: the train's length, cant deficiency or maximum is not allowed.
     TrainValue = 10,
     /// 11: x is at or past L_SP of the run's last segment.
     PastEnd = 11,
@@ -62,7 +62,7 @@ const GROUNDS: [(Refusal, &str); 16] = [
         Refusal::SheetForm,
         "a sheet ends too soon, has bytes left, or a number is not in its shortest form or not below 4,294,967,296",
     ),
-    (Refusal::TrainValue, "the train's length or cant deficiency is not allowed"),
+    (Refusal::TrainValue, "the train's length, cant deficiency or maximum is not allowed"),
     (Refusal::PastEnd, "x is at or past L_SP of the run's last segment"),
     (Refusal::LongBody, "a sheet's body would exceed 65,535 bits"),
     (Refusal::BitsLeft, "bits of the body are left after the last field"),

@@ -5,7 +5,7 @@ use crate::{answer, packet_of, Refusal, Train, Unit};
 
 /// The build definition's sample sheet.
 const SHEET: [u8; 25] = [6, 0xC5, 0xC6, 4, 1, 0, 0, 7, 0, 0, 0, 0, 1, 0, 0, 0, 80, 0, 0, 0, 0, 0, 0, 0, 0];
-const TRAIN: Train = Train { length: 200, cant: 150, freight_p: false, freight_g: false, passenger: true };
+const TRAIN: Train = Train { length: 200, cant: 150, maximum: 600, freight_p: false, freight_g: false, passenger: true };
 const NO_TRAIN: Train = Train { length: 0, cant: 0, ..TRAIN };
 
 /// Checks that a question is refused with a number at 0, whatever the segment, the train and x are.

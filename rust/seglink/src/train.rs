@@ -10,6 +10,8 @@ pub struct Train {
     ///
     /// If no entry of an element names it, the entries of the greatest figure below it count; V_STATIC counts if there are none.
     pub cant: u32,
+    /// The train's own top speed in km/h, 1 to 600: no permitted speed is above it.
+    pub maximum: u32,
     /// Whether it is freight in P position.
     pub freight_p: bool,
     /// Whether it is freight in G position.

@@ -1,5 +1,8 @@
-//! Tests that the C header and this crate name the same refusals, grounds, kinds and sizes.
-use seglink::{Kind, Refusal, LARGEST_JOURNEY_PACKET, LARGEST_JOURNEY_SHEET, LARGEST_PACKET, LARGEST_SHEET, SMALLEST_PACKET};
+//! Tests that the C header and this crate name the same interface, refusals, grounds, kinds and sizes.
+use seglink::{
+    version, Kind, Refusal, INTERFACE, LARGEST_JOURNEY_PACKET, LARGEST_JOURNEY_SHEET, LARGEST_PACKET, LARGEST_SHEET,
+    SMALLEST_PACKET,
+};
 
 const HEADER: &str = include_str!("../../../../include/seglink.h");
 
@@ -13,6 +16,13 @@ fn constants() -> Vec<(&'static str, u32, &'static str)> {
             Some((name, value.trim().trim_end_matches(',').parse().ok()?, comment.trim()))
         })
         .collect()
+}
+
+#[test]
+fn the_interface_has_one_number() {
+    assert_eq!(version(), INTERFACE);
+    assert!(HEADER.contains(&format!("\n#define SEGLINK_INTERFACE {INTERFACE}\n")));
+    assert!(HEADER.contains(&format!(" = seglink_interface_{INTERFACE};\n")));
 }
 
 /// Returns the Rust name of a C name: ShortPacket for SHORT_PACKET.

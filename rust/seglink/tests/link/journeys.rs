@@ -176,7 +176,7 @@ fn a_damaged_journey_is_refused_at_its_place() {
 
 #[test]
 fn a_question_needs_a_segment() {
-    let train = Train { length: 0, cant: 0, freight_p: false, freight_g: false, passenger: false };
+    let train = Train { length: 0, cant: 0, maximum: 0, freight_p: false, freight_g: false, passenger: false };
     for fields in [journey(0, 0, 0), journey(1, 1, 0), journey(1, 1, 1)] {
         assert_eq!(told(permitted_speed(Kind::Packet, &[&packet(&fields)], train, 0)), Err((Refusal::PacketNumber, 0)));
         assert_eq!(told(permitted_speed(Kind::Sheet, &[&sheet(&fields)], train, 0)), Err((Refusal::PacketNumber, 0)));

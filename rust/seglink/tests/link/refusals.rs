@@ -4,7 +4,7 @@ use crate::told;
 use seglink::{altitude_of_packet, packet_to_sheet, permitted_speed, sheet_to_packet, Kind, Refusal, Train};
 use std::error::Error;
 
-const TRAIN: Train = Train { length: 200, cant: 150, freight_p: false, freight_g: false, passenger: true };
+const TRAIN: Train = Train { length: 200, cant: 150, maximum: 600, freight_p: false, freight_g: false, passenger: true };
 
 /// Checks that all three operations on a packet refuse it alike, and that the room stays as it was.
 pub fn refuses_packet(given: &[u8], refusal: Refusal, place: u32) {
@@ -110,6 +110,9 @@ fn train_value() {
         Train { length: 150_001, ..TRAIN },
         Train { cant: 0, ..TRAIN },
         Train { cant: 151, ..TRAIN },
+        Train { maximum: 0, ..TRAIN },
+        Train { maximum: 601, ..TRAIN },
+        Train { maximum: u32::MAX, ..TRAIN },
     ];
     for train in refused {
         assert_eq!(told(permitted_speed(Kind::Packet, &[&DESK_PACKET], train, 1)), Err((Refusal::TrainValue, 0)));

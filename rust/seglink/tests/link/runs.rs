@@ -4,7 +4,7 @@ use crate::told;
 use seglink::{permitted_speed, Kind, Refusal, Train};
 
 /// A train of 200 cm.
-const SHUTTLE: Train = Train { length: 200, cant: 150, freight_p: false, freight_g: false, passenger: false };
+const SHUTTLE: Train = Train { length: 200, cant: 150, maximum: 600, freight_p: false, freight_g: false, passenger: false };
 
 /// Returns a segment of one element by its length in cm, its km/h and its Q_FRONT.
 fn plain(length: u32, kmh: u32, front: u32) -> Vec<Field> {
@@ -60,6 +60,16 @@ fn the_same_segment_may_stand_twice() {
     let ends_slow = segment(1000, 0, &element(100, 0, &[]), &[(800, element(40, 0, &[]))]);
     assert_eq!(permitted(&[ends_slow.clone()], 0), 100);
     assert_eq!(permitted(&[ends_slow.clone(), ends_slow], 0), 40);
+}
+
+#[test]
+fn the_train_s_maximum_holds_on_a_run() {
+    let run = [sheet(&plain(1000, 43, 0)), sheet(&plain(1000, 104, 0))];
+    for (maximum, tail_before, tail_past) in [(1, 1, 1), (42, 42, 42), (83, 43, 83), (600, 43, 104)] {
+        let train = Train { maximum, ..SHUTTLE };
+        assert_eq!(permitted_speed(Kind::Sheet, &lent(&run), train, 199), Ok(tail_before), "{maximum}");
+        assert_eq!(permitted_speed(Kind::Sheet, &lent(&run), train, 200), Ok(tail_past), "{maximum}");
+    }
 }
 
 #[test]

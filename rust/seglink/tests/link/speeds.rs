@@ -3,7 +3,7 @@ use crate::segments::{element, packet, segment, sheet, Field, DESK_PACKET, DESK_
 use crate::told;
 use seglink::{permitted_speed, Kind, Refusal, Train};
 
-const SHUTTLE: Train = Train { length: 200, cant: 150, freight_p: false, freight_g: false, passenger: false };
+const SHUTTLE: Train = Train { length: 200, cant: 150, maximum: 600, freight_p: false, freight_g: false, passenger: false };
 
 /// Returns the speed from the packet, and checks that the sheet gives it too; all speeds are multiples of 5.
 fn permitted(fields: &[Field], train: Train, x: u32) -> u32 {
@@ -84,6 +84,23 @@ fn categories_replace_and_lower_a_lower_figure_s_speed() {
 }
 
 #[test]
+fn the_train_s_maximum_is_no_multiple_of_5() {
+    for (kmh, maximum, of_packet, of_sheet) in [
+        (100, 83, 83, 83),
+        (84, 83, 80, 83),
+        (82, 83, 80, 82),
+        (100, 1, 1, 1),
+        (4, 1, 0, 1),
+        (604, 600, 600, 600),
+        (604, 599, 599, 599),
+    ] {
+        let (fields, train) = (segment(1000, 0, &element(kmh, 0, &[]), &[]), Train { maximum, ..SHUTTLE });
+        assert_eq!(permitted_speed(Kind::Packet, &[&packet(&fields)], train, 0), Ok(of_packet), "{kmh}, {maximum}");
+        assert_eq!(permitted_speed(Kind::Sheet, &[&sheet(&fields)], train, 0), Ok(of_sheet), "{kmh}, {maximum}");
+    }
+}
+
+#[test]
 fn a_sheet_answers_with_its_own_speeds() {
     let fields = segment(1000, 0, &element(84, 0, &[]), &[]);
     assert_eq!(permitted_speed(Kind::Sheet, &[&sheet(&fields)], SHUTTLE, 0), Ok(84));
@@ -114,6 +131,9 @@ fn trains_at_the_ends_of_their_range_are_allowed() {
     }
     for cant in [80, 100, 130, 150, 165, 180, 210, 225, 245, 275, 300] {
         assert_eq!(permitted(&faster_from_500(0), Train { cant, ..SHUTTLE }, 999), 140);
+    }
+    for (maximum, speed) in [(1, 1), (600, 140)] {
+        assert_eq!(permitted(&faster_from_500(0), Train { maximum, ..SHUTTLE }, 999), speed);
     }
 }
 

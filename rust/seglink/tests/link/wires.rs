@@ -3,7 +3,7 @@ use crate::refusals::{refuses_packet, refuses_sheet};
 use crate::segments::{packet, sheet, wired, DESK_PACKET, DESK_SHEET};
 use seglink::{altitude_of_packet, packet_of, permitted_speed, sheet_of, Kind, Refusal, Train};
 
-const TRAIN: Train = Train { length: 200, cant: 150, freight_p: false, freight_g: false, passenger: true };
+const TRAIN: Train = Train { length: 200, cant: 150, maximum: 600, freight_p: false, freight_g: false, passenger: true };
 
 #[test]
 fn up_to_31_of_each_go_both_ways() {
