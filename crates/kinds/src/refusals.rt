@@ -21,7 +21,7 @@ pub const BODY_BITS: u32 = 6;
 // A padding bit is 1.
 pub const PADDING_BIT: u32 = 7;
 
-// The result is longer than the lent room, or a packet's deliveries together are.
+// The result is longer than the lent room, or a packet's deliveries together are; or a store has no room for a sheet.
 pub const SHORT_ROOM: u32 = 8;
 
 // A sheet ends too soon, has bytes left, or a number is not in its shortest form or not below 4,294,967,296.
@@ -48,3 +48,9 @@ pub const UNKNOWN_KIND: u32 = 15;
 
 // A speed question brings a run of no segment or of more than 4.
 pub const RUN_COUNT: u32 = 16;
+
+// No sheet with the key is kept in the stores that are asked.
+pub const NOT_KEPT: u32 = 17;
+
+// A store has more than 65,536 bytes, or its used part is not a run of accepted sheets with different keys.
+pub const NO_SHELF: u32 = 21;

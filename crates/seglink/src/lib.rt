@@ -1,12 +1,15 @@
-// The eight public operations and the interface's number, under the names that the customer's server links. None has a `requires`: any bytes and numbers may be handed over.
+// The eleven public operations and the interface's number, under the names that the customer's server links. None has a `requires`: any bytes and numbers may be handed over.
 ghost use mathlib.Core.Path.{_≡_};
 ghost use Rattle.convert.specs.Convert.{packetToSheet, sheetToPacket};
 ghost use Rattle.speed_question.specs.Question.{permittedSpeed};
 ghost use Rattle.altitude.specs.Altitude.{altitudeOf};
 ghost use Rattle.intake.specs.Intake.{gathering, delivered, completed, asked};
+ghost use Rattle.shelf.specs.Shelf.{shelfAdd, shelfRemove, seen, shelfLookup};
 use altitude::Altitude;
 use convert::Converted;
 use intake::Intake;
+use shelf::Key;
+use shelf::Shelved;
 use speed::Train;
 use speed_question::Speed;
 
@@ -88,6 +91,40 @@ pub extern "C" fn seglink_intake_sheet(intake: Intake, taken: &[u8], room: &mut 
     ensures { λ r. ⌜ record { answer = r; room = now (room .exit) } ≡ asked intake (now (taken .entry)) (now (room .entry)) ⌝ }
 {
     intake::sheet(intake, taken, room)
+}
+
+// Keeps the sheet of a segment in `store`, of which `used` bytes are used, under its NID_C, NID_SP and version. Answers 0, 0 and the bytes used then;
+// or a refusal's number, its place (a byte of the sheet) and `used`, and then moves nothing.
+#[no_mangle]
+pub extern "C" fn seglink_shelf_add(store: &mut [u8], used: u32, sheet: &[u8]) -> Shelved
+    ensures { λ r. ⌜ record { answer = r; store = now (store .exit) } ≡ shelfAdd (now (store .entry)) used (now (sheet .entry)) ⌝ }
+{
+    shelf::add(store, used, sheet)
+}
+
+// Removes the sheet with the key `key` from `store`, of which `used` bytes are used. Answers 0, 0 and the bytes used then;
+// or a refusal's number, 0 and `used`, and then moves nothing.
+#[no_mangle]
+pub extern "C" fn seglink_shelf_remove(store: &mut [u8], used: u32, key: Key) -> Shelved
+    ensures { λ r. ⌜ record { answer = r; store = now (store .exit) } ≡ shelfRemove (now (store .entry)) used key ⌝ }
+{
+    shelf::remove(store, used, key)
+}
+
+// Sets `part` to the part of the yard's store, or else of the default store, that keeps the sheet with the key `key`, and returns 0;
+// or to an empty part of the yard's store, and returns a refusal's number.
+#[no_mangle]
+pub extern "C" fn seglink_shelf_lookup_into<'s, 'a>(
+    part: &'s mut &'a [u8],
+    yard: &'a [u8],
+    yard_used: u32,
+    standard: &'a [u8],
+    standard_used: u32,
+    key: Key,
+) -> u32
+    ensures { λ r. ⌜ record { refusal = r; part = seen (now (part .exit)) } ≡ shelfLookup (seen (yard .entry)) «yard_used» (seen (standard .entry)) «standard_used» key ⌝ }
+{
+    shelf::lookup_into(part, yard, yard_used, standard, standard_used, key)
 }
 
 // Answers the number of the interface that the header and this archive have in common.

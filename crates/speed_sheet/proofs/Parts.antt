@@ -149,18 +149,21 @@ module _ (s : List ℕ) where
   -- n numbers are read from the byte from on, after d numbers of all; the tree f follows
   record Walked (from d : ℕ) (all : List ℕ) (n : ℕ) (f : Format) : Type 0 where
     pub here : (i : ℕ) → i < n → NumberHere s (numbersEnd s from i)
+    pub value : (i : ℕ) → i < n → getD all (d + i) 0 ≡ countedAt s (numbersEnd s from i) % 4294967296
     pub past : Past (Reads s) f (numbersEnd s from n) (drop (d + n) all)
 
   module _ {from d : ℕ} {all : List ℕ} where
     walk-start : {f : Format} → Past (Reads s) f from (drop (d + 0) all) → Walked from d all 0 f
-    walk-start p = record { here = λ i h. absurd (omega arith); past = p }
+    walk-start p = record { here = λ i h. absurd (omega arith); value = λ i h. absurd (omega arith); past = p }
 
     walk-field : {n : ℕ} (k : Kind) {f : Format} → Walked from d all n (then k f) → Walked from d all (suc n) f
     walk-field {n} k w =
         let z : d + n + 1 ≡ d + suc n = omega arith in
+        let r = field-any s k (record { next = refl; value = refl }) in
         record {
           here = λ i h. by-cases (ltb i n) (λ e. w .here i (ltb-true i n e)) (λ e. let q : i ≡ n = omega (arith, ltb-false i n e) in rw q (known s k (w .past .reads) .number));
-          past = rw z at (then-past (Reads s) (field-any s k (record { next = refl; value = refl })) (d + n) all (w .past));
+          value = λ i h. by-cases (ltb i n) (λ e. w .value i (ltb-true i n e)) (λ e. let q : i ≡ n = omega (arith, ltb-false i n e) in rw q (then-is (Reads s) r (d + n) all (w .past)));
+          past = rw z at (then-past (Reads s) r (d + n) all (w .past));
         }
 
     walk-row : {n : ℕ} (ws ms : List ℕ) → length ws ≡ length ms → {f : Format} → Walked from d all n (row ws ms f) → Walked from d all (n + length ws) f
@@ -206,6 +209,10 @@ module _ (s : List ℕ) where
 
     pub head-numbers : Numbers s 1 9
     head-numbers = record { ok = ok; here = head-walk .here }
+
+    -- the values of the numbers between the packet number and L_SP
+    pub head-values : (i : ℕ) → i < 9 → getD all (1 + i) 0 ≡ countedAt s (numbersEnd s 1 i) % 4294967296
+    head-values = head-walk .value
 
     module _ {at : ℕ} (r : at ≡ numbersEnd s 1 9) {to a : ℕ} (n : NumberAt s at to a) where
       length-past : Past (Reads s) (field lSp λ lsp. offsetRows lsp end) at (drop 10 all)

@@ -19,7 +19,7 @@ use speed_element::Lows;
 use speed_element::Open;
 
 // The byte after the packet number.
-const FIRST: usize = 1;
+pub const FIRST: usize = 1;
 
 // The count of numbers between the packet number and L_SP: NID_OPERATIONAL, 4 of the header, 4 of the identity.
 const BEFORE_LENGTH: u32 = 9;
@@ -34,7 +34,7 @@ pub struct Entered {
 }
 
 // Reads the number at the byte `at`.
-fn number(s: &[u8], at: usize) -> ReadNumber
+pub fn number(s: &[u8], at: usize) -> ReadNumber
     ensures { λ r. ⌜ NumberAt (now (s .entry)) at (r .next) (r .value) ⌝ }
 {
     let found = numbers::found_at(s, at);
@@ -194,7 +194,7 @@ fn profile(s: &[u8], at: usize, train: Train, lsp: u32, x: u32, before: u32) -> 
 
 // Returns the byte after the `count` numbers that stand at the byte `at`: each number ends at its first byte below 128.
 // For speed the loop counts bytes and not groups: no branch depends on the size of a number.
-fn numbers_end(s: &[u8], at: usize, count: u32) -> usize
+pub fn numbers_end(s: &[u8], at: usize, count: u32) -> usize
     requires { ⌜ Numbers (now s) at count ⌝ }
     ensures { λ r. ⌜ r ≡ numbersEnd (now (s .entry)) at count ⌝ }
 {

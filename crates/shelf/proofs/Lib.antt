@@ -1,0 +1,10 @@
+pub mod Book
+pub mod Reading
+pub mod Order
+pub mod Scanning
+pub mod Turns
+pub mod Entries
+pub mod Searching
+pub mod Changing
+pub mod Verdicts
+pub mod Answers

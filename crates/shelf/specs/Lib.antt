@@ -1,0 +1,4 @@
+pub mod Book
+pub mod Shelf
+pub mod Keeps
+pub mod internal
