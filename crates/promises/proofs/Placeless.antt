@@ -81,7 +81,7 @@ unfolding linkFields
 either-sheet-place s r place (inNumbers g) a = numbers-place (λ n. tree-refusals (treeOf n)) s r place g a
 either-sheet-place s r place (tooLong l w long q p) a = p
 
-segment-place : (b : Brought) (s : List ℕ) (r place : ℕ) → SegmentGround b s r place → Among r placeless → place ≡ 0
+pub segment-place : (b : Brought) (s : List ℕ) (r place : ℕ) → SegmentGround b s r place → Among r placeless → place ≡ 0
 unfolding sheetFields
 segment-place Brought.packet s r place g a = packet-place segmentNumber (fields-refusals wireChanges) s r place g a
 segment-place Brought.sheet s r place g a = numbers-place (λ n. fields-refusals wireChanges) s r place g a
@@ -101,7 +101,7 @@ question-place r place (SpeedGround.badTrain b k c w v e p) a = p
 question-place r place (SpeedGround.pastEnd b k c w v h e p) a = p
 
 -- the place of an answer is 0 if the place of its ground is
-said-place : {On : ℕ → ℕ → Type 0} (said : ℕ × ℕ) → ((r place : ℕ) → Refuses said r place ↔ On r place) → ((r place : ℕ) → On r place → Among r placeless → place ≡ 0)
+pub said-place : {On : ℕ → ℕ → Type 0} (said : ℕ × ℕ) → ((r place : ℕ) → Refuses said r place ↔ On r place) → ((r place : ℕ) → On r place → Among r placeless → place ≡ 0)
     → 1 ≤ said .0 → Among (said .0) placeless → said .1 ≡ 0
 said-place said on none h a = none (said .0) (said .1) (on (said .0) (said .1) .0 (refl, h)) a
 

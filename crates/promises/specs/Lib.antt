@@ -4,3 +4,4 @@ pub mod Ranges
 pub mod Samples
 pub mod deliveries
 pub mod desk
+pub mod shelves

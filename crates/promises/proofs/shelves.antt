@@ -1,0 +1,4 @@
+-- The laws of the module shelves.
+pub mod Calls
+pub mod Grounds
+pub mod Reached

@@ -1,0 +1,1 @@
+// The promises about the shelf: definitions and theorems, no code.
