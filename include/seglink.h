@@ -1,7 +1,7 @@
 // The operations of the segment link, for C11 and C++: link with libseglink.a, which `rt staticlib seglink` writes for x86-64.
 // This is the interface number 10: it links with an archive of that number and with no other.
 // A packet or a sheet is of a segment (packet number 6) or of a journey (packet number 4). The conversions and the intake take both; the questions
-// on speed and altitude take a segment alone. A segment has up to 31 changes of speed, 31 of voltage and 31 of current.
+// on speed and altitude and the shelf take a segment alone. A segment has up to 31 changes of speed, 31 of voltage and 31 of current.
 //
 // Each segment of a journey has up to 31 temporary constraints. Q_TC_Type 0 uses Q_FRONT and V_Speed_Level, 1 uses the adhesion, 2 and 3 use neither.
 // Q_TC_Range 0 uses the start, 1 the end, 2 both, 3 neither. A field that is not used is 0. No type uses the current: it is 1,023 in the packet
@@ -35,6 +35,9 @@ extern "C" {
 //     a completion          8, then the refusals of its packet
 //     an intake's sheet     14 where there is no verdict, then the verdict's refusal, then 14 where the packet's room is cut short, then
 //                           the refusals of a conversion
+//     an addition           21, then the refusals of its sheet, then 8
+//     a removal             21, then 17
+//     a lookup              21 of either store, then 17
 //
 // The place says where the fault is: a bit of the packet or a byte of the sheet. Both are counted from 0 at the start, the top bit of a byte first;
 // of a run, at the start of the segment that is refused.
@@ -55,7 +58,7 @@ enum {
     SEGLINK_CHANGE_LOCATION = 5, // a change's location does not rise, is 0, or is at or past L_SP; or a temporary constraint's start is not below its end
     SEGLINK_BODY_BITS = 6,       // a field does not fit in the body's remaining bits
     SEGLINK_PADDING_BIT = 7,     // a padding bit is 1
-    SEGLINK_SHORT_ROOM = 8,      // the result is longer than the lent room, or a packet's deliveries together are
+    SEGLINK_SHORT_ROOM = 8,      // the result is longer than the lent room, or a packet's deliveries together are; or a store has no room for a sheet
     SEGLINK_SHEET_FORM = 9,      // a sheet ends too soon, has bytes left, or a number is not in its shortest form or not below 4,294,967,296
     SEGLINK_TRAIN_VALUE = 10,    // the train's length, cant deficiency or maximum is not allowed
     SEGLINK_PAST_END = 11,       // x is at or past L_SP of the run's last segment
@@ -63,7 +66,9 @@ enum {
     SEGLINK_BITS_LEFT = 13,      // bits of the body are left after the last field
     SEGLINK_TOO_EARLY = 14,      // an intake's sheet is asked for before a completion, after the next delivery or in phase 2 with a refusal or place that no completion gives; or with the packet's room cut short
     SEGLINK_UNKNOWN_KIND = 15,   // the kind is neither 0 nor 1
-    SEGLINK_RUN_COUNT = 16       // the run has no segment or more than 4
+    SEGLINK_RUN_COUNT = 16,      // the run has no segment or more than 4
+    SEGLINK_NOT_KEPT = 17,       // no sheet with the key is kept in the stores that are asked
+    SEGLINK_NO_SHELF = 21        // a store has more than 65,536 bytes, or its used part is not a run of accepted sheets with different keys
 };
 
 // Kinds of a speed question: it brings packets of segments, or sheets of segments.
@@ -80,6 +85,11 @@ enum {
     SEGLINK_LARGEST_SHEET = 5728,
     SEGLINK_LARGEST_JOURNEY_PACKET = 8207,
     SEGLINK_LARGEST_JOURNEY_SHEET = 15226
+};
+
+// Most bytes of a shelf's store.
+enum {
+    SEGLINK_LARGEST_STORE = 65536
 };
 
 // Answer of a conversion: 0, 0 and the count of bytes that it wrote; or a refusal, its place and 0.
@@ -116,6 +126,28 @@ typedef struct {
 typedef struct {
     uint32_t phase, length, refusal, place;
 } seglink_intake;
+
+// Key of a segment's sheet on a shelf. Any four numbers may be handed over; those of a sheet are below 1,024, 4,294,967,296, 256 and 256.
+typedef struct {
+    uint32_t nid_c, nid_sp, major, minor;
+} seglink_key;
+
+// Answer to a change of a shelf: 0, 0 and how many bytes of the store are used then; or a refusal, its place (a byte of the sheet) and `used` as it was.
+typedef struct {
+    uint32_t refusal, place, used;
+} seglink_shelved;
+
+// A part of a store: a pointer into the store, and how many bytes.
+typedef struct {
+    const uint8_t *bytes;
+    size_t length;
+} seglink_part;
+
+// Answer of a lookup: 0 and the part that is the sheet; or a refusal and an empty part, the yard's pointer with length 0.
+typedef struct {
+    uint32_t refusal;
+    seglink_part part;
+} seglink_found;
 
 // Writes the sheet of a packet, of a segment or a journey, to the start of the room and returns the sheet's length; the bytes of the room past it
 // stay. Any bytes may be handed over; a refusal (1 to 8 or 13) leaves the room as it was.
@@ -167,6 +199,37 @@ seglink_intake seglink_intake_complete(seglink_intake intake, const uint8_t *roo
 // fewer bytes than an accepted packet, the refusal is 14 at 0. If the verdict was a refusal, the answer is its number and place again. A refusal
 // leaves the room as it was.
 seglink_converted seglink_intake_sheet(seglink_intake intake, const uint8_t *taken, size_t taken_len, uint8_t *room, size_t room_len);
+
+// A shelf keeps segment sheets in a store that the caller lends, of at most SEGLINK_LARGEST_STORE bytes, by NID_C, NID_SP and version. The caller
+// keeps the store and how many of its bytes are used; a fresh store has 0, whatever its bytes. A kept sheet is four bytes for its length, most
+// significant first, then its bytes as they were given; the used part has nothing between its sheets. Each call judges the store. In stores that
+// only these calls changed keys rise (NID_C, then NID_SP, major, minor), and each call then judges every sheet once and compares each key once; any
+// other order is taken too, with more comparisons.
+
+// Keeps the sheet of a segment in the store and returns how many bytes are used then. A kept sheet of the same key goes first; the new one stands
+// before the first of a greater key. The bytes past the used part stay. The sheet shares no byte with the store. A refusal (21, then 2, 4, 5 or 9
+// with its place, then 8) moves nothing: 8 exactly if the kept sheets without the replaced one, the new sheet and four bytes for each exceed the store.
+seglink_shelved seglink_shelf_add(uint8_t *store, size_t store_len, uint32_t used, const uint8_t *sheet, size_t sheet_len);
+
+// Removes the sheet with this key from the store and returns how many bytes are used then. The bytes past the used part stay. A refusal (21 or 17)
+// moves nothing.
+seglink_shelved seglink_shelf_remove(uint8_t *store, size_t store_len, uint32_t used, seglink_key key);
+
+// Looks a key up in the yard's store, then in the default store: sets `part` to the bytes of the sheet in the store that keeps it, and returns 0; or
+// to the yard's pointer with length 0, and returns 21 or 17. Both stores are judged. Hand over any part, as { yard, 0 }: it is not read.
+uint32_t seglink_shelf_lookup_into(seglink_part *part, const uint8_t *yard, size_t yard_len, uint32_t yard_used,
+    const uint8_t *standard, size_t standard_len, uint32_t standard_used, seglink_key key);
+
+// Looks a key up as seglink_shelf_lookup_into does, and returns the refusal and the part. The part is valid as long as its store, until a change.
+static inline seglink_found seglink_shelf_lookup(const uint8_t *yard, size_t yard_len, uint32_t yard_used,
+    const uint8_t *standard, size_t standard_len, uint32_t standard_used, seglink_key key)
+{
+    seglink_found found;
+    found.part.bytes = yard;
+    found.part.length = 0;
+    found.refusal = seglink_shelf_lookup_into(&found.part, yard, yard_len, yard_used, standard, standard_len, standard_used, key);
+    return found;
+}
 
 // Returns the number of the archive's interface, which is SEGLINK_INTERFACE: an archive of another number does not link with this header.
 uint32_t seglink_version(void);

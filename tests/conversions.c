@@ -1,4 +1,4 @@
-// Calls the static library from C: both conversions of segments and journeys, the intake, the questions' refusals, speeds by kind, by cant
+// Calls the static library from C: both conversions of segments and journeys, the intake, the shelf, the questions' refusals, speeds by kind, by cant
 // deficiency, by the train's maximum and on runs of segments, null with length 0, and the interface's number.
 // Checks the answers against packets, sheets, states, places and speeds that are written here from the build definition. 'time' measures times instead.
 #define _DEFAULT_SOURCE
@@ -1921,6 +1921,111 @@ static void null_intake(seglink_intake intake)
         check(name, "a byte of a room", room[i] + lent[i], 2 * 0xA5);
 }
 
+// ---- The shelf
+
+// Bytes that the desk sheet of 25 bytes takes in a store.
+enum { ENTRY = 29 };
+
+static void shelved(const char *name, seglink_shelved got, uint32_t refusal, uint32_t place, uint32_t used)
+{
+    check(name, "the refusal", got.refusal, refusal);
+    check(name, "the place", got.place, place);
+    check(name, "the used bytes", got.used, used);
+}
+
+// Checks a lookup: a refusal with the yard's pointer and no byte, or 0 and the desk sheet at this place.
+static void looked_up(const char *name, seglink_found got, uint32_t refusal, const uint8_t *bytes, size_t length)
+{
+    check(name, "the refusal", got.refusal, refusal);
+    check(name, "whether the part starts where it must", got.part.bytes == bytes, true);
+    check(name, "the part's length", got.part.length, length);
+}
+
+// Returns the desk sheet with this NID_C and minor version, both below 128.
+static struct bytes kept_sheet(uint8_t nid_c, uint8_t minor)
+{
+    struct bytes sheet = desk_sheet;
+    sheet.byte[8] = nid_c;
+    sheet.byte[11] = minor;
+    return sheet;
+}
+
+static seglink_shelved shelf_add(uint8_t *store, size_t size, uint32_t used, struct bytes sheet)
+{
+    return seglink_shelf_add(store, size, used, sheet.byte, sheet.length);
+}
+
+// Checks the bytes of a store: the sheets of these NID_C and minor versions, two by two, and what follows them.
+static void holds(const char *name, const uint8_t *store, size_t size, const uint8_t *keys, size_t count, uint8_t past)
+{
+    for (size_t i = 0; i < count; ++i) {
+        struct bytes sheet = kept_sheet(keys[2 * i], keys[2 * i + 1]);
+        static const uint8_t length[] = {0, 0, 0, 25};
+        check(name, "a length in the store", (size_t)memcmp(store + i * ENTRY, length, 4), 0);
+        check(name, "a sheet in the store", (size_t)memcmp(store + i * ENTRY + 4, sheet.byte, sheet.length), 0);
+    }
+    for (size_t i = count * ENTRY; i < size; ++i)
+        check(name, "a byte past the sheets", store[i], past);
+}
+
+static void shelf_changes(void)
+{
+    static const char name[] = "a shelf";
+    static const uint8_t order[] = {1, 0, 2, 0, 2, 1};
+    uint8_t store[3 * ENTRY + 1];
+    memset(store, 0xA5, sizeof store);
+    shelved(name, shelf_add(store, sizeof store, 0, kept_sheet(2, 1)), 0, 0, ENTRY);
+    shelved(name, shelf_add(store, sizeof store, ENTRY, kept_sheet(1, 0)), 0, 0, 2 * ENTRY);
+    shelved(name, shelf_add(store, sizeof store, 2 * ENTRY, kept_sheet(2, 0)), 0, 0, 3 * ENTRY);
+    holds(name, store, sizeof store, order, 3, 0xA5);
+    shelved(name, shelf_add(store, sizeof store, 3 * ENTRY, kept_sheet(3, 0)), 8, 0, 3 * ENTRY);
+    shelved(name, shelf_add(store, sizeof store, 3 * ENTRY, kept_sheet(2, 0)), 0, 0, 3 * ENTRY);
+    shelved(name, shelf_add(store, sizeof store, 3 * ENTRY, journey_sheet), 2, 0, 3 * ENTRY);
+    shelved(name, seglink_shelf_add(store, sizeof store, 3 * ENTRY, desk_sheet.byte, 24), 9, 24, 3 * ENTRY);
+    shelved(name, shelf_add(store, sizeof store, 3 * ENTRY - 1, journey_sheet), 21, 0, 3 * ENTRY - 1);
+    shelved(name, shelf_add(store, sizeof store, sizeof store + 1, journey_sheet), 21, 0, sizeof store + 1);
+    shelved(name, seglink_shelf_remove(store, sizeof store, 3 * ENTRY, (seglink_key){2, 0, 0, 2}), 17, 0, 3 * ENTRY);
+    shelved(name, seglink_shelf_remove(store, sizeof store, 3 * ENTRY, (seglink_key){0x402, 0, 0, 0x100}), 17, 0, 3 * ENTRY);
+    holds(name, store, sizeof store, order, 3, 0xA5);
+    shelved(name, seglink_shelf_remove(store, sizeof store, 3 * ENTRY, (seglink_key){1, 0, 0, 0}), 0, 0, 2 * ENTRY);
+    holds(name, store, 2 * ENTRY, order + 2, 2, 0);
+    shelved(name, seglink_shelf_remove(store, sizeof store, 2 * ENTRY, (seglink_key){1, 0, 0, 0}), 17, 0, 2 * ENTRY);
+    check(name, "the last byte", store[sizeof store - 1], 0xA5);
+}
+
+static void shelf_lookups(void)
+{
+    static const char name[] = "a lookup";
+    static const seglink_key one = {1, 0, 0, 0}, two = {2, 0, 0, 0};
+    uint8_t yard[2 * ENTRY], standard[2 * ENTRY];
+    shelf_add(yard, sizeof yard, 0, kept_sheet(1, 0));
+    shelf_add(standard, sizeof standard, 0, kept_sheet(1, 0));
+    shelf_add(standard, sizeof standard, ENTRY, kept_sheet(2, 0));
+    looked_up(name, seglink_shelf_lookup(yard, sizeof yard, ENTRY, standard, sizeof standard, 2 * ENTRY, one), 0, yard + 4, 25);
+    looked_up(name, seglink_shelf_lookup(yard, sizeof yard, 0, standard, sizeof standard, 2 * ENTRY, one), 0, standard + 4, 25);
+    looked_up(name, seglink_shelf_lookup(yard, sizeof yard, ENTRY, standard, sizeof standard, 2 * ENTRY, two), 0, standard + ENTRY + 4, 25);
+    looked_up(name, seglink_shelf_lookup(yard, sizeof yard, ENTRY, standard, sizeof standard, ENTRY, two), 17, yard, 0);
+    looked_up(name, seglink_shelf_lookup(yard, sizeof yard, ENTRY - 1, standard, sizeof standard, ENTRY, one), 21, yard, 0);
+    looked_up(name, seglink_shelf_lookup(yard, sizeof yard, ENTRY, standard, sizeof standard, 1, one), 21, yard, 0);
+    looked_up(name, seglink_shelf_lookup(NULL, 0, 0, standard, sizeof standard, ENTRY, one), 0, standard + 4, 25);
+    looked_up(name, seglink_shelf_lookup(yard, sizeof yard, ENTRY, NULL, 0, 0, one), 0, yard + 4, 25);
+    looked_up(name, seglink_shelf_lookup(NULL, 0, 0, NULL, 0, 0, one), 17, NULL, 0);
+    looked_up(name, seglink_shelf_lookup(NULL, 0, 1, NULL, 0, 0, one), 21, NULL, 0);
+}
+
+static void shelves(void)
+{
+    static const char name[] = "a shelf with null";
+    uint8_t store[ENTRY];
+    shelf_changes();
+    shelf_lookups();
+    shelved(name, seglink_shelf_add(NULL, 0, 0, NULL, 0), 9, 0, 0);
+    shelved(name, shelf_add(NULL, 0, 0, desk_sheet), 8, 0, 0);
+    shelved(name, shelf_add(NULL, 0, 1, desk_sheet), 21, 0, 1);
+    shelved(name, seglink_shelf_add(store, sizeof store, 0, NULL, 0), 9, 0, 0);
+    shelved(name, seglink_shelf_remove(NULL, 0, 0, (seglink_key){0, 0, 0, 0}), 17, 0, 0);
+}
+
 static void nulls(void)
 {
     static const uint32_t lengths[] = {0, 1, 39, 0xFFFFFFFF}, refusals[] = {0, 1, 7, 8, 13, 77};
@@ -1989,6 +2094,7 @@ static int all_checks(struct fields *s)
     journeys(s);
     intakes();
     runs(s);
+    shelves();
     nulls();
     printf("%u passed, %u failed\n", passed, failed);
     return failed == 0 ? 0 : 1;

@@ -1,14 +1,17 @@
 //! Times of the archive beside the second program and asn1c: conversions and speeds of small, middle and the largest segments; beside the
 //! second program: conversions of small and the largest journeys and of journeys full of temporary constraints; beside questions about one
-//! segment: speeds on runs of four; and beside plain copies: the largest packets taken in deliveries.
+//! segment: speeds on runs of four; beside plain copies: the largest packets taken in deliveries; and beside the judge's own passes: lookups in
+//! full stores.
 
 mod asn1c;
 mod deliveries;
 mod machine;
 mod measure;
 mod runs;
+mod shelves;
 
 use compare::archive::Archive;
+use compare::desk_shelves;
 use compare::draft::{Draft, Kind};
 use compare::journeys::{journey, spread, Size, LONGEST, LONGEST_UNCONSTRAINED};
 use compare::program::{Operation, Program, Question, Train, KIND_PACKET, KIND_SHEET};
@@ -33,6 +36,7 @@ const JOURNEYS: [(&str, usize, Size); 3] = [
 const TAKEN_SEGMENTS: usize = 30;
 const TAKEN_JOURNEYS: usize = 12;
 const LARGEST_RESULT: usize = 15_226;
+const SMALL: Sizes = Sizes { changes: 2, entries: (0, 2), voltages: 1, currents: 1 };
 const TRAIN: Train = Train { length: 20_000, cant: 150, maximum: 600, freight_p: false, freight_g: true, passenger: false };
 
 /// The operations that are measured. The conversions come first: journeys have only these.
@@ -53,7 +57,8 @@ value outside its range; it answers no speeds and has no journeys. Freeing the s
 does not come back from it unchanged.
 Runs: four segments, with a train that stands on all of them and with one that has left three, beside one segment with the same train.
 At once and byte by byte: an intake takes a packet in one delivery, and in one for each byte; beside them plain copies of the same bytes, a
-call each. Completion judges the packet. A delivery is to cost a call and a copy, and not what a completion does.";
+call each. Completion judges the packet. A delivery is to cost a call and a copy, and not what a completion does.
+Lookup: of a key that is not kept, in a full store whose keys rise; beside it the judge's own passes over the store's sheets, a call each.";
 
 fn main() {
     println!("Processor: {}", machine::processor());
@@ -77,6 +82,8 @@ fn main() {
     deliveries::rows("largest segments", &segments);
     let journeys: Vec<_> = (0..TAKEN_JOURNEYS).map(|_| any_journey(&mut random, LONGEST).packet()).collect();
     deliveries::rows("largest journeys", &journeys);
+    shelves::rows("smallest sheets", |nth| desk_shelves::sheet(16_384 + nth));
+    shelves::rows("small sheets", |nth| shelves::keyed(&mut random, SMALL, nth));
 }
 
 fn any_journey(random: &mut Random, size: Size) -> Draft {

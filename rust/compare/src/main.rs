@@ -6,7 +6,10 @@ use compare::check::{check, compare};
 use compare::desk;
 use compare::desk_intakes;
 use compare::desk_runs;
+use compare::desk_shelves;
 use compare::random::Random;
+use compare::shelf_event::ShelfTally;
+use compare::shelves;
 use compare::tally::Tally;
 use std::panic::{catch_unwind, AssertUnwindSafe};
 use std::time::Instant;
@@ -19,6 +22,7 @@ const SHOWN: u64 = 5;
 #[derive(Default)]
 struct Run {
     tally: Tally,
+    shelves: ShelfTally,
     passed: u64,
     failed: u64,
 }
@@ -41,14 +45,16 @@ impl Run {
         self.desk();
         self.desk_of_runs();
         self.desk_of_intakes();
+        self.desk_of_shelves();
         let (first, cases) = (setting("SEGLINK_SEED", FIRST_SEED), setting("SEGLINK_CASES", CASES));
         for seed in first..first + cases {
             self.case(seed);
         }
         let seconds = began.elapsed().as_secs_f64();
         println!("{}", self.tally);
+        println!("{}", self.shelves);
         println!("{cases} random cases from seed {first} in {seconds:.0} s, {:.0} a second", cases as f64 / seconds);
-        for missing in self.tally.missing() {
+        for missing in self.tally.missing().into_iter().chain(self.shelves.missing()) {
             self.count(Err(missing));
         }
     }
@@ -85,10 +91,19 @@ impl Run {
         }
     }
 
+    fn desk_of_shelves(&mut self) {
+        let outcome = desk_shelves::check();
+        println!("{} desk cases of the shelf", *outcome.as_ref().unwrap_or(&0));
+        self.count(outcome.map(|_| ()).map_err(|why| format!("desk case, {why}")));
+    }
+
     fn case(&mut self, seed: u64) {
         let mut random = Random::new(seed);
         let case = Case::random(&mut random);
-        let outcome = catch_unwind(AssertUnwindSafe(|| check(&mut random, &case, &mut self.tally)));
+        let outcome = catch_unwind(AssertUnwindSafe(|| {
+            check(&mut random, &case, &mut self.tally)?;
+            shelves::check(&mut random, &case, &mut self.shelves)
+        }));
         let outcome = outcome.unwrap_or_else(|_| Err("the second program or the comparison itself panicked".to_string()));
         self.count(outcome.map_err(|why| format!("seed {seed}, {}", told(&case, &why))));
     }

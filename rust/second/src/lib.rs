@@ -23,6 +23,7 @@ mod desk_maxima;
 mod desk_places;
 #[cfg(test)]
 mod desk_runs;
+mod desk_shelves;
 #[cfg(test)]
 mod desk_wires;
 mod intake;
@@ -34,10 +35,12 @@ mod refusal;
 mod segment;
 mod sheet_reading;
 mod sheet_writing;
+mod shelf;
 mod speed;
 
 pub use intake::{Intake, Told};
 pub use refusal::{Refusal, Refused};
+pub use shelf::{add, key_of, lookup, remove, Key, Part};
 pub use speed::Train;
 
 use segment::Segment;

@@ -17,7 +17,7 @@ pub enum Refusal {
     Bits = 6,
     /// A padding bit is 1.
     Padding = 7,
-    /// The result is longer than the lent room, or a packet's deliveries together are.
+    /// The result is longer than the lent room, or a packet's deliveries together are; or a store has no room for a sheet.
     Room = 8,
     /// A sheet ends too soon, has bytes left, or a number is not well formed.
     Sheet = 9,
@@ -36,6 +36,10 @@ pub enum Refusal {
     Kind = 15,
     /// A run has no segment, or more than 4.
     Run = 16,
+    /// No sheet with the key is kept in the stores that are asked.
+    NotKept = 17,
+    /// A store has more than 65,536 bytes, or its used part is not a run of accepted sheets with different keys.
+    NoShelf = 21,
 }
 
 /// A refusal, and the bit of the packet or the byte of the sheet at which it is given, both counted from 0.

@@ -2,7 +2,7 @@
 //! Rust's types keep what the header asks of a caller: a slice's pointer is not null, also if the slice is empty; a bool is 0 or 1.
 #![allow(unsafe_code)]
 
-use crate::Train;
+use crate::{Key, Train};
 
 #[repr(C)]
 pub(crate) struct Converted {
@@ -38,6 +38,19 @@ pub(crate) struct State {
 /// How many segments a speed question lends.
 const LENT: usize = 4;
 
+#[repr(C)]
+pub(crate) struct Shelved {
+    pub(crate) refusal: u32,
+    pub(crate) place: u32,
+    pub(crate) used: u32,
+}
+
+#[repr(C)]
+struct Part {
+    bytes: *const u8,
+    length: usize,
+}
+
 // Declarations as in include/seglink.h.
 extern "C" {
     fn seglink_packet_to_sheet(packet: *const u8, packet_len: usize, room: *mut u8, room_len: usize) -> Converted;
@@ -62,6 +75,18 @@ extern "C" {
     fn seglink_intake_deliver(intake: State, delivery: *const u8, delivery_len: usize, room: *mut u8, room_len: usize) -> State;
     fn seglink_intake_complete(intake: State, room: *const u8, room_len: usize) -> State;
     fn seglink_intake_sheet(intake: State, taken: *const u8, taken_len: usize, room: *mut u8, room_len: usize) -> Converted;
+    fn seglink_shelf_add(store: *mut u8, store_len: usize, used: u32, sheet: *const u8, sheet_len: usize) -> Shelved;
+    fn seglink_shelf_remove(store: *mut u8, store_len: usize, used: u32, key: Key) -> Shelved;
+    fn seglink_shelf_lookup_into(
+        part: *mut Part,
+        yard: *const u8,
+        yard_len: usize,
+        yard_used: u32,
+        standard: *const u8,
+        standard_len: usize,
+        standard_used: u32,
+        key: Key,
+    ) -> u32;
 }
 
 pub(crate) fn packet_to_sheet(packet: &[u8], room: &mut [u8]) -> Converted {
@@ -115,4 +140,31 @@ pub(crate) fn intake_complete(intake: State, room: &[u8]) -> State {
 pub(crate) fn intake_sheet(intake: State, taken: &[u8], room: &mut [u8]) -> Converted {
     // SAFETY: each pointer comes with its own slice's length and is not null; `&mut` shares no byte with `&`; neither is kept.
     unsafe { seglink_intake_sheet(intake, taken.as_ptr(), taken.len(), room.as_mut_ptr(), room.len()) }
+}
+
+pub(crate) fn shelf_add(store: &mut [u8], used: u32, sheet: &[u8]) -> Shelved {
+    // SAFETY: each pointer comes with its own slice's length and is not null; `&mut` shares no byte with `&`; neither is kept.
+    unsafe { seglink_shelf_add(store.as_mut_ptr(), store.len(), used, sheet.as_ptr(), sheet.len()) }
+}
+
+pub(crate) fn shelf_remove(store: &mut [u8], used: u32, key: Key) -> Shelved {
+    // SAFETY: the pointer comes with its slice's length and is not null; it is not kept; Key has the C layout.
+    unsafe { seglink_shelf_remove(store.as_mut_ptr(), store.len(), used, key) }
+}
+
+/// Returns a lookup's refusal and its part, which lies in one of the two stores.
+pub(crate) fn shelf_lookup<'a>(
+    yard: &'a [u8],
+    yard_used: u32,
+    standard: &'a [u8],
+    standard_used: u32,
+    key: Key,
+) -> (u32, &'a [u8]) {
+    let mut part = Part { bytes: yard.as_ptr(), length: 0 };
+    let (first, second) = ((yard.as_ptr(), yard.len()), (standard.as_ptr(), standard.len()));
+    // SAFETY: each pointer comes with its own slice's length, is not null and is only read; the part is the callee's alone; Key has the C layout.
+    let refusal =
+        unsafe { seglink_shelf_lookup_into(&mut part, first.0, first.1, yard_used, second.0, second.1, standard_used, key) };
+    // SAFETY: the library is proved to hand back a part of the yard's store or of the default store; both are lent for 'a and not changed.
+    (refusal, unsafe { std::slice::from_raw_parts(part.bytes, part.length) })
 }

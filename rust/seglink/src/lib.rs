@@ -1,5 +1,5 @@
 //! The segment link in safe Rust, over the proved static library: packets to sheets and back, packets that arrive in deliveries, permitted
-//! speeds and the altitude.
+//! speeds, the altitude, and a [`Shelf`] of segments.
 //!
 //! A packet or a sheet is of a segment (packet number 6) or of a journey (packet number 4). The conversions and an [`Intake`] take both,
 //! the questions take a segment alone.
@@ -58,6 +58,7 @@ mod refusal;
 mod refused;
 #[cfg(test)]
 mod refused_first;
+mod shelf;
 mod train;
 
 pub use intake::Intake;
@@ -65,6 +66,7 @@ pub use interface::INTERFACE;
 pub use kind::Kind;
 pub use refusal::Refusal;
 pub use refused::{Refused, Unit};
+pub use shelf::{Key, Shelf};
 pub use train::Train;
 
 /// Bytes of a segment's smallest packet.

@@ -19,7 +19,7 @@ pub enum Refusal {
     BodyBits = 6,
     /// 7: a padding bit is 1.
     PaddingBit = 7,
-    /// 8: the result is longer than the lent room, or a packet's deliveries together are.
+    /// 8: the result is longer than the lent room, or a packet's deliveries together are; or a store has no room for a sheet.
     ShortRoom = 8,
     /// 9: a sheet ends too soon, has bytes left, or a number is not in its shortest form or not below 4,294,967,296.
     SheetForm = 9,
@@ -39,10 +39,15 @@ pub enum Refusal {
     UnknownKind = 15,
     /// 16: the run has no segment or more than 4.
     RunCount = 16,
+    /// 17: no sheet with the key is kept in the stores that are asked.
+    NotKept = 17,
+    /// 21: a store has more than 65,536 bytes, or its used part is not a run of accepted sheets with different keys. Only the first can be
+    /// said of a [`Shelf`](crate::Shelf).
+    NoShelf = 21,
 }
 
 /// Each refusal with its ground, in the words of the C header.
-const GROUNDS: [(Refusal, &str); 16] = [
+const GROUNDS: [(Refusal, &str); 18] = [
     (Refusal::ShortPacket, "a packet has fewer than 15 bytes"),
     (Refusal::PacketNumber, "the packet number is neither 4 nor 6, or is 4 where a segment is needed"),
     (Refusal::PacketLength, "the packet's bytes are not 15 + L_PACKET_ATO / 8, rounded up"),
@@ -57,7 +62,10 @@ const GROUNDS: [(Refusal, &str); 16] = [
     ),
     (Refusal::BodyBits, "a field does not fit in the body's remaining bits"),
     (Refusal::PaddingBit, "a padding bit is 1"),
-    (Refusal::ShortRoom, "the result is longer than the lent room, or a packet's deliveries together are"),
+    (
+        Refusal::ShortRoom,
+        "the result is longer than the lent room, or a packet's deliveries together are; or a store has no room for a sheet",
+    ),
     (
         Refusal::SheetForm,
         "a sheet ends too soon, has bytes left, or a number is not in its shortest form or not below 4,294,967,296",
@@ -73,17 +81,22 @@ const GROUNDS: [(Refusal, &str); 16] = [
     ),
     (Refusal::UnknownKind, "the kind is neither 0 nor 1"),
     (Refusal::RunCount, "the run has no segment or more than 4"),
+    (Refusal::NotKept, "no sheet with the key is kept in the stores that are asked"),
+    (
+        Refusal::NoShelf,
+        "a store has more than 65,536 bytes, or its used part is not a run of accepted sheets with different keys",
+    ),
 ];
 
 impl Refusal {
-    /// Returns the number of the build definition, 1 to 16.
+    /// Returns the number of the build definition.
     pub fn number(self) -> u32 {
         self as u32
     }
 
     /// Returns the ground in words.
     pub fn ground(self) -> &'static str {
-        GROUNDS[self.number() as usize - 1].1
+        GROUNDS.iter().find(|&&(refusal, _)| refusal == self).expect("each refusal has its ground").1
     }
 
     /// Returns the refusal with this number, if there is one.

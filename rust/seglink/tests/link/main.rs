@@ -7,6 +7,7 @@ mod journeys;
 mod refusals;
 mod runs;
 mod segments;
+mod shelves;
 mod speeds;
 mod wires;
 
