@@ -17,7 +17,7 @@ use Rattle.speed.specs.declared.Train.{Train}
 use Rattle.speed.specs.Speed.{Element, elementSpeed, lowest, instead, endBefore, heldTo, holds, heldSpeeds, permitted, elementOf, afterElement, changesFrom, elementsFrom, segmentLength, profileOf, inFives, elementInFives}
 use Rattle.speed.proofs.Laws.{some-holds, lowered-permitted}
 use Rattle.speed.proofs.Lowering.{length-stays, at-profile}
-use Rattle.speed.specs.Run.{Each, numbersOf, eachGivenBack, runElements, runEnd, lastOf, lastStart, heldInRun, speedInRun}
+use Rattle.speed.specs.Run.{Each, EachTwo, none, another, numbersOf, eachGivenBack, runElements, runEnd, lastOf, lastStart, heldInRun, speedInRun}
 use Rattle.speed.specs.internal.BySegments.{heldInSegment, heldBySegments}
 
 -- ---- the lowest of two lists, one after the other
@@ -50,6 +50,25 @@ last-start from r = ap (λ (m : ℕ). lastStart m r) (sym (add-zero from)) ∙ s
 pub run-end : (from : ℕ) (s : List ℕ) (r : List (List ℕ)) → lastStart from (s ∷ r) + segmentLength (lastOf (s ∷ r)) ≡ runEnd from (s ∷ r)
 run-end from s [] = refl
 run-end from s (n ∷ r) = run-end (from + segmentLength s) n r
+
+-- runs whose segments are as long, one for one
+abbrev pub AsLong : List (List ℕ) → List (List ℕ) → Type 0
+AsLong r s = EachTwo (λ (a b : List ℕ). segmentLength a ≡ segmentLength b) r s
+
+pub start-same : (from : ℕ) {r s : List (List ℕ)} → AsLong r s → lastStart from r ≡ lastStart from s
+start-same from none = refl
+start-same from (another e none) = refl
+start-same from (another {a = a} {s = s} e (another f same)) =
+    start-same (from + segmentLength a) (another f same) ∙ ap (λ (n : ℕ). lastStart (from + n) s) e
+
+pub end-same : (from : ℕ) {r s : List (List ℕ)} → AsLong r s → runEnd from r ≡ runEnd from s
+end-same from none = refl
+end-same from (another {a = a} {s = s} e same) = end-same (from + segmentLength a) same ∙ ap (λ (n : ℕ). runEnd (from + n) s) e
+
+pub last-same : {r s : List (List ℕ)} → AsLong r s → segmentLength (lastOf r) ≡ segmentLength (lastOf s)
+last-same none = refl
+last-same (another e none) = e
+last-same (another e (another f same)) = last-same (another f same)
 
 -- "across boundaries too": what stands before a run ends where the run starts
 pub run-begins : (from : ℕ) (r : List (List ℕ)) → endBefore (runEnd from r) (runElements from r) ≡ from
@@ -217,16 +236,9 @@ run-not-above t x s r h =
 abbrev pub SheetValues : List Item → Type 0
 SheetValues l = Conforming InSheet (sheetFields wireChanges) l
 
-start-lowered : (from : ℕ) (r : List (List Item)) → Each SheetValues r → lastStart from (numbersOf (eachGivenBack r)) ≡ lastStart from (numbersOf r)
-start-lowered from [] c = refl
-start-lowered from (l ∷ []) c = refl
-start-lowered from (l ∷ n ∷ r) c =
-    ap (λ (m : ℕ). lastStart (from + m) (numbersOf (eachGivenBack (n ∷ r)))) (length-stays l (c .0)) ∙ start-lowered (from + segmentLength (sheetNumbers l)) (n ∷ r) (c .1)
-
-end-lowered : (from : ℕ) (r : List (List Item)) → Each SheetValues r → runEnd from (numbersOf (eachGivenBack r)) ≡ runEnd from (numbersOf r)
-end-lowered from [] c = refl
-end-lowered from (l ∷ r) c =
-    ap (λ (m : ℕ). runEnd (from + m) (numbersOf (eachGivenBack r))) (length-stays l (c .0)) ∙ end-lowered (from + segmentLength (sheetNumbers l)) r (c .1)
+lowered-as-long : (r : List (List Item)) → Each SheetValues r → AsLong (numbersOf (eachGivenBack r)) (numbersOf r)
+lowered-as-long [] c = none
+lowered-as-long (l ∷ r) c = another (length-stays l (c .0)) (lowered-as-long r (c .1))
 
 elements-lowered : (from : ℕ) (r : List (List Item)) → Each SheetValues r
     → runElements from (numbersOf (eachGivenBack r)) ≡ map elementInFives (runElements from (numbersOf r))
@@ -244,5 +256,5 @@ pub run-in-fives : (t : Train) (x : ℕ) (r : List (List Item)) → Each SheetVa
 run-in-fives t x r c =
     let n = numbersOf r in
     ap (λ (e : List Element). permitted t (runEnd 0 (numbersOf (eachGivenBack r))) (lastStart 0 (numbersOf (eachGivenBack r)) + x) e) (elements-lowered 0 r c)
-    ∙ ap₂ (λ (end start : ℕ). permitted t end (start + x) (map elementInFives (runElements 0 n))) (end-lowered 0 r c) (start-lowered 0 r c)
+    ∙ ap₂ (λ (end start : ℕ). permitted t end (start + x) (map elementInFives (runElements 0 n))) (end-same 0 (lowered-as-long r c)) (start-same 0 (lowered-as-long r c))
     ∙ lowered-permitted t (runEnd 0 n) (lastStart 0 n + x) (runElements 0 n)

@@ -14,6 +14,11 @@ abbrev pub Each : {A : Type 0} → (A → Type 0) → List A → Type 0
 Each P [] = Unit {0}
 Each P (a ∷ r) = P a × Each P r
 
+-- R of each two segments of two runs, one for one
+pub data EachTwo {A B : Type 0} (R : A → B → Type 0) : List A → List B → Type 0 where
+  none : EachTwo R [] []
+  another : {a : A} {b : B} {r : List A} {s : List B} → R a b → EachTwo R r s → EachTwo R (a ∷ r) (b ∷ s)
+
 -- "segments of the one kind, in order of travel": the numbers of each segment, from its values
 abbrev pub numbersOf : List (List Item) → List (List ℕ)
 numbersOf r = map sheetNumbers r
