@@ -9,7 +9,7 @@ use lib.Dec.{eqb, ltb, leb}
 use Rattle.bits.proofs.Tests.{by-cases, and-left, and-right}
 use Rattle.speed.specs.declared.Train.{Train}
 use Rattle.speed.specs.Speed.{Entry, Element, limited, belongs, isNotAbove, notAbove, greatestFigure, isOf, figureSpeeds, greatestSpeeds, cantSpeeds, namedSpeeds, lowest, instead, elementSpeed, endBefore, heldTo, holds, heldSpeeds, permitted}
-use Rattle.speed.specs.Faster.{Slower}
+use Rattle.speed.specs.Faster.{Alike, Slower}
 
 -- ---- elements whose speeds are raised
 
@@ -72,7 +72,31 @@ chosen-under true false f h r = Under.new r
 chosen-under false true f h r = absurd (let z : false ≡ true = f refl in let y : _≡_ {A = ℕ} 0 1 = cc in omega arith)
 chosen-under false false f h r = r
 
--- ---- an element's speed: it does not depend on the length, and a raised speed never lowers it
+-- ---- an element's speed does not depend on the train's length and maximum
+
+module _ (u t : Train) (alike : Alike u t) where
+  belongs-same : (c : ℕ) → belongs u c ≡ belongs t c
+  belongs-same zero = alike .inP
+  belongs-same (suc zero) = alike .inG
+  belongs-same (suc (suc c)) = alike .passengers
+
+  named-same : (q : ℕ) (l : List Entry) → namedSpeeds u q l ≡ namedSpeeds t q l
+  named-same q [] = refl
+  named-same q (e ∷ l) =
+      ap₂ (λ (b : Bool) (m : List ℕ). cond (eqb (e .qDiff) q && b) (e .vDiff ∷ m) m) (belongs-same (e .class)) (named-same q l)
+
+  above-same : (l : List Entry) → notAbove u l ≡ notAbove t l
+  above-same [] = refl
+  above-same (e ∷ l) =
+      ap₂ (λ (cant : ℕ) (m : List Entry). cond (eqb (e .qDiff) 0 && leb (e .class) cant) (e ∷ m) m) (alike .cant) (above-same l)
+
+  pub speed-same : (e : Element) → elementSpeed u e ≡ elementSpeed t e
+  speed-same e =
+      let l = e .entries in
+      ap₂ (λ (a b : List ℕ). lowest (instead (instead (e .vStatic) (greatestSpeeds (notAbove u l))) a) b) (named-same 1 l) (named-same 2 l)
+      ∙ ap (λ (m : List Entry). lowest (instead (instead (e .vStatic) (greatestSpeeds m)) (namedSpeeds t 1 l)) (namedSpeeds t 2 l)) (above-same l)
+
+-- ---- a raised speed never lowers an element's speed
 
 module _ (t : Train) where
   named-raised : (n : ℕ) {l m : List Entry} → EntriesRaised l m → NotHigher (namedSpeeds t n l) (namedSpeeds t n m)
@@ -106,28 +130,6 @@ module _ (t : Train) where
   speed-raised : (e f : Element) → e .vStatic ≤ f .vStatic → EntriesRaised (e .entries) (f .entries) → elementSpeed t e ≤ elementSpeed t f
   speed-raised e f h r = lowest-under (instead-not-higher (instead-not-higher h (cant-raised r)) (named-raised 1 r)) (not-higher-under (named-raised 2 r))
 
-  module _ (u : Train) (alike : Slower u t) where
-    belongs-same : (c : ℕ) → belongs u c ≡ belongs t c
-    belongs-same zero = alike .inP
-    belongs-same (suc zero) = alike .inG
-    belongs-same (suc (suc c)) = alike .passengers
-
-    named-same : (q : ℕ) (l : List Entry) → namedSpeeds u q l ≡ namedSpeeds t q l
-    named-same q [] = refl
-    named-same q (e ∷ l) =
-        ap₂ (λ (b : Bool) (m : List ℕ). cond (eqb (e .qDiff) q && b) (e .vDiff ∷ m) m) (belongs-same (e .class)) (named-same q l)
-
-    above-same : (l : List Entry) → notAbove u l ≡ notAbove t l
-    above-same [] = refl
-    above-same (e ∷ l) =
-        ap₂ (λ (cant : ℕ) (m : List Entry). cond (eqb (e .qDiff) 0 && leb (e .class) cant) (e ∷ m) m) (alike .cant) (above-same l)
-
-    speed-same : (e : Element) → elementSpeed u e ≡ elementSpeed t e
-    speed-same e =
-        let l = e .entries in
-        ap₂ (λ (a b : List ℕ). lowest (instead (instead (e .vStatic) (greatestSpeeds (notAbove u l))) a) b) (named-same 1 l) (named-same 2 l)
-        ∙ ap (λ (m : List Entry). lowest (instead (instead (e .vStatic) (greatestSpeeds m)) (namedSpeeds t 1 l)) (namedSpeeds t 2 l)) (above-same l)
-
 -- ---- what holds
 
 end-same : (lsp : ℕ) {l m : List Element} → ElementsRaised l m → endBefore lsp l ≡ endBefore lsp m
@@ -150,7 +152,7 @@ module _ (u t : Train) (slower : Slower u t) where
   held-slower lsp x (ElementsRaised.more s f {v} {w} {es} {fs} {l} {m} h r rest) =
       let e : Element = record { start = s; vStatic = v; qFront = f; entries = es } in
       let g : Element = record { start = s; vStatic = w; qFront = f; entries = fs } in
-      let not-above : elementSpeed u e ≤ elementSpeed t g = omega (arith, speed-same t u slower e, speed-raised t e g h r) in
+      let not-above : elementSpeed u e ≤ elementSpeed t g = omega (arith, speed-same u t (slower .alike) e, speed-raised t e g h r) in
       subst (λ (stop : ℕ). Under (heldSpeeds u lsp x (e ∷ l)) (cond (holds t g stop x) (elementSpeed t g ∷ heldSpeeds t lsp x m) (heldSpeeds t lsp x m))) (end-same lsp rest)
       (chosen-under (holds u e (endBefore lsp l) x) (holds t g (endBefore lsp l) x) (holds-longer e (endBefore lsp l) x) not-above (held-slower lsp x rest))
 

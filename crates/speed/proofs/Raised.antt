@@ -99,7 +99,10 @@ pub record SheetRaised (l m : List Item) : Type 0 where
 -- values are raised to themselves
 pub raising-stays : {Good : Kind → Item → Type 0} {f : Format} {l : List Item} → Conforming Good f l → Raising f l l
 raising-stays done = over
-raising-stays (also {i = i} g c) = one {i = i} {j = i} (record { speeds = λ e. omega arith; others = λ n. refl }) (raising-stays c)
+raising-stays (also {i = i} g c) = one {i = i} {j = i} (record { speeds = λ e. stays (i .sheet); others = λ n. refl }) (raising-stays c)
+  where
+    stays : (n : ℕ) → n ≤ n
+    stays n = omega arith
 
 sheet-stands : {from : ℕ} {l m : List Item} {es fs : List Element} (w : SegmentStands InSheet from l es) (v : SegmentStands InSheet from m fs)
     → Raising (sheetFields wireChanges) l m → (v .length .sheet ≡ w .length .sheet) × ElementsRaised es fs

@@ -1,4 +1,4 @@
--- "Longer or slower never means faster": a train with another length or another maximum, and values of a segment of which speeds are raised, "With all else equal".
+-- "Longer or slower never means faster": what is longer or slower, "With all else equal", of two trains and of the values of two segments.
 use mathlib.Core.Path.{_≡_}
 use mathlib.Core.List.{List, [], _∷_}
 use Prim.Native.Nat.{ℕ, _≤_}
@@ -8,22 +8,18 @@ use Rattle.kinds.specs.Kinds.{speed}
 use Rattle.format.specs.Format.{Format, end, field}
 use Rattle.speed.specs.declared.Train.{Train}
 
--- "a longer train": the train with the length n, in cm
-abbrev pub withLength : ℕ → Train → Train
-withLength n t = record { length = n; cant = t .cant; maximum = t .maximum; «freight_p» = t .«freight_p»; «freight_g» = t .«freight_g»; passenger = t .passenger }
-
--- "a lower card maximum": the train with the maximum n, in km/h
-abbrev pub withMaximum : ℕ → Train → Train
-withMaximum n t = record { length = t .length; cant = t .cant; maximum = n; «freight_p» = t .«freight_p»; «freight_g» = t .«freight_g»; passenger = t .passenger }
-
--- "Longer or slower": u is at least as long as t and its maximum is not above that of t, "With all else equal"
-pub record Slower (u t : Train) : Type 0 where
-  pub longer : t .length ≤ u .length
-  pub lower : u .maximum ≤ t .maximum
+-- "With all else equal": two trains with one cant deficiency and the same memberships; nothing is said of a train that "joins a category"
+pub record Alike (u t : Train) : Type 0 where
   pub cant : u .cant ≡ t .cant
   pub inP : u .«freight_p» ≡ t .«freight_p»
   pub inG : u .«freight_g» ≡ t .«freight_g»
   pub passengers : u .passenger ≡ t .passenger
+
+-- "Longer or slower": u is at least as long as t, and its maximum is not above that of t
+pub record Slower (u t : Train) : Type 0 where
+  pub longer : t .length ≤ u .length
+  pub lower : u .maximum ≤ t .maximum
+  pub alike : Alike u t
 
 -- "raising any speed in the sheet": b is a speed that is at least a, and any other number is as it was
 pub record RaisedTo (k : Kind) (a b : ℕ) : Type 0 where
