@@ -96,7 +96,7 @@ packet-of {s} l ok good whole d =
     d .whole ∙ ap result (sheet-result s room c) ∙ placed-result (toEitherPacket (c .values)) room ∙ ap toEitherPacket v ∙ o .samePacket
 
 -- converted sheets of these values have their packets
-packets-of : {sheets packets : List (List ℕ)} (v : List (List Item)) → Each Bytes sheets → Each (SegmentValues Brought.sheet) v → sheets ≡ map (toSheet wireChanges) v
+pub packets-of : {sheets packets : List (List ℕ)} (v : List (List Item)) → Each Bytes sheets → Each (SegmentValues Brought.sheet) v → sheets ≡ map (toSheet wireChanges) v
     → EachConverted sheets packets → packets ≡ map (toPacket wireChanges) v
 packets-of [] ok good whole EachConverted.none = refl
 packets-of (l ∷ v) ok good whole EachConverted.none = absurd (let z : _≡_ {A = ℕ} 0 1 = cc in omega arith)

@@ -11,6 +11,8 @@ pub mod Reached
 pub mod DemandOne
 pub mod DemandTwo
 pub mod DemandThree
+pub mod Faster
+pub mod Joined
 pub mod Journeys
 pub mod Segments
 pub mod Stored

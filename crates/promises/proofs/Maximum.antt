@@ -2,15 +2,16 @@
 use mathlib.Core.Path.{_≡_, refl, sym, ap, ap₂, _∙_}
 use mathlib.Core.Bool.{Bool, true, cond, _&&_}
 use mathlib.Core.List.{List, [], _∷_}
-use Prim.Native.Nat.{ℕ, zero, suc, _+_, _≤_, min}
+use Prim.Native.Nat.{ℕ, _+_, _≤_, min}
 use native.Mathlib.Omega.{arith}
 use borrow.Author.Tests.{leb-true, leb-false, le-leb}
-use lib.Dec.{eqb, ltb, leb}
+use lib.Dec.{ltb, leb}
 use Rattle.bits.proofs.Tests.{by-cases, and-left, and-right}
 use Rattle.format.specs.Grounds.{Among, first, later}
 use Rattle.speed.specs.declared.Train.{Train}
-use Rattle.speed.specs.Speed.{Entry, Element, figure, validTrain, limited, belongs, isNotAbove, notAbove, greatestSpeeds, namedSpeeds, lowest, instead, elementSpeed, endBefore, holds, heldSpeeds}
+use Rattle.speed.specs.Speed.{Element, figure, validTrain, limited, instead, endBefore, holds, heldSpeeds}
 use Rattle.speed.specs.Run.{runElements, runEnd, lastStart, speedInRun}
+use Rattle.speed.proofs.Faster.{speed-same}
 use Rattle.speed_question.specs.declared.Speed.{Speed}
 use Rattle.speed_question.specs.Question.{judgedSpeed}
 use Rattle.promises.specs.Promised.{withMaximum, answerLimited, LowestOf}
@@ -19,28 +20,9 @@ use Rattle.promises.proofs.Held.{lowest-of}
 -- ---- the profile's speed
 
 module _ (m : ℕ) (t : Train) where
-  belongs-same : (c : ℕ) → belongs (withMaximum m t) c ≡ belongs t c
-  belongs-same zero = refl
-  belongs-same (suc zero) = refl
-  belongs-same (suc (suc c)) = refl
-
-  named-same : (q : ℕ) (l : List Entry) → namedSpeeds (withMaximum m t) q l ≡ namedSpeeds t q l
-  named-same q [] = refl
-  named-same q (e ∷ l) = ap₂ (λ (b : Bool) (r : List ℕ). cond (eqb (e .qDiff) q && b) (e .vDiff ∷ r) r) (belongs-same (e .class)) (named-same q l)
-
-  above-same : (l : List Entry) → notAbove (withMaximum m t) l ≡ notAbove t l
-  above-same [] = refl
-  above-same (e ∷ l) = ap (λ (r : List Entry). cond (isNotAbove t e) (e ∷ r) r) (above-same l)
-
-  element-same : (e : Element) → elementSpeed (withMaximum m t) e ≡ elementSpeed t e
-  element-same e =
-      let l = e .entries in
-      ap (λ (r : List Entry). lowest (instead (instead (e .vStatic) (greatestSpeeds r)) (namedSpeeds (withMaximum m t) 1 l)) (namedSpeeds (withMaximum m t) 2 l)) (above-same l)
-      ∙ ap₂ (λ (a b : List ℕ). lowest (instead (instead (e .vStatic) (greatestSpeeds (notAbove t l))) a) b) (named-same 1 l) (named-same 2 l)
-
   held-same : (lsp x : ℕ) (l : List Element) → heldSpeeds (withMaximum m t) lsp x l ≡ heldSpeeds t lsp x l
   held-same lsp x [] = refl
-  held-same lsp x (e ∷ l) = ap₂ (λ (v : ℕ) (r : List ℕ). cond (holds t e (endBefore lsp l) x) (v ∷ r) r) (element-same e) (held-same lsp x l)
+  held-same lsp x (e ∷ l) = ap₂ (λ (v : ℕ) (r : List ℕ). cond (holds t e (endBefore lsp l) x) (v ∷ r) r) (speed-same (withMaximum m t) t (record { cant = refl; inP = refl; inG = refl; passengers = refl }) e) (held-same lsp x l)
 
   -- the profile's speed is the same whatever the maximum is
   pub profile-same : (x : ℕ) (r : List (List ℕ)) → speedInRun (withMaximum m t) x r ≡ speedInRun t x r

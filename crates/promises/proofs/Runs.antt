@@ -138,15 +138,15 @@ run-stands b from l (n ∷ v) c =
 
 -- ---- lowering
 
-each-lowered : (v : List (List Item)) → Each (SegmentValues Brought.sheet) v → Each (SegmentValues Brought.packet) (eachGivenBack v)
+pub each-lowered : (v : List (List Item)) → Each (SegmentValues Brought.sheet) v → Each (SegmentValues Brought.packet) (eachGivenBack v)
 each-lowered [] c = tt
 each-lowered (l ∷ v) c = (lowered-good (c .0), each-lowered v (c .1))
 
-packets-lowered : (v : List (List Item)) → map (toPacket wireChanges) (eachGivenBack v) ≡ map (toPacket wireChanges) v
+pub packets-lowered : (v : List (List Item)) → map (toPacket wireChanges) (eachGivenBack v) ≡ map (toPacket wireChanges) v
 packets-lowered [] = refl
 packets-lowered (l ∷ v) = ap₂ (λ (a : List ℕ) (r : List (List ℕ)). a ∷ r) (lowered-packet l) (packets-lowered v)
 
-last-lowered : (v : List (List Item)) → Each (SegmentValues Brought.sheet) v → segmentLength (lastOf (numbersOf (eachGivenBack v))) ≡ segmentLength (lastOf (numbersOf v))
+pub last-lowered : (v : List (List Item)) → Each (SegmentValues Brought.sheet) v → segmentLength (lastOf (numbersOf (eachGivenBack v))) ≡ segmentLength (lastOf (numbersOf v))
 last-lowered [] c = refl
 last-lowered (l ∷ []) c = length-stays l (c .0)
 last-lowered (l ∷ n ∷ v) c = last-lowered (n ∷ v) (c .1)

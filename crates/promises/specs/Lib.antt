@@ -5,3 +5,4 @@ pub mod Samples
 pub mod deliveries
 pub mod desk
 pub mod shelves
+pub mod Faster
