@@ -15,7 +15,8 @@ use Rattle.grammar.specs.link.Link.{linkFields, fromEitherPacket, fromEitherShe
 use Rattle.grammar.specs.link.Grounds.{EitherSheetValues}
 use Rattle.grammar.proofs.link.Trees.{link-lawful}
 use Rattle.grammar.proofs.link.Values.{either-packet-taken, either-sheet-taken}
-use Rattle.promises.specs.Promised.{spelled, LoweredTo, Lowering, over, one, Agreeing}
+use Rattle.speed.specs.Faster.{over, one}
+use Rattle.promises.specs.Promised.{spelled, LoweredTo, Lowering, Agreeing}
 use Rattle.promises.proofs.Values.{either-lowered, either-lowered-good, either-good-sheet, numbers-spelled, lowered-to, lowering}
 
 -- a number is lowered to only one number

@@ -16,7 +16,7 @@ use Rattle.grammar.proofs.link.Values.{either-sheet-taken}
 use Rattle.grammar.proofs.link.Segments.{on-link}
 use Rattle.speed.specs.declared.Train.{Train}
 use Rattle.speed.specs.Speed.{limited, inFives}
-use Rattle.speed.specs.Run.{Each, numbersOf, speedInRun}
+use Rattle.speed.specs.Run.{Each, none, another, numbersOf, speedInRun}
 use Rattle.speed_question.specs.declared.Speed.{Speed}
 use Rattle.speed_question.specs.Question.{Brought, mediumOf, lent, speedAsked, permittedSpeed}
 use Rattle.convert.specs.Convert.{successWith, sheetToPacket}
@@ -98,10 +98,10 @@ packet-of {s} l ok good whole d =
 -- converted sheets of these values have their packets
 pub packets-of : {sheets packets : List (List ℕ)} (v : List (List Item)) → Each Bytes sheets → Each (SegmentValues Brought.sheet) v → sheets ≡ map (toSheet wireChanges) v
     → EachConverted sheets packets → packets ≡ map (toPacket wireChanges) v
-packets-of [] ok good whole EachConverted.none = refl
-packets-of (l ∷ v) ok good whole EachConverted.none = absurd (let z : _≡_ {A = ℕ} 0 1 = cc in omega arith)
-packets-of [] ok good whole (EachConverted.another d rest) = absurd (let z : _≡_ {A = ℕ} 0 1 = cc in omega arith)
-packets-of (l ∷ v) ok good whole (EachConverted.another {s = s} {sheets = sheets} d rest) =
+packets-of [] ok good whole none = refl
+packets-of (l ∷ v) ok good whole none = absurd (let z : _≡_ {A = ℕ} 0 1 = cc in omega arith)
+packets-of [] ok good whole (another d rest) = absurd (let z : _≡_ {A = ℕ} 0 1 = cc in omega arith)
+packets-of (l ∷ v) ok good whole (another {a = s} {r = sheets} d rest) =
     let first : s ≡ toSheet wireChanges l = cc in
     let later : sheets ≡ map (toSheet wireChanges) v = cc in
     ap₂ (λ (p : List ℕ) (r : List (List ℕ)). p ∷ r) (packet-of l (ok .0) (good .0) first d) (packets-of v (ok .1) (good .1) later rest)

@@ -17,8 +17,7 @@ use Rattle.speed.specs.declared.Train.{Train}
 use Rattle.speed.specs.Speed.{Element, validTrain, limited, elementsFrom, segmentLength, profileOf, inFives}
 use Rattle.speed.specs.Run.{Each, numbersOf, eachGivenBack, runElements, runEnd, lastOf, lastStart, speedInRun}
 use Rattle.speed.specs.Standing.{SegmentStands}
-use Rattle.speed.proofs.Lowering.{length-stays}
-use Rattle.speed.proofs.Runs.{run-in-fives}
+use Rattle.speed.proofs.Runs.{last-same, lowered-as-long, run-in-fives}
 use Rattle.speed.proofs.Standing.{segment-stands, segment-only, packet-count, sheet-count}
 use Rattle.speed_question.specs.declared.Speed.{Speed}
 use Rattle.speed_question.specs.Question.{Brought, noSpeed, readAs, runCount, RunRead, accepted, refused, inFront, judgedRun, answerOfRun, judgedSpeed, speedOfRun, speedAsked}
@@ -147,9 +146,7 @@ packets-lowered [] = refl
 packets-lowered (l ∷ v) = ap₂ (λ (a : List ℕ) (r : List (List ℕ)). a ∷ r) (lowered-packet l) (packets-lowered v)
 
 pub last-lowered : (v : List (List Item)) → Each (SegmentValues Brought.sheet) v → segmentLength (lastOf (numbersOf (eachGivenBack v))) ≡ segmentLength (lastOf (numbersOf v))
-last-lowered [] c = refl
-last-lowered (l ∷ []) c = length-stays l (c .0)
-last-lowered (l ∷ n ∷ v) c = last-lowered (n ∷ v) (c .1)
+last-lowered v c = last-same (lowered-as-long v c)
 
 -- a change of an answer that keeps the refusals of a question about good values
 record Keeping (change : Speed → Speed) : Type 0 where

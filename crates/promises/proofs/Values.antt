@@ -35,11 +35,12 @@ use Rattle.grammar.proofs.link.Trees.{link-lawful}
 use Rattle.grammar.proofs.link.Values.{either-packet-values, either-packet-taken, either-sheet-values, either-sheet-taken}
 use Rattle.grammar.proofs.link.Grounds.{either-packet-grounds, either-sheet-grounds, either-packet-listed, either-sheet-listed}
 use Rattle.speed.specs.Speed.{inFives}
+use Rattle.speed.specs.Faster.{over, one}
 use Rattle.speed_question.specs.Question.{Brought, readAs}
 use Rattle.speed_question.proofs.Values.{packet-values, sheet-values}
 use Rattle.altitude.specs.Altitude.{altitudeOfRead}
 use Rattle.convert.specs.Convert.{Outcome, refusedWith, successWith, fitted, converted}
-use Rattle.promises.specs.Promised.{SegmentValues, segmentOf, Convertible, GreatestFive, Done, result, spelled, spelledBits, LoweredTo, Lowering, over, one}
+use Rattle.promises.specs.Promised.{SegmentValues, segmentOf, Convertible, GreatestFive, Done, result, spelled, spelledBits, LoweredTo, Lowering}
 
 -- ---- packets and sheets of good values
 

@@ -20,8 +20,9 @@ use Rattle.grammar.specs.link.Link.{linkFields, linkBits, toEitherPacket, toEit
 use Rattle.grammar.specs.link.Grounds.{EitherPacketValues, EitherSheetValues}
 use Rattle.speed.specs.declared.Train.{Train}
 use Rattle.speed.specs.Speed.{Element, validTrain, segmentLength, inFives}
-use Rattle.speed.specs.Run.{Each, numbersOf, lastOf}
+use Rattle.speed.specs.Run.{Each, EachTwo, numbersOf, lastOf}
 use Rattle.speed.specs.Standing.{SegmentStands}
+use Rattle.speed.specs.Faster.{FieldByField}
 use Rattle.speed_question.specs.declared.Speed.{Speed}
 use Rattle.speed_question.specs.Question.{Brought, packet, sheet, mediumOf, runCount}
 use Rattle.convert.specs.Convert.{Outcome, fitted, packetToSheet, sheetToPacket}
@@ -143,10 +144,8 @@ pub record LoweredTo (k : Kind) (a b : ℕ) : Type 0 where
   pub others : (k ≡ speed → ⊥) → (k ≡ mCurrent → ⊥) → b ≡ a
 
 -- "in every field after that lowering": field by field
-pub data Lowering : Format → List Item → List Item → Type 0 where
-  over : Lowering end [] []
-  one : {k : Kind} {next : ℕ → Format} {i j : Item} {l m : List Item} → LoweredTo k (i .sheet) (j .sheet) → Lowering (next (i .packet)) l m
-      → Lowering (field k next) (i ∷ l) (j ∷ m)
+abbrev pub Lowering : Format → List Item → List Item → Type 0
+Lowering f l m = FieldByField LoweredTo f l m
 
 -- "they agree in every field after that lowering": both are lowered, field by field, to the same numbers
 pub record Agreeing (l m : List Item) : Type 0 where
@@ -174,9 +173,8 @@ pub record ConvertedTo (s packet : List ℕ) : Type 0 where
   pub whole : packet ≡ result (sheetToPacket s room)
 
 -- "The lowering in demand 3 holds for the run": each sheet of a run against its packet
-pub data EachConverted : List (List ℕ) → List (List ℕ) → Type 0 where
-  none : EachConverted [] []
-  another : {s packet : List ℕ} {sheets packets : List (List ℕ)} → ConvertedTo s packet → EachConverted sheets packets → EachConverted (s ∷ sheets) (packet ∷ packets)
+abbrev pub EachConverted : List (List ℕ) → List (List ℕ) → Type 0
+EachConverted sheets packets = EachTwo ConvertedTo sheets packets
 
 -- "the lowest speed of the elements that hold there", "the lower of that and the profile's": v is one of the speeds l, and none of them is lower
 pub record LowestOf (v : ℕ) (l : List ℕ) : Type 0 where

@@ -236,7 +236,7 @@ run-not-above t x s r h =
 abbrev pub SheetValues : List Item → Type 0
 SheetValues l = Conforming InSheet (sheetFields wireChanges) l
 
-lowered-as-long : (r : List (List Item)) → Each SheetValues r → AsLong (numbersOf (eachGivenBack r)) (numbersOf r)
+pub lowered-as-long : (r : List (List Item)) → Each SheetValues r → AsLong (numbersOf (eachGivenBack r)) (numbersOf r)
 lowered-as-long [] c = none
 lowered-as-long (l ∷ r) c = another (length-stays l (c .0)) (lowered-as-long r (c .1))
 

@@ -26,8 +26,12 @@ pub record RaisedTo (k : Kind) (a b : ℕ) : Type 0 where
   pub speeds : k ≡ speed → a ≤ b
   pub others : (k ≡ speed → ⊥) → b ≡ a
 
--- field by field, by the tree of the first values: V_STATIC and V_DIFF, any number of them at once
-pub data Raising : Format → List Item → List Item → Type 0 where
-  over : Raising end [] []
-  one : {k : Kind} {next : ℕ → Format} {i j : Item} {l m : List Item} → RaisedTo k (i .sheet) (j .sheet) → Raising (next (i .packet)) l m
-      → Raising (field k next) (i ∷ l) (j ∷ m)
+-- field by field, by the tree of the first values: R of each two numbers
+pub data FieldByField (R : Kind → ℕ → ℕ → Type 0) : Format → List Item → List Item → Type 0 where
+  over : FieldByField R end [] []
+  one : {k : Kind} {next : ℕ → Format} {i j : Item} {l m : List Item} → R k (i .sheet) (j .sheet) → FieldByField R (next (i .packet)) l m
+      → FieldByField R (field k next) (i ∷ l) (j ∷ m)
+
+-- "raising any speed in the sheet": V_STATIC and V_DIFF, any number of them at once
+abbrev pub Raising : Format → List Item → List Item → Type 0
+Raising f l m = FieldByField RaisedTo f l m
