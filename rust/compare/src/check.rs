@@ -4,6 +4,7 @@ use crate::archive::Archive;
 use crate::case::{any_kind, any_location, any_train, Case, FASTEST};
 use crate::draft::Kind;
 use crate::event::Event;
+use crate::faster;
 use crate::lowered::lowered;
 use crate::program::{Answer, Operation, Program, Question, Run, Train, JOURNEY, KIND_PACKET, KIND_SHEET, UNKNOWN_KIND};
 use crate::random::Random;
@@ -23,8 +24,8 @@ pub const LARGEST_PACKET: usize = 8_207;
 /// How many changes of voltage, and how many of current, were allowed at first.
 const FORMER_WIRES: u32 = 23;
 
-/// Compares the operations on a case, every answer and every byte of the rooms; then the demands; then runs of segments; then packets taken in
-/// deliveries.
+/// Compares the operations on a case, every answer and every byte of the rooms; then the demands; then runs of segments; then pairs of questions
+/// on runs; then packets taken in deliveries.
 pub fn check(random: &mut Random, case: &Case, tally: &mut Tally) -> Result<(), String> {
     for (operation, input) in [
         (Operation::PacketToSheet, &case.packet),
@@ -44,6 +45,7 @@ pub fn check(random: &mut Random, case: &Case, tally: &mut Tally) -> Result<(), 
         speeds(random, case, packet.as_deref(), (train, x), tally)?;
     }
     run_check::check(random, tally)?;
+    faster::check(random, tally)?;
     sequence::check(random, case, tally)?;
     wild::check(random, &case.packet, tally)
 }

@@ -1,5 +1,5 @@
-//! Events of an intake in the random sequences and states, of a random speed question of an unknown kind, about a run or with a train's maximum, and
-//! of random counts of wire changes: each is counted, and must happen.
+//! Events of an intake in the random sequences and states, of a random speed question of an unknown kind, about a run or with a train's maximum, of
+//! random counts of wire changes, and of random pairs of speed questions: each is counted, and must happen.
 
 #[derive(Clone, Copy)]
 pub enum Event {
@@ -81,10 +81,19 @@ pub enum Event {
     FullWires,
     PastVoltages,
     PastCurrents,
+    Longer,
+    LongerPackets,
+    LongerSheets,
+    Raised,
+    RaisedPackets,
+    RaisedSheets,
+    Lower,
+    LowerPackets,
+    LowerSheets,
 }
 
 /// Each event with its words, in the order of the type.
-pub const EVENTS: [(Event, &str); 78] = [
+pub const EVENTS: [(Event, &str); 87] = [
     (Event::InParts, "packets accepted in several deliveries"),
     (Event::ByteByByte, "packets accepted byte by byte"),
     (Event::NothingOnTheWay, "deliveries of no bytes before a completion"),
@@ -163,4 +172,13 @@ pub const EVENTS: [(Event, &str); 78] = [
     (Event::FullWires, "packets and sheets accepted with 31 of both"),
     (Event::PastVoltages, "sheets refused with 4 at the count of voltage changes"),
     (Event::PastCurrents, "sheets refused with 4 at the count of current changes"),
+    (Event::Longer, "pairs of a train and one that is longer or as long, both answered"),
+    (Event::LongerPackets, "of these slower when longer, from packets"),
+    (Event::LongerSheets, "of these slower when longer, from sheets"),
+    (Event::Raised, "pairs of a run and one with speeds raised, both answered"),
+    (Event::RaisedPackets, "of these faster when raised, from packets"),
+    (Event::RaisedSheets, "of these faster when raised, from sheets"),
+    (Event::Lower, "pairs of a train and one with a maximum that is lower or the same, both answered"),
+    (Event::LowerPackets, "of these slower when lower, from packets"),
+    (Event::LowerSheets, "of these slower when lower, from sheets"),
 ];

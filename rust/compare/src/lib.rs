@@ -16,6 +16,7 @@ pub mod desk_shelves;
 pub mod desk_wires;
 pub mod draft;
 pub mod event;
+pub mod faster;
 pub mod intakes;
 pub mod journeys;
 pub mod lowered;

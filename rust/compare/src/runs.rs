@@ -11,7 +11,7 @@ use crate::segments::{segment_of_length, shortest, Sizes, LONGEST};
 use std::fmt;
 
 /// Largest length of a train in centimetres.
-const LONGEST_TRAIN: u32 = 150_000;
+pub const LONGEST_TRAIN: u32 = 150_000;
 
 /// The segments that are lent, in both media, and a question about a run of them.
 pub struct Drawn {
@@ -71,7 +71,7 @@ fn any_count(random: &mut Random) -> u32 {
 }
 
 /// Draws a segment, mostly of up to three changes of speed and about as long as the train or shorter.
-fn any_segment(random: &mut Random, train: &Train) -> Draft {
+pub fn any_segment(random: &mut Random, train: &Train) -> Draft {
     let sizes = Sizes {
         changes: random.pick(&[0, 0, 1, 1, 2, 3, 31]),
         entries: (0, random.between(0, 2)),
@@ -92,7 +92,7 @@ fn any_segment(random: &mut Random, train: &Train) -> Draft {
 }
 
 /// Draws a location of the last segment: near where the train leaves an element of a segment before it, or as for one segment.
-fn any_end(random: &mut Random, run: &[Draft], train: &Train) -> u32 {
+pub fn any_end(random: &mut Random, run: &[Draft], train: &Train) -> u32 {
     let (last, before) = run.split_last().expect("a run has a segment");
     let length = |draft: &Draft| draft.values(Kind::Length)[0];
     // how far before the last segment the elements end, and changes of voltage and of current are
