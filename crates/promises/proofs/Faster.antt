@@ -1,6 +1,5 @@
 -- "Longer or slower never means faster": the three sentences in the words of the question, for runs of packets and of sheets, and the lowest of some answers.
 use mathlib.Core.Path.{_≡_, refl, sym, ap, ap₂, _∙_, subst}
-use mathlib.Core.Bool.{true, false}
 use mathlib.Core.List.{List, [], _∷_, map}
 use Prim.Native.Nat.{ℕ, _≤_, _<_}
 use native.Mathlib.Omega.{arith}
@@ -18,7 +17,7 @@ use Rattle.speed.proofs.Raised as raised
 use Rattle.speed_question.specs.declared.Speed.{Speed}
 use Rattle.speed_question.specs.Question.{Brought, mediumOf, noSpeed, lent, runCount, answerOfRun, speedOfRun, permittedSpeed}
 use Rattle.promises.specs.Promised.{SegmentValues, segmentOf, SegmentOfValues, RunOfValues, withMaximum, EachConverted}
-use Rattle.promises.specs.Faster.{NotFaster, withLength, RaisedSegment, RaisedRun}
+use Rattle.promises.specs.Faster.{NotFaster, withLength, RaisedRun}
 use Rattle.promises.proofs.Ranges.{good-sheet}
 use Rattle.promises.proofs.Runs.{run-accepted, each-lowered, packets-lowered, last-lowered}
 use Rattle.promises.proofs.Speeds.{permitted-speed-count, permitted-speed-judged, permitted-speed-answered}

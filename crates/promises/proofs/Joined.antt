@@ -1,7 +1,6 @@
 -- "Nothing is claimed for a train that joins a category, as a replacing entry may be faster": trains that join one and are faster, and others that are slower.
-use mathlib.Core.Path.{_≡_, refl, ap}
+use mathlib.Core.Path.{_≡_, refl}
 use mathlib.Core.Bool.{true, false}
-use mathlib.Core.List.{[], _∷_, map}
 use Prim.Native.Nat.{ℕ, _≤_}
 use native.Mathlib.Omega.{arith}
 use Rattle.bits.specs.Bits.{fieldAt}

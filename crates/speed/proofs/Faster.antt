@@ -8,7 +8,8 @@ use borrow.Author.Tests.{ltb-true, lt-ltb}
 use lib.Dec.{eqb, ltb, leb}
 use Rattle.bits.proofs.Tests.{by-cases, and-left, and-right}
 use Rattle.speed.specs.declared.Train.{Train}
-use Rattle.speed.specs.Speed.{Entry, Element, limited, belongs, isNotAbove, notAbove, greatestFigure, isOf, figureSpeeds, greatestSpeeds, cantSpeeds, namedSpeeds, lowest, instead, elementSpeed, endBefore, heldTo, holds, heldSpeeds, permitted}
+use Rattle.speed.specs.Speed.{Entry, Element, limited, belongs, notAbove, greatestFigure, figureSpeeds, greatestSpeeds, cantSpeeds, namedSpeeds, lowest, instead, elementSpeed, endBefore, heldTo, holds, heldSpeeds, permitted}
+use Rattle.speed.specs.Run.{EachTwo}
 use Rattle.speed.specs.Faster.{Alike, Slower}
 
 -- ---- elements whose speeds are raised
@@ -28,9 +29,8 @@ pub data ElementsRaised : List Element → List Element → Type 0 where
 -- ---- the lowest of some speeds
 
 -- for each of the second a speed that is no higher, one for one
-data NotHigher : List ℕ → List ℕ → Type 0 where
-  none : NotHigher [] []
-  both : {v w : ℕ} {l m : List ℕ} → v ≤ w → NotHigher l m → NotHigher (v ∷ l) (w ∷ m)
+abbrev NotHigher : List ℕ → List ℕ → Type 0
+NotHigher l m = EachTwo (λ (v w : ℕ). v ≤ w) l m
 
 -- for each of the second a speed that is no higher, and perhaps others
 data Under : List ℕ → List ℕ → Type 0 where
@@ -39,8 +39,8 @@ data Under : List ℕ → List ℕ → Type 0 where
   new : {v : ℕ} {l m : List ℕ} → Under l m → Under (v ∷ l) m
 
 not-higher-under : {l m : List ℕ} → NotHigher l m → Under l m
-not-higher-under NotHigher.none = Under.none
-not-higher-under (NotHigher.both h r) = Under.both h (not-higher-under r)
+not-higher-under EachTwo.none = Under.none
+not-higher-under (EachTwo.another h r) = Under.both h (not-higher-under r)
 
 lowest-under : {v w : ℕ} {l m : List ℕ} → v ≤ w → Under l m → lowest v l ≤ lowest w m
 lowest-under h Under.none = h
@@ -49,8 +49,8 @@ lowest-under {v} {w} h (Under.new {v = a} r) = lowest-under {v = min v a} {w = w
 
 -- where there is one, "take the lowest of them instead"; else both keep what they had
 instead-not-higher : {v w : ℕ} {l m : List ℕ} → v ≤ w → NotHigher l m → instead v l ≤ instead w m
-instead-not-higher h NotHigher.none = h
-instead-not-higher h (NotHigher.both g r) = lowest-under g (not-higher-under r)
+instead-not-higher h EachTwo.none = h
+instead-not-higher h (EachTwo.another g r) = lowest-under g (not-higher-under r)
 
 lowest-after : (v : ℕ) {w : ℕ} {l m : List ℕ} → Under l (w ∷ m) → lowest v l ≤ lowest w m
 lowest-after v {w} (Under.both {v = a} h r) = lowest-under {v = min v a} {w = w} (omega arith) r
@@ -62,7 +62,7 @@ instead-under (Under.both h r) = lowest-under h r
 instead-under (Under.new {v = a} r) = lowest-after a r
 
 chosen-not-higher : (b : Bool) {v w : ℕ} {l m : List ℕ} → v ≤ w → NotHigher l m → NotHigher (cond b (v ∷ l) l) (cond b (w ∷ m) m)
-chosen-not-higher true h r = NotHigher.both h r
+chosen-not-higher true h r = EachTwo.another h r
 chosen-not-higher false h r = r
 
 -- chosen on the left wherever it is on the right
@@ -100,7 +100,7 @@ module _ (u t : Train) (alike : Alike u t) where
 
 module _ (t : Train) where
   named-raised : (n : ℕ) {l m : List Entry} → EntriesRaised l m → NotHigher (namedSpeeds t n l) (namedSpeeds t n m)
-  named-raised n EntriesRaised.none = NotHigher.none
+  named-raised n EntriesRaised.none = EachTwo.none
   named-raised n (EntriesRaised.more q c h r) = chosen-not-higher (eqb q n && belongs t c) h (named-raised n r)
 
   -- which entries are not above does not depend on their speeds
@@ -119,7 +119,7 @@ module _ (t : Train) where
   greatest-same (EntriesRaised.more q c h r) = ap (max c) (greatest-same r)
 
   figure-raised : (figure : ℕ) {l m : List Entry} → EntriesRaised l m → NotHigher (figureSpeeds figure l) (figureSpeeds figure m)
-  figure-raised figure EntriesRaised.none = NotHigher.none
+  figure-raised figure EntriesRaised.none = EachTwo.none
   figure-raised figure (EntriesRaised.more q c h r) = chosen-not-higher (eqb c figure) h (figure-raised figure r)
 
   cant-raised : {l m : List Entry} → EntriesRaised l m → NotHigher (cantSpeeds t l) (cantSpeeds t m)
