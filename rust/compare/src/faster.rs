@@ -9,11 +9,15 @@ use crate::program::{Answer, Run, Train, KIND_PACKET, KIND_SHEET, LENT};
 use crate::random::Random;
 use crate::run_check::compare;
 use crate::runs::{any_end, any_segment, LONGEST_TRAIN};
+use crate::segments::{gathered, Sizes};
 use crate::tally::Tally;
 use std::fmt;
 
 /// The highest speed of a sheet in km/h.
 const FASTEST: u32 = 604;
+
+/// Sizes of a segment whose elements have several entries.
+const MANY_ENTRIES: Sizes = Sizes { changes: 2, entries: (3, 8), voltages: 0, currents: 0 };
 
 /// A question about a run of whole segments.
 #[derive(Clone)]
@@ -31,9 +35,15 @@ impl fmt::Display for Asked {
 }
 
 impl Asked {
+    /// Draws a question. Half of the segments have several entries by neighbouring cant deficiencies, and the train's is near one that is named:
+    /// a figure that is chosen by its speed is seen only where a figure has two entries and another one has a third.
     fn random(random: &mut Random) -> Asked {
         let (train, count) = (any_train(random, &[]), random.between(1, LENT as u32));
-        let run: Vec<Draft> = (0..count).map(|_| any_segment(random, &train)).collect();
+        let segment =
+            |random: &mut Random| if random.one_in(2) { any_segment(random, &train) } else { gathered(random, MANY_ENTRIES) };
+        let run: Vec<Draft> = (0..count).map(|_| segment(random)).collect();
+        let named: Vec<u32> = run.iter().flat_map(|draft| draft.values(Kind::Cant)).collect();
+        let train = Train { cant: any_train(random, &named).cant, ..train };
         let x = any_end(random, &run, &train);
         Asked { run, train, x }
     }
