@@ -124,6 +124,7 @@ pub record Seen : Type 0 where
   pub start : ℕ × ℕ
   pub bytes : List ℕ
 
+-- a slice of the code as its holder sees it
 abbrev pub seen : RefT (List ℕ) → Seen
 seen r = record { start = ptr r; bytes = now r }
 
@@ -156,5 +157,6 @@ lookIn k yard standard none c = noPart 21 yard
 lookIn k yard standard (some b) none = noPart 21 yard
 lookIn k yard standard (some b) (some c) = handed (lookup k b) yard (offsetOf k b) (handed (lookup k c) standard (offsetOf k c) (noPart 17 yard))
 
+-- "A lookup asks the yard's store first and the default store second, and hands back that part of whichever store holds it", of any two stores
 unfoldable pub shelfLookup : Seen → ℕ → Seen → ℕ → Key → Looked
 shelfLookup yard yardUsed standard standardUsed k = lookIn k yard standard (bookOf (yard .bytes) yardUsed) (bookOf (standard .bytes) standardUsed)

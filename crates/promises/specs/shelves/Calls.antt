@@ -19,6 +19,7 @@ pub data Side : Type 0 where
   yard : Side
   standard : Side
 
+-- "over any calls": an addition to a store, a removal from it, or a lookup in both
 pub data Call : Type 0 where
   add : Side → List ℕ → Call
   remove : Side → Key → Call
@@ -42,9 +43,11 @@ pub record Store : Type 0 where
 abbrev pub fresh : Seen → Store
 fresh s = record { seen = s; used = 0 }
 
+-- the answer to an addition or a removal, which hands nothing back
 abbrev pub changeAnswer : Stored → Answer
 changeAnswer o = record { refusal = o .answer .refusal; place = o .answer .place; used = o .answer .used; part = [] }
 
+-- the answer to a lookup, which says nothing of the used bytes
 abbrev pub lookAnswer : Looked → Answer
 lookAnswer o = record { refusal = o .refusal; place = 0; used = 0; part = o .part .bytes }
 
@@ -52,9 +55,11 @@ lookAnswer o = record { refusal = o .refusal; place = 0; used = 0; part = o .par
 abbrev pub storeAfter : Store → Stored → Store
 storeAfter st o = record { seen = record { start = st .seen .start; bytes = o .store }; used = o .answer .used }
 
+-- a sheet added to a store
 abbrev pub added : Store → List ℕ → Stored
 added st sheet = shelfAdd (st .seen .bytes) (st .used) sheet
 
+-- a key removed from a store
 abbrev pub removed : Store → Key → Stored
 removed st k = shelfRemove (st .seen .bytes) (st .used) k
 
@@ -79,10 +84,12 @@ pub record Mapped : Type 0 where
 abbrev pub mapRoom : ℕ → List Kept → List Kept → Mapped
 mapRoom room b n = cond (ltb room (weight n)) (record { refusal = 8; place = 0; book = b }) (record { refusal = 0; place = 0; book = n })
 
+-- "Adding the same key replaces": a sheet that was read, added to a map; "then the sheet's own"
 abbrev pub mapAdd : ℕ → List ℕ → List Kept → Read → Mapped
 mapAdd room sheet b (refused r place) = record { refusal = r; place = place; book = b }
 mapAdd room sheet b (accepted l) = mapRoom room b (put (record { key = keyOf l; sheet = sheet }) b)
 
+-- "17 exactly when no sheet with the key is kept"
 abbrev pub mapRemove : Key → List Kept → Mapped
 mapRemove k b = cond (found (lookup k b)) (record { refusal = 0; place = 0; book = without k b }) (record { refusal = 17; place = 0; book = b })
 
@@ -91,10 +98,12 @@ abbrev pub orElse : Option (List ℕ) → Option (List ℕ) → Option (List ℕ
 orElse none t = t
 orElse (some s) t = some s
 
+-- "A refused lookup hands back an empty part"
 abbrev pub mapLook : Option (List ℕ) → Answer
 mapLook none = record { refusal = 17; place = 0; used = 0; part = [] }
 mapLook (some s) = record { refusal = 0; place = 0; used = 0; part = s }
 
+-- the answer of a map: its used bytes are what its sheets take
 abbrev pub mappedAnswer : Mapped → Answer
 mappedAnswer m = record { refusal = m .refusal; place = m .place; used = weight (m .book); part = [] }
 
@@ -109,6 +118,7 @@ mapAnswers y s b c (Call.look k ∷ l) = mapLook (orElse (lookup k b) (lookup k 
 
 -- ---- the stores after all calls
 
+-- both stores after all calls
 abbrev pub storesAfter : Store → Store → List Call → Store × Store
 storesAfter y s [] = (y, s)
 storesAfter y s (Call.add Side.yard sheet ∷ l) = storesAfter (storeAfter y (added y sheet)) s l

@@ -29,6 +29,7 @@ NoShelf store used = (b : List Kept) → Keeps store used b → ⊥
 
 -- ---- an addition
 
+-- the grounds of a refused addition, in the order in which they are judged
 pub data AddGround (store : List ℕ) (used : ℕ) (sheet : List ℕ) (r place : ℕ) : Type 0 where
   -- "21, first"
   noShelf : NoShelf store used → r ≡ 21 → place ≡ 0 → AddGround store used sheet r place
@@ -51,6 +52,7 @@ addRefusals = 21 ∷ sheetRefusals ++ 8 ∷ []
 
 -- ---- a removal
 
+-- the grounds of a refused removal
 pub data RemoveGround (store : List ℕ) (used : ℕ) (k : Key) (r place : ℕ) : Type 0 where
   noShelf : NoShelf store used → r ≡ 21 → place ≡ 0 → RemoveGround store used k r place
   -- "17 exactly when no sheet with the key is kept"
@@ -73,6 +75,7 @@ pub data ChangeEnds (store : List ℕ) (used : ℕ) (refusals : List ℕ) (o : S
 
 -- ---- a lookup
 
+-- the grounds of a refused lookup
 pub data LookGround (yard : List ℕ) (yardUsed : ℕ) (standard : List ℕ) (standardUsed : ℕ) (k : Key) (r place : ℕ) : Type 0 where
   -- both stores are judged
   noYard : NoShelf yard yardUsed → r ≡ 21 → place ≡ 0 → LookGround yard yardUsed standard standardUsed k r place

@@ -8,10 +8,11 @@ use Rattle.shelf.specs.Shelf.{shelfAdd, shelfRemove, Seen, shelfLookup}
 use Rattle.promises.specs.Samples.{refusedSheets}
 use Rattle.promises.specs.shelves.Calls.{Side, Call, Answer}
 
--- the document's sheet with NID_C c, and its key
+-- the document's sheet with NID_C c
 abbrev sheetOf : ℕ → List ℕ
 sheetOf c = set firstSheet 8 c
 
+-- the key of the document's sheet with NID_C c
 abbrev keyed : ℕ → Key
 keyed c = record { «nid_c» = c; «nid_sp» = 0; major = 0; minor = 0 }
 
@@ -19,9 +20,11 @@ keyed c = record { «nid_c» = c; «nid_sp» = 0; major = 0; minor = 0 }
 abbrev faster : List ℕ → List ℕ
 faster s = set s 16 0x54
 
+-- the answer to an addition or a removal
 abbrev changed : ℕ → ℕ → ℕ → Answer
 changed r place used = record { refusal = r; place = place; used = used; part = [] }
 
+-- the answer to a lookup
 abbrev looked : ℕ → List ℕ → Answer
 looked r part = record { refusal = r; place = 0; used = 0; part = part }
 
@@ -29,6 +32,7 @@ looked r part = record { refusal = r; place = 0; used = 0; part = part }
 abbrev pub lying : List ℕ → Seen
 lying s = record { start = (3, 5); bytes = s }
 
+-- fifteen calls
 abbrev pub calls : List Call
 calls =
     Call.look (keyed 0)
@@ -43,6 +47,7 @@ calls =
     ∷ Call.add Side.yard (sheetOf 3) ∷ Call.look (keyed 3) ∷ Call.add Side.yard (7 ∷ [])
     ∷ []
 
+-- their answers
 abbrev pub expected : List Answer
 expected =
     looked 17 []

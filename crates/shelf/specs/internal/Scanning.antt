@@ -43,6 +43,7 @@ abbrev pub bookOr : Option (List Kept) → List Kept
 bookOr none = []
 bookOr (some b) = b
 
+-- the book that a run of bytes keeps
 abbrev pub keptIn : List ℕ → List Kept
 keptIn s = bookOr (sheetsIn (length s) s)
 
@@ -84,6 +85,7 @@ abbrev pub placeFrom : ℕ → Key → List Kept → Scan
 placeFrom n k [] = Place 0 0
 placeFrom n k (e ∷ b) = cond (sameKey (e .key) k) (Place n (4 + length (e .sheet))) (placeFrom (n + (4 + length (e .sheet))) k b)
 
+-- what the judgement of a run or a store finds of a key
 abbrev pub scanned : Key → Option (List Kept) → Scan
 scanned k none = NoShelf
 scanned k (some b) = placeFrom 0 k b
@@ -100,14 +102,17 @@ abbrev pub gapFrom : ℕ → ℕ → List Kept → ℕ
 gapFrom n m [] = n
 gapFrom n m (e ∷ b) = cond (ltb m (keyNumber (e .key))) n (gapFrom (n + (4 + length (e .sheet))) m b)
 
+-- the place of a new entry in a run
 abbrev pub gapIn : ℕ → List Kept → ℕ
 gapIn m b = gapFrom 0 m b
 
 -- ---- where a lookup finds its sheet
 
+-- a refused lookup finds nothing
 abbrev pub noFound : ℕ → Found
 noFound r = record { refusal = r; standard = false; start = 0; count = 0 }
 
+-- the sheet of an entry that has some bytes, in the yard's store or in the default one; else what is found otherwise
 abbrev pub foundAt : Bool → ℕ → ℕ → Found → Found
 foundAt standard start size other = cond (leb 4 size) (record { refusal = 0; standard = standard; start = start + 4; count = size - 4 }) other
 
@@ -115,10 +120,12 @@ foundAt standard start size other = cond (leb 4 size) (record { refusal = 0; sta
 abbrev pub eitherOf : ℕ → ℕ → ℕ → ℕ → Found
 eitherOf a n c m = foundAt false a n (foundAt true c m (noFound 17))
 
+-- what a lookup finds, from what the judgements of both stores have found
 abbrev pub foundIn : Scan → Scan → Found
 foundIn NoShelf q = noFound 21
 foundIn (Place a n) NoShelf = noFound 21
 foundIn (Place a n) (Place c m) = eitherOf a n c m
 
+-- what a lookup finds in two stores
 abbrev pub foundOf : List ℕ → ℕ → List ℕ → ℕ → Key → Found
 foundOf yard yardUsed standard standardUsed k = foundIn (scanned k (bookOf yard yardUsed)) (scanned k (bookOf standard standardUsed))
