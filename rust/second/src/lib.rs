@@ -23,6 +23,7 @@ mod desk_maxima;
 mod desk_places;
 #[cfg(test)]
 mod desk_runs;
+#[cfg(test)]
 mod desk_shelves;
 #[cfg(test)]
 mod desk_wires;

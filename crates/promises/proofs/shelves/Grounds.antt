@@ -29,7 +29,8 @@ use Rattle.promises.specs.Promised.{SegmentOfValues}
 use Rattle.promises.specs.Refused.{Refuses, placeless}
 use Rattle.promises.specs.Ranges.{OneOutcome}
 use Rattle.promises.specs.shelves.Refused.{KeptSheet, NoShelf, AddGround, Addable, addRefusals, RemoveGround, Removable, keyRefusals, ChangeEnds, LookGround, Findable, LookEnds}
-use Rattle.promises.proofs.Values.{sheet-values, sheet-taken}
+use Rattle.speed_question.proofs.Values.{sheet-values}
+use Rattle.promises.proofs.Values.{sheet-taken}
 use Rattle.promises.proofs.Refused.{segments-on, one-ending, one-outcome, among-by, among-into}
 use Rattle.promises.proofs.Placeless.{segment-place, said-place}
 use Rattle.promises.proofs.shelves.Calls.{offset-inside}
