@@ -7,6 +7,7 @@ pub mod Refused
 pub mod Runs
 pub mod Ranges
 pub mod Speeds
+pub mod Steps
 pub mod Reached
 pub mod DemandOne
 pub mod DemandTwo
