@@ -12,6 +12,8 @@ mod desk_cants;
 #[cfg(test)]
 mod desk_constraints;
 #[cfg(test)]
+mod desk_fleet;
+#[cfg(test)]
 mod desk_intakes;
 #[cfg(test)]
 mod desk_journeys;
@@ -27,6 +29,7 @@ mod desk_runs;
 mod desk_shelves;
 #[cfg(test)]
 mod desk_wires;
+mod fleet;
 mod intake;
 mod journey;
 mod numbers;
@@ -39,6 +42,7 @@ mod sheet_writing;
 mod shelf;
 mod speed;
 
+pub use fleet::{lowest, move_card, screen, Card};
 pub use intake::{Intake, Told};
 pub use refusal::{Refusal, Refused};
 pub use shelf::{add, key_of, lookup, remove, Key, Part};

@@ -38,6 +38,8 @@ pub enum Refusal {
     Run = 16,
     /// No sheet with the key is kept in the stores that are asked.
     NotKept = 17,
+    /// A list of cards has none or more than 64, or no card of a number.
+    Cards = 20,
     /// A store has more than 65,536 bytes, or its used part is not a run of accepted sheets with different keys.
     NoShelf = 21,
 }

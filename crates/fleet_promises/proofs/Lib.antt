@@ -1,0 +1,4 @@
+pub mod Lowest
+pub mod Board
+pub mod Moved
+pub mod Reached

@@ -1,0 +1,4 @@
+pub mod Cards
+pub mod Desk
+pub mod Lines
+pub mod Whole

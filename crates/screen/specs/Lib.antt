@@ -1,0 +1,4 @@
+pub mod Desk
+pub mod File
+pub mod Screen
+pub mod internal

@@ -1,0 +1,24 @@
+-- `speed_question::of_packet` meets its contract.
+use mathlib.Core.Path.{sym, ap, _∙_}
+use mathlib.Core.List.{[], _∷_}
+use native.Mathlib.Omega.{arith}
+use denote.Ref.{now}
+use Rattle.speed_question.specs.Question.{Brought, readAs}
+use Rattle.speed_question.specs.internal.Run.{runJudged}
+use Rattle.speed_question.proofs.Questions.{question-accepted}
+use Rattle.speed_question.proofs.Runs.{run-accepted}
+use Rattle.speed_question.proofs.of_packet.Statement.{statement}
+use Rattle.speed_question.proofs.of_packet.Tie as tie
+
+of-run-requires : tie.Need-of-run-requires
+of-run-requires c κs = ((omega arith, omega arith), (c .before .pre, tt))
+
+returns : tie.Need-returns
+returns c =
+    let a = c .before .before in
+    let s = now (a .args .packet) in
+    c .of-run .ensures
+    ∙ question-accepted 0 1 s s s s (a .args .train) (a .args .x) (omega arith) (omega arith) (omega arith) (sym (ap runJudged (run-accepted (readAs Brought.packet) (s ∷ []) (a .pre, tt))))
+
+pub of-packet-spec : {M : Type 1} → statement M
+of-packet-spec = tie.close (tie.spec of-run-requires returns)
