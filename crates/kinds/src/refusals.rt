@@ -52,5 +52,11 @@ pub const RUN_COUNT: u32 = 16;
 // No sheet with the key is kept in the stores that are asked.
 pub const NOT_KEPT: u32 = 17;
 
+// There are no steps or more than 128, unequal numbers of starts and speeds, or starts that do not rise from 0 on or reach L_SP.
+pub const STEPS: u32 = 18;
+
+// The last step at or before a centimetre does not give the permitted speed.
+pub const WRONG_SPEED: u32 = 19;
+
 // A store has more than 65,536 bytes, or its used part is not a run of accepted sheets with different keys.
 pub const NO_SHELF: u32 = 21;

@@ -11,7 +11,7 @@ use lib.ListN.{getD}
 use Rattle.bits.proofs.Tests.{by-cases}
 use Rattle.speed.proofs.Laws.{belongs-listed}
 use Rattle.speed.specs.declared.Train.{Train}
-use Rattle.speed.specs.Speed.{Entry, Element, belongs, memberships, notAbove, greatestFigure, greatestSpeeds, namedSpeeds, instead, elementSpeed, holds}
+use Rattle.speed.specs.Speed.{Entry, Element, belongs, memberships, notAbove, greatestFigure, greatestSpeeds, namedSpeeds, instead, elementSpeed, heldTo, holds}
 use Rattle.speed_element.specs.declared.Lows.{Lows}
 use Rattle.speed_element.specs.declared.Open.{Open}
 use Rattle.speed_element.specs.internal.Elements.{none, insteadFrom, lowestFrom, counted, Distant, folded, counts, noFigure, foldedEntry, cantFrom, cantOf, noLows, Kept, speedFrom, speedOf, Worked, OneMore, elementWith}
@@ -161,7 +161,7 @@ module _ (t : Train) (lows after : Lows) (q class w far : ℕ) (k : Kept q class
 
 -- ---- the element's speed
 
-instead-below : (low v : ℕ) → v < none → insteadFrom low v [] < none
+pub instead-below : (low v : ℕ) → v < none → insteadFrom low v [] < none
 instead-below low v l = by-cases (ltb low none) (λ d. rw d (ltb-true low none d)) (λ d. rw d l)
 
 cant-below : (t : Train) (best v : ℕ) → v < none → cantOf t best v < none
@@ -197,15 +197,22 @@ speed-worked t lows v held {a} {b} {w} {r} l p q e f = record { is = f ∙ ap (m
 
 -- ---- where an element holds
 
+module _ (t : Train) (o : Open) (stop : ℕ) where
+  pub until-delayed : o .«q_front» ≡ 0 → stop + t .length ≡ heldTo t (elementWith o []) stop
+  until-delayed e = rw e
+
+  pub until-end : (o .«q_front» ≡ 0 → ⊥) → stop ≡ heldTo t (elementWith o []) stop
+  until-end n = rw (ne-eqb (o .«q_front») 0 n)
+
+  pub until-most : heldTo t (elementWith o []) stop ≤ stop + t .length
+  until-most = by-cases (eqb (o .«q_front») 0) (λ d. rw d (omega arith)) (λ d. rw d (omega arith))
+
 module _ (t : Train) (o : Open) (stop x : ℕ) where
   pub too-early : x < o .start → false ≡ holds t (elementWith o []) stop x
   too-early h = rw (lt-leb (o .start) x h)
 
-  pub delayed : o .start ≤ x → o .«q_front» ≡ 0 → ltb x (stop + t .length) ≡ holds t (elementWith o []) stop x
-  delayed h e = rw (le-leb (o .start) x h, e)
-
-  pub at-once : o .start ≤ x → (o .«q_front» ≡ 0 → ⊥) → ltb x stop ≡ holds t (elementWith o []) stop x
-  at-once h n = rw (le-leb (o .start) x h, ne-eqb (o .«q_front») 0 n)
+  pub not-early : o .start ≤ x → ltb x (heldTo t (elementWith o []) stop) ≡ holds t (elementWith o []) stop x
+  not-early h = rw (le-leb (o .start) x h)
 
 -- ---- one element more
 

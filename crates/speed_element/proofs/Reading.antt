@@ -1,11 +1,14 @@
 -- The parts of an accepted speed profile in any medium: field after field, entry after entry, element after element.
 use mathlib.Core.Path.{_≡_, refl, sym, ap, _∙_, subst}
-use mathlib.Core.Bool.{true, false, cond}
+use mathlib.Core.Bool.{Bool, true, false, cond, _&&_}
 use mathlib.Core.List.{List, [], _∷_, _++_}
-use Prim.Native.Nat.{ℕ, zero, suc, _+_, _-_, _≤_, _<_}
+use Prim.Native.Nat.{ℕ, zero, suc, _+_, _-_, _≤_, _<_, min}
 use native.Mathlib.Omega.{arith}
+use borrow.Author.Tests.{leb-true, le-leb, ltb-true, lt-ltb}
+use lib.Dec.{leb, ltb, lit<}
 use lib.ListN.{drop, getD}
 use lib.Seq.{drop-drop, getD-drop}
+use Rattle.bits.proofs.Tests.{by-cases, and-left, and-right}
 use Rattle.kinds.specs.declared.Item.{Item}
 use Rattle.kinds.specs.Kind.{Kind}
 use Rattle.kinds.specs.Kinds.{qDiff, class, speed, qFront, nIter, dLocation}
@@ -14,15 +17,16 @@ use Rattle.grammar.specs.segment.Segment.{entries, profile, voltage, current, c
 use Rattle.grammar.specs.internal.segment.Parts.{entry}
 use Rattle.grammar.proofs.segment.Parts.{entries-more, changes-more}
 use Rattle.speed.specs.declared.Train.{Train}
-use Rattle.speed.specs.Speed.{Element, elementSpeed, endBefore, holds, heldSpeeds, entriesOf, afterEntries, elementOf, afterElement, changesFrom, elementsFrom}
+use Rattle.speed.specs.Speed.{Element, elementSpeed, endBefore, heldTo, holds, heldSpeeds, entriesOf, afterEntries, elementOf, afterElement, changesFrom, elementsFrom}
 use Rattle.speed_element.specs.declared.Lows.{Lows}
+use Rattle.speed_element.specs.declared.First.{First}
 use Rattle.speed_element.specs.declared.Following.{Following}
 use Rattle.speed_element.specs.declared.Open.{Open}
 use Rattle.speed.proofs.Runs.{chosen-append}
-use Rattle.speed_element.specs.internal.Elements.{none, noLows, insteadFrom, speedFrom, Worked, OneMore, elementWith, elementAs}
-use Rattle.speed_element.specs.internal.Reading.{Holding, Readable, Past, Passes, FieldRead, EntryRead, Opened, Opens, ElementRead, Ended, ChangeRead, NextRead, ChangesRead, ProfileRead, HeadRead}
+use Rattle.speed_element.specs.internal.Elements.{none, noLows, insteadFrom, counted, speedFrom, Worked, OneMore, elementWith, elementAs}
+use Rattle.speed_element.specs.internal.Reading.{Holding, Readable, Past, Passes, FieldRead, EntryRead, Opened, Opens, ElementRead, Ended, ChangeRead, NextRead, FirstRead, ChangesRead, ProfileRead, HeadRead}
 use Rattle.speed_element.specs.internal.Passing.{Passed}
-use Rattle.speed_element.proofs.Lowest.{cant-last, speed-first, held-more}
+use Rattle.speed_element.proofs.Lowest.{instead-more, instead-below, cant-last, speed-first, held-more}
 
 -- one more number is gone
 one-gone : {m : List ℕ} (n : ℕ) (s : List ℕ) → m ≡ drop n s → drop 1 m ≡ drop (n + 1) s
@@ -220,6 +224,36 @@ module _ (Reads : Format → ℕ → List Item → Type 0) where
         ∙ ap (insteadFrom held 0) (chosen-append (holds t e stop x) (elementSpeed t e) l m)
         ∙ ap (λ (n : ℕ). insteadFrom held 0 (cond (holds t e n x) (elementSpeed t e ∷ l) l ++ m)) stops
 
+  -- ---- an element's speed, worked out at its start
+
+  module _ {t : Train} {stop : ℕ} {o : Open} {r v until : ℕ} (d : Ended Reads t none stop (o .start) o r) (is : v ≡ insteadFrom r 0 []) (up : until ≡ heldTo t (elementWith o []) stop) where
+    pub kept-small : v < none
+    kept-small = rw is (instead-below r 0 (lit< tt))
+
+    -- one that holds anywhere holds at its start
+    start-holds : (e : Element) → Opened Reads o e → (x : ℕ) → holds t e stop x ≡ true → holds t e stop (o .start) ≡ true
+    start-holds e i x h =
+        let q : e .start ≡ o .start = ap (λ (e : Element). e .start) (i .is) in
+        let a = leb-true (e .start) x (and-left (leb (e .start) x) (ltb x (heldTo t e stop)) h) in
+        let b = ltb-true x (heldTo t e stop) (and-right (leb (e .start) x) (ltb x (heldTo t e stop)) h) in
+        rw (le-leb (e .start) (o .start) (omega arith), lt-ltb (o .start) (heldTo t e stop) (omega arith))
+
+    kept-speed : (e : Element) → Opened Reads o e → (x : ℕ) → holds t e stop x ≡ true → v ≡ elementSpeed t e
+    kept-speed e i x h = is ∙ d .said e i [] ∙ rw (start-holds e i x h)
+
+    -- so the speed and where it holds tell what is held at any place
+    pub ended-kept : (held x : ℕ) → Ended Reads t held stop x o (min held (counted (leb (o .start) x && ltb x until) v))
+    ended-kept held x = record { said = said }
+      where
+        here : (e : Element) → Opened Reads o e → (leb (o .start) x && ltb x until) ≡ holds t e stop x
+        here e i = rw (i .is, up)
+
+        said : (e : Element) → Opened Reads o e → (l : List ℕ) → insteadFrom (min held (counted (leb (o .start) x && ltb x until) v)) 0 l ≡ insteadFrom held 0 (cond (holds t e stop x) (elementSpeed t e ∷ l) l)
+        said e i l =
+            ap (λ (b : Bool). insteadFrom (min held (counted b v)) 0 l) (here e i)
+            ∙ instead-more held 0 v l kept-small (holds t e stop x)
+            ∙ by-cases (holds t e stop x) (λ h. ap (λ (w : ℕ). insteadFrom held 0 (cond (holds t e stop x) (w ∷ l) l)) (kept-speed e i x h)) (λ h. rw h)
+
   -- ---- the next change
 
   module _ (lsp start n : ℕ) {at : ℕ} (h : 0 < n) (r : Readable Reads (changes profile lsp start n) at) where
@@ -324,26 +358,27 @@ module _ (Reads : Format → ℕ → List Item → Type 0) where
 
   -- ---- the profile
 
-  module _ (lsp : ℕ) {at b c n : ℕ} {o : Open} (first : ElementRead Reads at b o) (starts : o .start ≡ 0) (count : FieldRead Reads (nIter 31) b c n n) where
+  module _ (lsp : ℕ) {at : ℕ} {r : First} (i : FirstRead Reads at r) where
     -- the changes of a profile that is readable
-    pub profile-changes : Readable Reads (part profile 31 lsp) at → Opens Reads o × Readable Reads (changes profile lsp (o .start) n) c
-    profile-changes h =
+    pub first-changes : Readable Reads (part profile 31 lsp) at → Opens Reads (r .«open») × Readable Reads (changes profile lsp (r .«open» .start) (r .count)) (r .next)
+    first-changes h =
         let q : Format → Format = λ f. field (nIter 31) λ m. changes profile lsp 0 m f in
-        (element-opens q first h, rw starts (readable-field count (λ m f. changes profile lsp 0 m f) (readable-passed q (first .passes) h)))
+        (element-opens q (i .element) h, rw (i .starts) (readable-field (i .number) (λ m f. changes profile lsp 0 m f) (readable-passed q (i .element .passes) h)))
 
-    pub profile-read : {t : Train} {x before v : ℕ} → ChangesRead Reads t lsp x before o n c v → ProfileRead Reads t lsp x before at v
-    profile-read {t} {x} {before} {v} more = record { said = said }
+    pub first-profile : {t : Train} {x before v : ℕ} → ChangesRead Reads t lsp x before (r .«open») (r .count) (r .next) v → ProfileRead Reads t lsp x before at v
+    first-profile {t} {x} {before} {v} more = record { said = said }
       where
         said : (f : Format) (l : List Item) → Reads (part profile 31 lsp f) at l → Holding before (heldSpeeds t lsp x (elementsFrom 0 (sheetNumbers l))) v
         said f l h =
             let s = sheetNumbers l in
+            let n = r .count in
             let g : Format = field (nIter 31) λ m. changes profile lsp 0 m f in
-            let p = first .passes .past g l h in
-            let u = count .past (λ m. changes profile lsp 0 m f) (p .values) (p .reads) in
-            let i : Opened Reads o (elementOf (0 + 0) s) = opened-as (rw starts) (first .opened g l h) in
-            let k : getD (afterElement s) 0 0 ≡ n = ap (λ (m : List ℕ). getD m 0 0) (sym (p .numbers)) ∙ count .is (λ m. changes profile lsp 0 m f) (p .values) (p .reads) in
+            let p = i .element .passes .past g l h in
+            let u = i .number .past (λ m. changes profile lsp 0 m f) (p .values) (p .reads) in
+            let o : Opened Reads (r .«open») (elementOf (0 + 0) s) = opened-as (rw (i .starts)) (i .element .opened g l h) in
+            let k : getD (afterElement s) 0 0 ≡ n = ap (λ (m : List ℕ). getD m 0 0) (sym (p .numbers)) ∙ i .number .is (λ m. changes profile lsp 0 m f) (p .values) (p .reads) in
             let same : elementOf (0 + 0) s ∷ changesFrom 0 n (sheetNumbers (u .values)) ≡ elementsFrom 0 s = rw (u .numbers, p .numbers, ← k) in
-            subst (λ (es : List Element). Holding before (heldSpeeds t lsp x es) v) same (more .said (elementOf (0 + 0) s) i f (u .values) (rw starts (u .reads)))
+            subst (λ (es : List Element). Holding before (heldSpeeds t lsp x es) v) same (more .said (elementOf (0 + 0) s) o f (u .values) (rw (i .starts) (u .reads)))
 
   -- ---- the head
 

@@ -4,7 +4,7 @@ ghost use mathlib.Core.Path.{_≡_};
 ghost use mathlib.Core.Bool.{_&&_};
 ghost use mathlib.Core.List.{[]};
 ghost use Prim.Native.Nat.{min, _<_};
-ghost use Rattle.speed.specs.Speed.{holds};
+ghost use Rattle.speed.specs.Speed.{heldTo, holds};
 ghost use Rattle.speed_element.specs.internal.Elements.{none, counted, Distant, cantOf, noLows, insteadFrom, Kept, Worked, OneMore, elementWith};
 use speed::Train;
 
@@ -56,6 +56,13 @@ pub struct Head {
     pub profile: usize,
 }
 
+// The first element of a speed profile, the count of changes that follow it, and the place of the first of them.
+pub struct First {
+    pub open: Open,
+    pub count: u32,
+    pub next: usize,
+}
+
 // Where an element ends in cm, the element that follows, and the place after that one.
 pub struct Following {
     pub end: u32,
@@ -64,7 +71,7 @@ pub struct Following {
 }
 
 // Returns the lower of two speeds.
-fn lower(a: u32, b: u32) -> u32
+pub fn lower(a: u32, b: u32) -> u32
     ensures { λ r. ⌜ r ≡ min a b ⌝ }
 {
     if a < b {
@@ -85,7 +92,7 @@ fn nearer(one: u64, other: u64) -> u64
 
 // Returns the speed `v` if `so` and `member` are true, else a number that stands for no speed.
 // For speed: a sum, and no branch, which would mispredict from entry to entry.
-fn counted(so: bool, member: bool, v: u32) -> u32
+pub fn counted(so: bool, member: bool, v: u32) -> u32
     requires { ⌜ v < none ⌝ }
     ensures { λ r. ⌜ r ≡ counted (so && member) v ⌝ }
 {
@@ -162,6 +169,16 @@ impl Lows {
 }
 
 impl Open {
+    // Returns the place, in cm, before which the element holds, if it ends at `end`: with Q_FRONT 0 the train's length further on.
+    pub fn until(self, train: Train, end: u32) -> u64
+        ensures { λ r. ⌜ r ≡ heldTo train (elementWith self []) end ⌝ }
+    {
+        if self.q_front == 0 {
+            return end as u64 + train.length as u64;
+        }
+        end as u64
+    }
+
     // Returns whether the element holds at `x`, in cm, if it ends at `end`. It does not depend on the entries.
     pub fn holds(self, train: Train, end: u32, x: u32) -> bool
         ensures { λ r. ⌜ r ≡ holds train (elementWith self []) end x ⌝ }
@@ -169,10 +186,7 @@ impl Open {
         if x < self.start {
             return false;
         }
-        if self.q_front == 0 {
-            return (x as u64) < end as u64 + train.length as u64;
-        }
-        x < end
+        (x as u64) < self.until(train, end)
     }
 }
 

@@ -6,7 +6,7 @@ ghost use Prim.Native.Nat.{_+_};
 ghost use Rattle.kinds.specs.Tables.{cantFigures};
 ghost use Rattle.grammar.specs.segment.Segment as segment;
 ghost use Rattle.grammar.specs.internal.segment.Parts as parts;
-ghost use Rattle.speed_element.specs.internal.Reading.{Readable, EntryRead, Opens, ElementRead, Ended, NextRead, ChangesRead, ProfileRead, HeadRead};
+ghost use Rattle.speed_element.specs.internal.Reading.{Readable, EntryRead, Opens, ElementRead, Ended, NextRead, FirstRead, ChangesRead, ProfileRead, HeadRead};
 ghost use Rattle.speed_element.specs.internal.Passing.{Passed};
 ghost use Rattle.speed_packet.specs.internal.Asking.{AcceptedPacket, numbersOfPacket, Reads};
 use fields::raise;
@@ -19,6 +19,7 @@ use grammar::segment::layout::PROFILE;
 use kinds::body;
 use speed::Train;
 use speed_element::ElementAt;
+use speed_element::First;
 use speed_element::Following;
 use speed_element::Head;
 use speed_element::Lows;
@@ -57,7 +58,7 @@ fn element(s: &[u8], at: usize, start: u32) -> ElementAt
 
 // Returns the lowest speed that holds at `x`: of the speed `held` so far, and of the element `open`, which ends at `end`.
 // The element's entries are read only if it holds at `x`.
-fn ended(s: &[u8], open: Open, train: Train, held: u32, end: u32, x: u32) -> u32
+pub fn ended(s: &[u8], open: Open, train: Train, held: u32, end: u32, x: u32) -> u32
     requires { ⌜ Opens (Reads (now s)) «open» ⌝ }
     ensures { λ r. ⌜ Ended (Reads (now (s .entry))) train held end x «open» r ⌝ }
 {
@@ -77,7 +78,7 @@ fn ended(s: &[u8], open: Open, train: Train, held: u32, end: u32, x: u32) -> u32
 }
 
 // Reads the next of the `left` changes at the bit `at`: the element `open` ends at its location. If none is left, `open` ends at `lsp`.
-fn next(s: &[u8], open: Open, at: usize, left: u64, lsp: u32) -> Following
+pub fn next(s: &[u8], open: Open, at: usize, left: u64, lsp: u32) -> Following
     requires { ⌜ Readable (Reads (now s)) (segment.changes segment.profile lsp («open» .start) left) at ⌝ }
     ensures { λ r. ⌜ NextRead (Reads (now (s .entry))) lsp «open» left at r ⌝ }
 {
@@ -127,15 +128,30 @@ fn changes(
     held
 }
 
+// Reads the first element of the speed profile at the bit `at`, and the count of its changes. `lsp` is the segment's length.
+pub fn first(s: &[u8], at: usize, lsp: u32) -> First
+    requires { ⌜ Readable (Reads (now s)) (segment.part segment.profile 31 lsp) at ⌝ }
+    ensures { λ r. ⌜ FirstRead (Reads (now (s .entry))) at r ⌝ }
+{
+    let e = element(s, at, 0);
+    let open = e.open;
+    let next = e.next;
+    First {
+        open,
+        count: bits::read_window(s, next, body::NIter::WIDTH),
+        next: next + 5,
+    }
+}
+
 // Returns the lowest speed that holds at `x`: of the speed `before`, and of the profile at the bit `at`, which is its first element, the count
 // of its changes, and the changes.
 fn profile(s: &[u8], at: usize, train: Train, lsp: u32, x: u32, before: u32) -> u32
     requires { ⌜ Readable (Reads (now s)) (segment.part segment.profile 31 lsp) at ⌝ }
     ensures { λ r. ⌜ ProfileRead (Reads (now (s .entry))) train lsp x before at r ⌝ }
 {
-    let first = element(s, at, 0);
-    let count = bits::read_window(s, first.next, body::NIter::WIDTH);
-    changes(s, first.next + 5, count, train, lsp, x, before, first.open)
+    let start = first(s, at, lsp);
+    let open = start.open;
+    changes(s, start.next, start.count, train, lsp, x, before, open)
 }
 
 // Reads L_SP of an accepted packet. Its speed profile always starts at the same bit.

@@ -6,8 +6,9 @@ use Prim.Native.Nat.{ℕ, _≤_, _<_}
 use borrow.Author.Tests.{eqb-true, eqb-false, ne-eqb, le-leb, lt-leb}
 use lib.Dec.{eqb}
 use Rattle.bits.proofs.Tests.{by-cases}
+use Rattle.kinds.specs.declared.Item.{Item}
 use Rattle.speed.specs.declared.Train.{Train}
-use Rattle.speed_question.specs.Question.{Brought, packet, sheet, mediumOf, Neither, noSpeed, lent, runCount, speedFrom, speedCounted, speedAsked, permittedSpeed}
+use Rattle.speed_question.specs.Question.{Brought, packet, sheet, mediumOf, Neither, noSpeed, readAs, lent, runCount, judgedRun, answerOfRun, runCounted, runAsked, speedOfRun, speedFrom, speedAsked, permittedSpeed}
 
 -- a medium is 0 or 1, or neither
 pub either-medium : {C : Type 0} (medium : ℕ) → ((b : Brought) → medium ≡ mediumOf b → C) → (Neither medium → C) → C
@@ -31,23 +32,36 @@ pub lent-asked : (medium count : ℕ) (first second third fourth : List ℕ) (t 
 unfolding permittedSpeed
 lent-asked medium count first second third fourth t x = refl
 
-module _ (medium count : ℕ) (r : List (List ℕ)) (t : Train) (x : ℕ) where
-  medium-asked : (b : Brought) → medium ≡ mediumOf b → speedAsked medium count r t x ≡ speedCounted b count r t x
+-- whatever a question on a run answers
+module _ {B : Type 0} (refusal : ℕ → ℕ → B) (value : List (List Item) → B) (medium count : ℕ) (r : List (List ℕ)) where
+  medium-asked : (b : Brought) → medium ≡ mediumOf b → runAsked refusal value medium count r ≡ runCounted refusal value b count r
   medium-asked packet e = rw e
   medium-asked sheet e = rw e
 
   -- "15, first of all, for a kind that is neither"
-  pub neither-first : Neither medium → speedAsked medium count r t x ≡ noSpeed 15 0
-  neither-first n = rw (ne-eqb medium 0 (n .0), ne-eqb medium 1 (n .1))
+  pub asked-neither : Neither medium → runAsked refusal value medium count r ≡ refusal 15 0
+  asked-neither n = rw (ne-eqb medium 0 (n .0), ne-eqb medium 1 (n .1))
 
   module _ (b : Brought) (e : medium ≡ mediumOf b) where
-    counted : {few : Bool} → runCount count ≡ few → speedAsked medium count r t x ≡ cond few (speedFrom b r t x) (noSpeed 16 0)
-    counted c = medium-asked b e ∙ ap (λ (z : Bool). cond z (speedFrom b r t x) (noSpeed 16 0)) c
+    counted : {few : Bool} → runCount count ≡ few → runAsked refusal value medium count r ≡ cond few (answerOfRun refusal value (judgedRun (readAs b) r)) (refusal 16 0)
+    counted c = medium-asked b e ∙ ap (λ (z : Bool). cond z (answerOfRun refusal value (judgedRun (readAs b) r)) (refusal 16 0)) c
 
     -- "16 for a run of none or more than 4, judged right after 15"
-    pub count-next : runCount count ≡ false → speedAsked medium count r t x ≡ noSpeed 16 0
-    count-next c = counted c
+    pub asked-count : runCount count ≡ false → runAsked refusal value medium count r ≡ refusal 16 0
+    asked-count c = counted c
 
     -- then each segment
+    pub asked-run : runCount count ≡ true → runAsked refusal value medium count r ≡ answerOfRun refusal value (judgedRun (readAs b) r)
+    asked-run c = counted c
+
+-- the question on a speed
+module _ (medium count : ℕ) (r : List (List ℕ)) (t : Train) (x : ℕ) where
+  pub neither-first : Neither medium → speedAsked medium count r t x ≡ noSpeed 15 0
+  neither-first n = asked-neither noSpeed (speedOfRun t x) medium count r n
+
+  module _ (b : Brought) (e : medium ≡ mediumOf b) where
+    pub count-next : runCount count ≡ false → speedAsked medium count r t x ≡ noSpeed 16 0
+    count-next c = asked-count noSpeed (speedOfRun t x) medium count r b e c
+
     pub run-asked : runCount count ≡ true → speedAsked medium count r t x ≡ speedFrom b r t x
-    run-asked c = counted c
+    run-asked c = asked-run noSpeed (speedOfRun t x) medium count r b e c

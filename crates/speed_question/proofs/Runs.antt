@@ -1,5 +1,5 @@
 -- Loops over the segments of a run: its verdict, its last segment, and what holds in it.
-use mathlib.Core.Path.{_≡_, refl, sym, ap, ap₂, _∙_, subst}
+use mathlib.Core.Path.{_≡_, refl, sym, ap, _∙_, subst}
 use mathlib.Core.List.{List, [], _∷_, map}
 use Prim.Native.Nat.{ℕ, zero, suc, _+_, _-_, _*_, _≤_, _<_}
 use native.Mathlib.Omega.{arith}
@@ -245,12 +245,17 @@ module _ (b : Brought) (p q u v : List ℕ) (count : ℕ) where
           let e : count - 1 ≡ i = omega arith in
           subst (λ (s : List ℕ). HeadOf b s (l .head .lsp) (l .head .profile)) (end-is ∙ ap (λ (n : ℕ). nth n p q u v) e) (k .head)
 
+      -- what is answered from the length of the last segment and from the numbers of the run
+      pub lent-answer : {C : Type 0} (f : ℕ → List (List ℕ) → C) {lsp : ℕ} → lsp ≡ segmentLength (numbersAs b (lastOf all))
+          → f lsp (numbersIn b all) ≡ f (segmentLength (lastOf (numbersOf (valuesIn b all)))) (numbersOf (valuesIn b all))
+      lent-answer f d =
+          ap (λ (n : ℕ). f n (numbersIn b all)) (d ∙ ap segmentLength (sym last-is)) ∙ ap (λ (n : List (List ℕ)). f (segmentLength (lastOf n)) n) (sym (numbers-in b all))
+
       -- the answer from the length of the last segment and from the profile's speed in the run
       pub lent-speed : (t : Train) (x : ℕ) {lsp w : ℕ} → lsp ≡ segmentLength (numbersAs b (lastOf all)) → w ≡ limited t (speedInRun t x (numbersIn b all))
           → judgedSpeed t x lsp w ≡ speedOfRun t x (valuesIn b all)
       lent-speed t x {lsp} {w} d e =
-          ap₂ (judgedSpeed t x) (d ∙ ap segmentLength (sym last-is)) e
-          ∙ ap (λ (n : List (List ℕ)). judgedSpeed t x (segmentLength (lastOf n)) (limited t (speedInRun t x n))) (sym (numbers-in b all))
+          ap (judgedSpeed t x lsp) e ∙ lent-answer (λ n r. judgedSpeed t x n (limited t (speedInRun t x r))) d
 
     pub judging-last : {i : ℕ} → Judging i → count ≤ i → Accepted ≡ runJudged (judgedRun (readAs b) all)
     judging-last {i} g e = let z : i ≡ count = omega (arith, g .up) in ap (λ (r : List (List ℕ)). runJudged (judgedRun (readAs b) r)) (sym (lent-over p q u v count few) ∙ ap left (sym z)) ∙ g .same

@@ -70,6 +70,17 @@ abbrev pub answerOfRun : {B : Type 0} → (ℕ → ℕ → B) → (List (List It
 answerOfRun refusal value (accepted r) = value r
 answerOfRun refusal value (refused r place) = refusal r place
 
+-- ---- a question on a run, whatever it answers
+
+-- "16 for a run of none or more than 4, judged right after 15"; "numbers above 13 it is 0"
+abbrev pub runCounted : {B : Type 0} → (ℕ → ℕ → B) → (List (List Item) → B) → Brought → ℕ → List (List ℕ) → B
+runCounted refusal value b count r = cond (runCount count) (answerOfRun refusal value (judgedRun (readAs b) r)) (refusal 16 0)
+
+-- "15, first of all, for a kind that is neither"; "numbers above 13 it is 0"
+abbrev pub runAsked : {B : Type 0} → (ℕ → ℕ → B) → (List (List Item) → B) → ℕ → ℕ → List (List ℕ) → B
+runAsked refusal value medium count r =
+    cond (eqb medium (mediumOf packet)) (runCounted refusal value packet count r) (cond (eqb medium (mediumOf sheet)) (runCounted refusal value sheet count r) (refusal 15 0))
+
 -- ---- the answer
 
 -- "speed questions judge 10, then 11"; "For .. 10 to 12, success .. it is 0"
@@ -85,14 +96,13 @@ speedOfRun t x r = judgedSpeed t x (segmentLength (lastOf (numbersOf r))) (limit
 abbrev pub speedFrom : Brought → List (List ℕ) → Train → ℕ → Speed
 speedFrom b r t x = answerOfRun noSpeed (speedOfRun t x) (judgedRun (readAs b) r)
 
--- "16 for a run of none or more than 4, judged right after 15"; "numbers above 13 it is 0"
+-- "16 for a run of none or more than 4, judged right after 15"
 abbrev pub speedCounted : Brought → ℕ → List (List ℕ) → Train → ℕ → Speed
-speedCounted b count r t x = cond (runCount count) (speedFrom b r t x) (noSpeed 16 0)
+speedCounted b count r t x = runCounted noSpeed (speedOfRun t x) b count r
 
--- "15, first of all, for a kind that is neither"; "numbers above 13 it is 0"
+-- "15, first of all, for a kind that is neither"
 abbrev pub speedAsked : ℕ → ℕ → List (List ℕ) → Train → ℕ → Speed
-speedAsked medium count r t x =
-    cond (eqb medium (mediumOf packet)) (speedCounted packet count r t x) (cond (eqb medium (mediumOf sheet)) (speedCounted sheet count r t x) (noSpeed 15 0))
+speedAsked medium count r t x = runAsked noSpeed (speedOfRun t x) medium count r
 
 -- "Let the question take a run of 1 to 4 segments of the one kind, in order of travel, with x in the last"
 unfoldable pub permittedSpeed : ℕ → ℕ → List ℕ → List ℕ → List ℕ → List ℕ → Train → ℕ → Speed

@@ -4,6 +4,7 @@ pub mod run;
 
 ghost use mathlib.Core.Path.{_≡_};
 ghost use Rattle.speed.specs.Run.{Each};
+ghost use Rattle.speed_packet.specs.internal.Asking.{AcceptedPacket};
 ghost use Rattle.speed_question.specs.Question.{judgedSpeed, lent, speedOfRun, permittedSpeed};
 ghost use Rattle.speed_question.specs.internal.Run.{broughtOf, AcceptedAs, valuesIn, Few};
 use kinds::refusals::PAST_END;
@@ -67,6 +68,14 @@ fn of_run<'a>(
     }
     let profile = run::speed_in_run(medium, count, first, second, third, fourth, last, train, x);
     answer(0, 0, speed::limited(train, profile))
+}
+
+// Judges `train` and the place `x` in the segment of an accepted packet, and answers as `permitted_speed` does for a run of that packet.
+pub fn of_packet(packet: &[u8], train: Train, x: u32) -> Speed
+    requires { ⌜ AcceptedPacket (now packet) ⌝ }
+    ensures { λ r. ⌜ r ≡ permittedSpeed 0 1 (now (packet .entry)) (now (packet .entry)) (now (packet .entry)) (now (packet .entry)) train x ⌝ }
+{
+    of_run(run::PACKET, 1, packet, packet, packet, packet, train, x)
 }
 
 // Answers the permitted speed of `train` at `x` cm from the start of the last of the `count` segments, or a refusal.

@@ -61,7 +61,7 @@ fn head(medium: u32, segment: &[u8]) -> Head
 }
 
 // Returns the head of a segment of a run: `last` if it is the only one that is left, else it is read.
-fn head_of(medium: u32, segment: &[u8], left: u32, last: Head) -> Head
+pub fn head_of(medium: u32, segment: &[u8], left: u32, last: Head) -> Head
     requires { ⌜ AcceptedAs (broughtOf medium) (now segment) × (left ≡ 1 → HeadOf (broughtOf medium) (now segment) (last .lsp) (last .profile)) ⌝ }
     ensures { λ r. ⌜ HeadOf (broughtOf medium) (now (segment .entry)) (r .lsp) (r .profile) ⌝ }
 {
@@ -87,7 +87,7 @@ fn passed(medium: u32, segment: &[u8], head: Head, train: Train, held: u32, y: u
 }
 
 // Returns the segment with the number `i` of those lent: 0 the first.
-fn segment<'a>(
+pub fn segment<'a>(
     i: u32,
     first: &'a [u8],
     second: &'a [u8],

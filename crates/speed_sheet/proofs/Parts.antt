@@ -47,7 +47,7 @@ front-lawful = upTo-lawful 1 1 (narrow tt) (lit< tt)
 length-lawful : LawfulKind lSp
 length-lawful = range-lawful 24 1 16777215 4 (narrow tt) (lit< tt)
 
-count-lawful : LawfulKind (nIter 31)
+pub count-lawful : LawfulKind (nIter 31)
 count-lawful = upTo-lawful 5 31 (narrow tt) (lit< tt)
 
 module _ (s : List ℕ) where

@@ -7,12 +7,13 @@ ghost use lib.ListN.{length};
 ghost use Rattle.grammar.specs.segment.Segment as segment;
 ghost use Rattle.grammar.specs.internal.segment.Parts as parts;
 ghost use Rattle.speed.specs.Speed.{afterEntries};
-ghost use Rattle.speed_element.specs.internal.Reading.{Readable, Passes, EntryRead, Opens, ElementRead, Ended, NextRead, ChangesRead, ProfileRead, HeadRead};
+ghost use Rattle.speed_element.specs.internal.Reading.{Readable, Passes, EntryRead, Opens, ElementRead, Ended, NextRead, FirstRead, ChangesRead, ProfileRead, HeadRead};
 ghost use Rattle.speed_element.specs.internal.Passing.{Passed};
 ghost use Rattle.speed_sheet.specs.internal.Asking.{AcceptedSheet, numbersOfSheet, NumberAt, Numbers, numbersEnd, shortEnd, Reads};
 use numbers::accepted::ReadNumber;
 use speed::Train;
 use speed_element::ElementAt;
+use speed_element::First;
 use speed_element::Following;
 use speed_element::Head;
 use speed_element::Lows;
@@ -102,7 +103,7 @@ fn element(s: &[u8], at: usize, start: u32) -> ElementAt
 }
 
 // Returns the lowest speed that holds at `x`: `held`, or the speed of the element `open`, which ends at `end`. Reads the element's entries only if the element holds at `x`.
-fn ended(s: &[u8], open: Open, train: Train, held: u32, end: u32, x: u32) -> u32
+pub fn ended(s: &[u8], open: Open, train: Train, held: u32, end: u32, x: u32) -> u32
     requires { ⌜ Opens (Reads (now s)) «open» ⌝ }
     ensures { λ r. ⌜ Ended (Reads (now (s .entry))) train held end x «open» r ⌝ }
 {
@@ -122,7 +123,7 @@ fn ended(s: &[u8], open: Open, train: Train, held: u32, end: u32, x: u32) -> u32
 }
 
 // Reads the next of `left` changes at the byte `at`. The element `open` ends at the location of that change, or at `lsp` if no change is left.
-fn next(s: &[u8], open: Open, at: usize, left: u64, lsp: u32) -> Following
+pub fn next(s: &[u8], open: Open, at: usize, left: u64, lsp: u32) -> Following
     requires { ⌜ Readable (Reads (now s)) (segment.changes segment.profile lsp («open» .start) left) at ⌝ }
     ensures { λ r. ⌜ NextRead (Reads (now (s .entry))) lsp «open» left at r ⌝ }
 {
@@ -172,24 +173,30 @@ fn changes(
     held
 }
 
+// Reads the first element of the speed profile at the byte `at`, and the count of its changes. `lsp` is the segment's length.
+pub fn first(s: &[u8], at: usize, lsp: u32) -> First
+    requires { ⌜ Readable (Reads (now s)) (segment.part segment.profile 31 lsp) at ⌝ }
+    ensures { λ r. ⌜ FirstRead (Reads (now (s .entry))) at r ⌝ }
+{
+    let e = element(s, at, 0);
+    let open = e.open;
+    let count = number(s, e.next);
+    First {
+        open,
+        count: count.value,
+        next: count.next,
+    }
+}
+
 // Returns the lowest speed that holds at `x`: of the speed `before`, and of the speed profile at the byte `at`, which is its first element,
 // the count of its changes, and the changes.
 fn profile(s: &[u8], at: usize, train: Train, lsp: u32, x: u32, before: u32) -> u32
     requires { ⌜ Readable (Reads (now s)) (segment.part segment.profile 31 lsp) at ⌝ }
     ensures { λ r. ⌜ ProfileRead (Reads (now (s .entry))) train lsp x before at r ⌝ }
 {
-    let first = element(s, at, 0);
-    let count = number(s, first.next);
-    changes(
-        s,
-        count.next,
-        count.value,
-        train,
-        lsp,
-        x,
-        before,
-        first.open,
-    )
+    let start = first(s, at, lsp);
+    let open = start.open;
+    changes(s, start.next, start.count, train, lsp, x, before, open)
 }
 
 // Returns the byte after the `count` numbers that stand at the byte `at`: each number ends at its first byte below 128.

@@ -2,17 +2,18 @@
 use mathlib.Core.Path.{_≡_}
 use mathlib.Core.Bool.{cond}
 use mathlib.Core.List.{List, _∷_, _++_}
-use Prim.Native.Nat.{ℕ, _<_}
+use Prim.Native.Nat.{ℕ, _≤_, _<_}
 use lib.ListN.{drop, getD}
 use Rattle.kinds.specs.declared.Item.{Item}
 use Rattle.kinds.specs.Kind.{Kind}
-use Rattle.kinds.specs.Kinds.{dLocation}
+use Rattle.kinds.specs.Kinds.{nIter, dLocation}
 use Rattle.format.specs.Format.{Format, end, field, sheetNumbers}
 use Rattle.grammar.specs.segment.Segment.{entries, profile, changes, part}
 use Rattle.grammar.specs.internal.segment.Parts.{entry, threeLists}
 use Rattle.speed.specs.declared.Train.{Train}
 use Rattle.speed.specs.Speed.{Element, elementSpeed, holds, heldSpeeds, elementOf, afterElement, changesFrom, elementsFrom, segmentLength, profileOf}
 use Rattle.speed_element.specs.declared.Lows.{Lows}
+use Rattle.speed_element.specs.declared.First.{First}
 use Rattle.speed_element.specs.declared.Following.{Following}
 use Rattle.speed_element.specs.declared.Open.{Open}
 use Rattle.speed_element.specs.internal.Elements.{none, insteadFrom, OneMore, elementAs}
@@ -81,6 +82,14 @@ module _ (Reads : Format → ℕ → List Item → Type 0) where
   pub record NextRead (lsp : ℕ) (o : Open) (n at : ℕ) (r : Following) : Type 0 where
     pub change : 0 < n → ChangeRead lsp (o .start) at r
     pub last : n ≡ 0 → r .end ≡ lsp
+
+  -- the first element of a profile at the place at, and the count of the changes after it
+  pub record FirstRead (at : ℕ) (r : First) : Type 0 where
+    pub between : ℕ
+    pub element : ElementRead at between (r .«open»)
+    pub starts : r .«open» .start ≡ 0
+    pub number : FieldRead (nIter 31) between (r .next) (r .count) (r .count)
+    pub few : r .count ≤ 31
 
   -- what is held at x after n changes that follow an open element: what was held before, with all of them
   pub record ChangesRead (t : Train) (lsp x before : ℕ) (first : Open) (n at r : ℕ) : Type 0 where

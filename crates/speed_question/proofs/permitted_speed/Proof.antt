@@ -2,8 +2,9 @@
 use mathlib.Core.Path.{sym, _∙_}
 use native.Mathlib.Omega.{arith}
 use denote.Ref.{now}
-use Rattle.speed_question.specs.Question.{readAs, lent}
+use Rattle.speed_question.specs.Question.{noSpeed, readAs, lent, speedOfRun}
 use Rattle.speed_question.specs.internal.Run.{broughtOf}
+use Rattle.speed_question.proofs.Asked.{lent-asked}
 use Rattle.speed_question.proofs.Questions.{question-neither, question-none, question-many, question-refused, question-accepted}
 use Rattle.speed_question.proofs.Runs.{run-each}
 use borrow.Author.Needs.{needs}
@@ -11,15 +12,15 @@ use Rattle.speed_question.proofs.permitted_speed.Statement.{statement}
 use Rattle.speed_question.proofs.permitted_speed.Tie as tie
 
 returns : tie.Need-returns
-returns c = let a = c .before .before .before .before .before .before in c .answer .ensures ∙ question-neither (a .args .medium) (a .args .count) (now (a .args .first)) (now (a .args .second)) (now (a .args .third)) (now (a .args .fourth)) (a .args .train) (a .args .x) (c .before .if1 .taken)
+returns c = let a = c .before .before .before .before .before .before in c .answer .ensures ∙ question-neither noSpeed (speedOfRun (a .args .train) (a .args .x)) (a .args .medium) (a .args .count) (lent (a .args .count) (now (a .args .first)) (now (a .args .second)) (now (a .args .third)) (now (a .args .fourth))) (lent-asked (a .args .medium) (a .args .count) (now (a .args .first)) (now (a .args .second)) (now (a .args .third)) (now (a .args .fourth)) (a .args .train) (a .args .x)) (c .before .if1 .taken)
 
 returns-2 : tie.Need-returns-2
-returns-2 c = let a = c .before .before .before .before .before .before .before in c .answer2 .ensures ∙ question-none (a .args .medium) (a .args .count) (now (a .args .first)) (now (a .args .second)) (now (a .args .third)) (now (a .args .fourth)) (a .args .train) (a .args .x) (omega (arith, c .before .before .if1 .left)) (c .before .if2 .taken)
+returns-2 c = let a = c .before .before .before .before .before .before .before in c .answer2 .ensures ∙ question-none noSpeed (speedOfRun (a .args .train) (a .args .x)) (a .args .medium) (a .args .count) (lent (a .args .count) (now (a .args .first)) (now (a .args .second)) (now (a .args .third)) (now (a .args .fourth))) (lent-asked (a .args .medium) (a .args .count) (now (a .args .first)) (now (a .args .second)) (now (a .args .third)) (now (a .args .fourth)) (a .args .train) (a .args .x)) (omega (arith, c .before .before .if1 .left)) (c .before .if2 .taken)
 
 returns-3 : tie.Need-returns-3
 returns-3 c =
     let a = c .before .before .before .before .before .before .before .before in
-    c .answer3 .ensures ∙ question-many (a .args .medium) (a .args .count) (now (a .args .first)) (now (a .args .second)) (now (a .args .third)) (now (a .args .fourth)) (a .args .train) (a .args .x) (omega (arith, c .before .before .before .if1 .left)) (omega (arith, c .before .before .if2 .left)) (c .before .if3 .taken)
+    c .answer3 .ensures ∙ question-many noSpeed (speedOfRun (a .args .train) (a .args .x)) (a .args .medium) (a .args .count) (lent (a .args .count) (now (a .args .first)) (now (a .args .second)) (now (a .args .third)) (now (a .args .fourth))) (lent-asked (a .args .medium) (a .args .count) (now (a .args .first)) (now (a .args .second)) (now (a .args .third)) (now (a .args .fourth)) (a .args .train) (a .args .x)) (omega (arith, c .before .before .before .if1 .left)) (omega (arith, c .before .before .if2 .left)) (c .before .if3 .taken)
 
 judge-run-requires : tie.Need-judge-run-requires
 judge-run-requires c κs = (omega (arith, c .before .if2 .left), omega (arith, c .if3 .left))
@@ -35,13 +36,13 @@ returns-4 : tie.Need-returns-4
 returns-4 c =
     let a = c .before .before .before .before .before .before .before .before .before .before .before .before in
     let e = sym (c .before .before .r .given .1) ∙ c .before .before .before .before .judge-run .ensures in
-    c .answer4 .ensures ∙ question-refused (a .args .medium) (a .args .count) (now (a .args .first)) (now (a .args .second)) (now (a .args .third)) (now (a .args .fourth)) (a .args .train) (a .args .x) (omega (arith, c .before .before .before .before .before .before .before .if1 .left)) (omega (arith, c .before .before .before .before .before .before .if2 .left)) (omega (arith, c .before .before .before .before .before .if3 .left)) e
+    c .answer4 .ensures ∙ question-refused noSpeed (speedOfRun (a .args .train) (a .args .x)) (a .args .medium) (a .args .count) (lent (a .args .count) (now (a .args .first)) (now (a .args .second)) (now (a .args .third)) (now (a .args .fourth))) (lent-asked (a .args .medium) (a .args .count) (now (a .args .first)) (now (a .args .second)) (now (a .args .third)) (now (a .args .fourth)) (a .args .train) (a .args .x)) (omega (arith, c .before .before .before .before .before .before .before .if1 .left)) (omega (arith, c .before .before .before .before .before .before .if2 .left)) (omega (arith, c .before .before .before .before .before .if3 .left)) e
 
 returns-5 : tie.Need-returns-5
 returns-5 c =
     let a = c .before .before .before .before .before .before .before .before .before .before .before in
     let e = sym (c .before .enum-told .given .1) ∙ c .before .before .before .judge-run .ensures in
-    c .of-run .ensures ∙ question-accepted (a .args .medium) (a .args .count) (now (a .args .first)) (now (a .args .second)) (now (a .args .third)) (now (a .args .fourth)) (a .args .train) (a .args .x) (omega (arith, c .before .before .before .before .before .before .if1 .left)) (omega (arith, c .before .before .before .before .before .if2 .left)) (omega (arith, c .before .before .before .before .if3 .left)) e
+    c .of-run .ensures ∙ question-accepted noSpeed (speedOfRun (a .args .train) (a .args .x)) (a .args .medium) (a .args .count) (lent (a .args .count) (now (a .args .first)) (now (a .args .second)) (now (a .args .third)) (now (a .args .fourth))) (lent-asked (a .args .medium) (a .args .count) (now (a .args .first)) (now (a .args .second)) (now (a .args .third)) (now (a .args .fourth)) (a .args .train) (a .args .x)) (omega (arith, c .before .before .before .before .before .before .if1 .left)) (omega (arith, c .before .before .before .before .before .if2 .left)) (omega (arith, c .before .before .before .before .if3 .left)) e
 
 pub permitted-speed-spec : {M : Type 1} → statement M
 permitted-speed-spec =

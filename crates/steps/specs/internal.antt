@@ -1,0 +1,3 @@
+-- What the code needs and no promise names.
+pub mod Spans
+pub mod Places
