@@ -17,3 +17,4 @@ pub mod Journeys
 pub mod Segments
 pub mod Stored
 pub mod Placeless
+pub mod Steps

@@ -37,7 +37,7 @@ use Rattle.promises.proofs.Speeds.{permitted-speed-refused, permitted-s
 use Rattle.promises.proofs.DemandOne.{packet-to-sheet-refused, sheet-to-packet-refused, altitude-of-packet-refused, packet-to-sheet-outcome, sheet-to-packet-outcome, altitude-of-packet-outcome}
 
 -- a refusal n that has a place is not among the refusals that have none
-placed : {C : Type 0} {r : ℕ} (n : ℕ) → r ≡ n → Among r placeless → member n placeless ≡ false → C
+pub placed : {C : Type 0} {r : ℕ} (n : ℕ) → r ≡ n → Among r placeless → member n placeless ≡ false → C
 placed n e a m = absurd (let z : true ≡ false = sym (among-member (rw e at a)) ∙ m in let y : _≡_ {A = ℕ} 0 1 = cc in omega arith)
 
 field-placed : {C : Type 0} {k : Kind} → FieldRefusal k → (v : ℕ) → Among (k .refusal v) placeless → C

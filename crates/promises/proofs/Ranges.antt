@@ -11,6 +11,7 @@ use Rattle.format.specs.Grounds.{Among}
 use Rattle.format.proofs.Lawful.{to-sheet}
 use Rattle.grammar.specs.segment.Segment.{wireChanges}
 use Rattle.grammar.specs.segment.Judgement.{segmentNumber}
+use Rattle.grammar.specs.segment.Grounds.{packetRefusals, sheetRefusals}
 use Rattle.grammar.proofs.segment.Ends.{sheetFields-lawful}
 use Rattle.grammar.proofs.segment.Grounds.{fields-refusals, packet-listed, sheet-listed}
 use Rattle.grammar.specs.link.Link.{toEitherPacket, toEitherSheet}
@@ -32,7 +33,7 @@ use Rattle.promises.proofs.Values.{either-good-sheet}
 use Rattle.promises.proofs.Agreeing.{lowered-same}
 use Rattle.promises.proofs.Standing.{altitude-stands}
 use Rattle.promises.proofs.Runs.{each-on}
-use Rattle.promises.proofs.Refused.{among-by, among-member, among-into}
+use Rattle.promises.proofs.Refused.{member, allMembers, among-by, among-member, among-into}
 
 -- ---- how long a result is
 
@@ -92,10 +93,19 @@ module _ (s : List ℕ) where
     sheet-to-packet-listed (ConversionGround.own g) = among-into sheetToPacketRefusals refl (either-sheet-listed s r place g)
     sheet-to-packet-listed (ConversionGround.shortRoom w h e p) = rw e (among-by 8 sheetToPacketRefusals refl)
 
+module _ (refusals : Brought → List ℕ) where
+  -- the segment's own refusals are listed where those of a packet and those of a sheet are
+  pub own-among : allMembers packetRefusals (refusals Brought.packet) ≡ true → allMembers sheetRefusals (refusals Brought.sheet) ≡ true
+      → (b : Brought) (s : List ℕ) (r place : ℕ) → SegmentGround b s r place → Among r (refusals b)
+  own-among p q Brought.packet s r place g = among-into (refusals Brought.packet) p (packet-listed segmentNumber (fields-refusals wireChanges) s r place g)
+  own-among p q Brought.sheet s r place g = among-into (refusals Brought.sheet) q (sheet-listed wireChanges s r place g)
+
+  pub late-among : (r : ℕ) → member r (refusals Brought.packet) ≡ true → member r (refusals Brought.sheet) ≡ true → (b : Brought) → Among r (refusals b)
+  late-among r p q Brought.packet = among-by r (refusals Brought.packet) p
+  late-among r p q Brought.sheet = among-by r (refusals Brought.sheet) q
+
 pub own-listed : (b : Brought) (s : List ℕ) (r place : ℕ) → SegmentGround b s r place → Among r (speedRefusals b)
-own-listed Brought.packet s r place g = among-into (speedRefusals Brought.packet) refl (packet-listed segmentNumber (fields-refusals wireChanges) s r place g)
-own-listed Brought.sheet s r place g = among-into (speedRefusals Brought.sheet) refl (sheet-listed wireChanges s r place g)
+own-listed b s r place g = own-among speedRefusals refl refl b s r place g
 
 pub late-listed : (b : Brought) → Among 10 (speedRefusals b) × Among 11 (speedRefusals b)
-late-listed Brought.packet = (among-by 10 (speedRefusals Brought.packet) refl, among-by 11 (speedRefusals Brought.packet) refl)
-late-listed Brought.sheet = (among-by 10 (speedRefusals Brought.sheet) refl, among-by 11 (speedRefusals Brought.sheet) refl)
+late-listed b = (late-among speedRefusals 10 refl refl b, late-among speedRefusals 11 refl refl b)

@@ -41,7 +41,7 @@ elements-theirs b l v c = record {
 }
 
 -- a question is refused for its medium, or for its count, or its run is judged
-asking : {C : Type 0} (medium count : ℕ) → (Neither medium → C) → ((b : Brought) → medium ≡ mediumOf b → runCount count ≡ false → C)
+pub asking : {C : Type 0} (medium count : ℕ) → (Neither medium → C) → ((b : Brought) → medium ≡ mediumOf b → runCount count ≡ false → C)
     → ((b : Brought) → medium ≡ mediumOf b → runCount count ≡ true → C) → C
 asking medium count f g h = either-medium medium (λ b k. by-cases (runCount count) (h b k) (g b k)) f
 

@@ -2,6 +2,7 @@ pub mod Promised
 pub mod Refused
 pub mod Ranges
 pub mod Samples
+pub mod Steps
 pub mod deliveries
 pub mod desk
 pub mod shelves

@@ -76,4 +76,4 @@ altitudeRefusals = packetRefusals
 
 -- "For 1, 2, 3, 8, 10 to 12, success and, unless said, numbers above 13 it is 0"
 abbrev pub placeless : List ℕ
-placeless = 0 ∷ 1 ∷ 2 ∷ 3 ∷ 8 ∷ 10 ∷ 11 ∷ 12 ∷ 14 ∷ 15 ∷ 16 ∷ 17 ∷ 21 ∷ []
+placeless = 0 ∷ 1 ∷ 2 ∷ 3 ∷ 8 ∷ 10 ∷ 11 ∷ 12 ∷ 14 ∷ 15 ∷ 16 ∷ 17 ∷ 18 ∷ 21 ∷ []

@@ -1,7 +1,8 @@
-// The eleven public operations and the interface's number, under the names that the customer's server links. None has a `requires`: any bytes and numbers may be handed over.
+// The twelve public operations and the interface's number, under the names that the customer's server links. None has a `requires`: any bytes and numbers may be handed over.
 ghost use mathlib.Core.Path.{_≡_};
 ghost use Rattle.convert.specs.Convert.{packetToSheet, sheetToPacket};
 ghost use Rattle.speed_question.specs.Question.{permittedSpeed};
+ghost use Rattle.steps.specs.Steps.{checkSteps};
 ghost use Rattle.altitude.specs.Altitude.{altitudeOf};
 ghost use Rattle.intake.specs.Intake.{gathering, delivered, completed, asked};
 ghost use Rattle.shelf.specs.Shelf.{shelfAdd, shelfRemove, seen, shelfLookup};
@@ -12,6 +13,7 @@ use shelf::Key;
 use shelf::Shelved;
 use speed::Train;
 use speed_question::Speed;
+use steps::Checked;
 
 // The number of the interface: that of the request that last changed a layout or a function which the header had. A new function leaves it.
 const INTERFACE: u32 = 10;
@@ -58,6 +60,35 @@ pub extern "C" fn seglink_altitude_of_packet(packet: &[u8]) -> Altitude
     ensures { λ r. ⌜ r ≡ altitudeOf (now (packet .entry)) ⌝ }
 {
     altitude::altitude_of_packet(packet)
+}
+
+// Checks the steps that start at `starts`, in cm from the start of the last of a run of `count` segments, with the `speeds` in km/h against the
+// permitted speed of `train` at every centimetre of that segment. Answers 0 and 0; or a refusal's number and its place, with 19 the first wrong centimetre.
+#[no_mangle]
+pub extern "C" fn seglink_check_steps<'a>(
+    medium: u32,
+    count: u32,
+    first: &'a [u8],
+    second: &'a [u8],
+    third: &'a [u8],
+    fourth: &'a [u8],
+    train: Train,
+    starts: &'a [u32],
+    speeds: &'a [u32],
+) -> Checked
+    ensures { λ r. ⌜ r ≡ checkSteps medium count (now (first .entry)) (now (second .entry)) (now (third .entry)) (now (fourth .entry)) train (now (starts .entry)) (now (speeds .entry)) ⌝ }
+{
+    steps::check_steps(
+        medium,
+        count,
+        first,
+        second,
+        third,
+        fourth,
+        train,
+        starts,
+        speeds,
+    )
 }
 
 // Returns the state of an intake before the first delivery.
