@@ -31,6 +31,7 @@ extern "C" {
 //     a sheet               its numbers in order (9 before 2, 4 or 5), then 9 for bytes that are left
 //     a conversion          the refusals of its packet or sheet, then 12 (of a sheet alone), then 8
 //     a speed question      15, then 16, then the refusals of its packets or sheets, one segment after the other, then 10, then 11
+//     a check of steps      the refusals of a speed question without 11, then 18, then 19
 //     an altitude question  the refusals of its packet
 //     a completion          8, then the refusals of its packet
 //     an intake's sheet     14 where there is no verdict, then the verdict's refusal, then 14 where the packet's room is cut short, then
@@ -48,6 +49,7 @@ extern "C" {
 //     9                     the first byte of the number at fault, which is the sheet's length where the sheet ends before the number; or
 //                           the first byte that is left
 //     13                    the first bit that is left
+//     19                    the first wrong centimetre, counted from the start of the run's last segment
 //     all others, success   0
 enum {
     SEGLINK_SUCCESS = 0,
@@ -68,6 +70,8 @@ enum {
     SEGLINK_UNKNOWN_KIND = 15,   // the kind is neither 0 nor 1
     SEGLINK_RUN_COUNT = 16,      // the run has no segment or more than 4
     SEGLINK_NOT_KEPT = 17,       // no sheet with the key is kept in the stores that are asked
+    SEGLINK_STEPS = 18,          // there are no steps or more than 128, unequal numbers of starts and speeds, or starts that do not rise from 0 on or reach L_SP
+    SEGLINK_WRONG_SPEED = 19,    // the last step at or before a centimetre does not give the permitted speed
     SEGLINK_NO_SHELF = 21        // a store has more than 65,536 bytes, or its used part is not a run of accepted sheets with different keys
 };
 
@@ -87,6 +91,11 @@ enum {
     SEGLINK_LARGEST_JOURNEY_SHEET = 15226
 };
 
+// Most steps of a check.
+enum {
+    SEGLINK_MOST_STEPS = 128
+};
+
 // Most bytes of a shelf's store.
 enum {
     SEGLINK_LARGEST_STORE = 65536
@@ -101,6 +110,11 @@ typedef struct {
 typedef struct {
     uint32_t refusal, place, speed;
 } seglink_speed;
+
+// Answer to a check of steps: 0 and 0; or a refusal and its place, with 19 the first wrong centimetre.
+typedef struct {
+    uint32_t refusal, place;
+} seglink_checked;
 
 // Answer to an altitude question: 0, 0 and the altitude in cm, from -100,000 to 948,575; or a refusal, its place and 0.
 typedef struct {
@@ -176,6 +190,15 @@ static inline seglink_speed seglink_permitted_speed_one(uint32_t kind, const uin
 {
     return seglink_permitted_speed(kind, 1, segment, segment_len, segment, 0, segment, 0, segment, 0, train, x);
 }
+
+// Checks the steps that a supplier's tool prints for a train on a segment: `starts` in cm from the start of the last segment of a run, and `speeds`
+// in km/h. Success exactly if there are 1 to SEGLINK_MOST_STEPS steps, as many starts as speeds, the first start is 0, the starts rise strictly and lie
+// below L_SP of the last segment, and at every centimetre of it the last step at or before it gives the speed that seglink_permitted_speed answers.
+// Neighbours of one speed are allowed. `kind`, `count`, the segments and the train are as there; any may be handed over, and any starts and speeds.
+// A refusal is one of seglink_permitted_speed without 11, then 18, then 19 with the first wrong centimetre. Each segment is judged once.
+seglink_checked seglink_check_steps(uint32_t kind, uint32_t count, const uint8_t *first, size_t first_len, const uint8_t *second, size_t second_len,
+                                    const uint8_t *third, size_t third_len, const uint8_t *fourth, size_t fourth_len, seglink_train train,
+                                    const uint32_t *starts, size_t starts_len, const uint32_t *speeds, size_t speeds_len);
 
 // Returns the altitude of a packet's segment in signed centimetres.
 // Any bytes may be handed over; a refusal is 1 to 7 or 13.

@@ -2040,6 +2040,74 @@ static void nulls(void)
                 null_intake((seglink_intake){phase, lengths[i], refusals[j], 0});
 }
 
+// ---- Steps
+
+// A segment of 10 cm: 100 km/h with the delay, from 5 cm on 140 km/h.
+static const uint8_t stepped_sheet[] = {6, 0xC5, 0xC6, 4, 1, 0, 0, 7, 0, 0, 0, 0, 10, 0, 0, 0, 100, 0, 0, 1, 5, 0x8C, 1, 0, 0, 0, 0, 0, 0, 0};
+static const seglink_train stepped_train = {.length = 2, .cant = 80, .maximum = 120};
+
+// Copies a list to the end of readable memory, the nth of it; a null list stays null.
+static const uint32_t *lend_list(int nth, const uint32_t *list, size_t length)
+{
+    return list == NULL ? NULL : memcpy(readable[nth] + PAGES - length * sizeof *list, list, length * sizeof *list);
+}
+
+// Checks the answer about steps on a run of the first `count` segments, all of them the first `length` bytes of that sheet. Nothing past the sheet and
+// past the lists can be read, nor the segments past the count; with a count that is not 1 to 4, or another kind, no segment can be read.
+static void steps_on(uint32_t kind, uint32_t count, size_t length, seglink_train train, const uint32_t *starts, size_t starts_len,
+    const uint32_t *speeds, size_t speeds_len, uint32_t refusal, uint32_t place)
+{
+    static const char name[] = "steps";
+    const uint8_t *sheet = memcpy(readable[0] + PAGES - length, stepped_sheet, length), *s[LENT];
+    for (uint32_t i = 0; i < LENT; ++i)
+        s[i] = i < count && count <= LENT && kind <= 1 ? sheet : unreadable;
+    seglink_checked checked = seglink_check_steps(kind, count, s[0], length, s[1], length, s[2], length, s[3], length, train,
+        lend_list(1, starts, starts_len), starts_len, lend_list(2, speeds, speeds_len), speeds_len);
+    check(name, "the refusal", checked.refusal, refusal);
+    check(name, "the place", checked.place, place);
+}
+
+// Checks the answer about steps on that sheet alone.
+static void steps_are(const uint32_t *starts, size_t starts_len, const uint32_t *speeds, size_t speeds_len, uint32_t refusal, uint32_t place)
+{
+    steps_on(1, 1, sizeof stepped_sheet, stepped_train, starts, starts_len, speeds, speeds_len, refusal, place);
+}
+
+static void steps(void)
+{
+    static const uint32_t starts[] = {0, 7}, thrice[] = {0, 3, 7}, early[] = {0, 5}, late[] = {0, 8}, offset[] = {1, 7}, twice[] = {0, 7, 7},
+                          past[] = {0, 7, 10}, speeds[] = {100, 120, 120}, same[] = {100, 100, 120}, high[] = {100, 140}, low[] = {99, 120};
+    static uint32_t many[129], alike[129];
+    for (uint32_t i = 0; i < 129; ++i) {
+        many[i] = i;
+        alike[i] = 100;
+    }
+    steps_are(starts, 2, speeds, 2, 0, 0);
+    steps_are(thrice, 3, same, 3, 0, 0);
+    steps_are(early, 2, speeds, 2, 19, 5);
+    steps_are(late, 2, speeds, 2, 19, 7);
+    steps_are(starts, 1, speeds, 1, 19, 7);
+    steps_are(starts, 2, high, 2, 19, 7);
+    steps_are(starts, 2, low, 2, 19, 0);
+    steps_are(starts, 0, speeds, 0, 18, 0);
+    steps_are(offset, 2, speeds, 2, 18, 0);
+    steps_are(twice, 3, speeds, 3, 18, 0);
+    steps_are(past, 3, speeds, 3, 18, 0);
+    steps_are(starts, 2, low, 1, 18, 0);
+    steps_are(starts, 1, low, 2, 18, 0);
+    steps_are(many, 129, alike, 129, 18, 0);
+    steps_are(NULL, 0, NULL, 0, 18, 0);
+    steps_on(2, 0, 0, (seglink_train){.length = 0}, NULL, 0, NULL, 0, 15, 0);
+    steps_on(1, 0, sizeof stepped_sheet, stepped_train, starts, 2, speeds, 2, 16, 0);
+    steps_on(1, 5, sizeof stepped_sheet, stepped_train, starts, 2, speeds, 2, 16, 0);
+    steps_on(1, 1, 29, (seglink_train){.length = 0}, NULL, 0, NULL, 0, 9, 29);
+    steps_on(1, 1, sizeof stepped_sheet, (seglink_train){.length = 0}, NULL, 0, NULL, 0, 10, 0);
+    // the train's tail is on the segment before: its change to 140 km/h holds from its start on, and for 2 cm past its end
+    steps_on(1, 2, sizeof stepped_sheet, stepped_train, starts, 2, speeds, 2, 0, 0);
+    steps_on(1, 4, sizeof stepped_sheet, stepped_train, starts, 2, speeds, 2, 0, 0);
+    check("steps", "the size of an answer", sizeof(seglink_checked), 8);
+}
+
 // Checks the answers about the largest segment, whose lists are all full.
 static void largest_asked(const struct fields *s)
 {
@@ -2095,6 +2163,7 @@ static int all_checks(struct fields *s)
     intakes();
     runs(s);
     shelves();
+    steps();
     nulls();
     printf("%u passed, %u failed\n", passed, failed);
     return failed == 0 ? 0 : 1;

@@ -45,7 +45,8 @@ def commented():
             lines = path.read_text().splitlines()
             for line, _, name, head in functions(path):
                 first, indent = line + head.count("\n"), re.match(" *", lines[line - 1]).group()
-                if lines.index(indent + "}", first) - first > 1 and not lines[line - 2].strip().startswith("//"):
+                above = next(above for above in reversed(lines[: line - 1]) if not above.strip().startswith("#["))
+                if lines.index(indent + "}", first) - first > 1 and not above.strip().startswith("//"):
                     yield f"{path.relative_to(ROOT)}:{line}: {name} has no comment"
 
 

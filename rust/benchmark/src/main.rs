@@ -9,6 +9,7 @@ mod machine;
 mod measure;
 mod runs;
 mod shelves;
+mod steps;
 
 use compare::archive::Archive;
 use compare::desk_shelves;
@@ -58,7 +59,8 @@ does not come back from it unchanged.
 Runs: four segments, with a train that stands on all of them and with one that has left three, beside one segment with the same train.
 At once and byte by byte: an intake takes a packet in one delivery, and in one for each byte; beside them plain copies of the same bytes, a
 call each. Completion judges the packet. A delivery is to cost a call and a copy, and not what a completion does.
-Lookup: of a key that is not kept, in a full store whose keys rise; beside it the judge's own passes over the store's sheets, a call each.";
+Lookup: of a key that is not kept, in a full store whose keys rise; beside it the judge's own passes over the store's sheets, a call each.
+Check: of 128 right steps on a segment; beside it one question about the segment's last centimetre. At most 3 times as long.";
 
 fn main() {
     println!("Processor: {}", machine::processor());
@@ -78,6 +80,8 @@ fn main() {
     for (name, count, sizes) in SIZES {
         runs::rows(name, &mut random, count / 2, sizes);
     }
+    let drafts: Vec<Draft> = (0..TAKEN_SEGMENTS).map(|_| segment(&mut random, LARGEST)).collect();
+    steps::rows("largest segments", &drafts, &TRAIN);
     let segments: Vec<_> = (0..TAKEN_SEGMENTS).map(|_| segment(&mut random, LARGEST).packet()).collect();
     deliveries::rows("largest segments", &segments);
     let journeys: Vec<_> = (0..TAKEN_JOURNEYS).map(|_| any_journey(&mut random, LONGEST).packet()).collect();

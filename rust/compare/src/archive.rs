@@ -17,6 +17,12 @@ struct Speed {
 }
 
 #[repr(C)]
+struct Checked {
+    refusal: u32,
+    place: u32,
+}
+
+#[repr(C)]
 struct Altitude {
     refusal: u32,
     place: u32,
@@ -58,6 +64,23 @@ extern "C" {
         train: Card,
         x: u32,
     ) -> Speed;
+    fn seglink_check_steps(
+        kind: u32,
+        count: u32,
+        first: *const u8,
+        first_len: usize,
+        second: *const u8,
+        second_len: usize,
+        third: *const u8,
+        third_len: usize,
+        fourth: *const u8,
+        fourth_len: usize,
+        train: Card,
+        starts: *const u32,
+        starts_len: usize,
+        speeds: *const u32,
+        speeds_len: usize,
+    ) -> Checked;
     fn seglink_altitude_of_packet(packet: *const u8, packet_len: usize) -> Altitude;
     fn seglink_intake_fresh() -> State;
     fn seglink_intake_deliver(intake: State, delivery: *const u8, delivery_len: usize, room: *mut u8, room_len: usize) -> State;
@@ -82,6 +105,15 @@ impl Program for Archive {
         let asked = unsafe { seglink_permitted_speed(kind, count, a, a_len, b, b_len, c, c_len, d, d_len, card(train), x) };
         let Speed { refusal, place, speed } = asked;
         Answer { refusal, place, value: speed.into() }
+    }
+
+    fn check_steps(kind: u32, Run { count, lent }: Run, train: &Train, starts: &[u32], speeds: &[u32]) -> Answer {
+        let [(a, a_len), (b, b_len), (c, c_len), (d, d_len)] = lent.map(|segment| (segment.as_ptr(), segment.len()));
+        let (from, steps, of, numbers) = (starts.as_ptr(), starts.len(), speeds.as_ptr(), speeds.len());
+        let Checked { refusal, place } = unsafe {
+            seglink_check_steps(kind, count, a, a_len, b, b_len, c, c_len, d, d_len, card(train), from, steps, of, numbers)
+        };
+        Answer { refusal, place, value: 0 }
     }
 
     fn altitude_of_packet(packet: &[u8]) -> Answer {

@@ -31,5 +31,7 @@ pub mod sequence;
 pub mod shelf_calls;
 pub mod shelf_event;
 pub mod shelves;
+pub mod steps;
+pub mod steps_event;
 pub mod tally;
 pub mod wild;

@@ -10,6 +10,8 @@ use compare::desk_shelves;
 use compare::random::Random;
 use compare::shelf_event::ShelfTally;
 use compare::shelves;
+use compare::steps;
+use compare::steps_event::StepsTally;
 use compare::tally::Tally;
 use std::panic::{catch_unwind, AssertUnwindSafe};
 use std::time::Instant;
@@ -23,6 +25,7 @@ const SHOWN: u64 = 5;
 struct Run {
     tally: Tally,
     shelves: ShelfTally,
+    steps: StepsTally,
     passed: u64,
     failed: u64,
 }
@@ -46,6 +49,7 @@ impl Run {
         self.desk_of_runs();
         self.desk_of_intakes();
         self.desk_of_shelves();
+        self.desk_of_steps();
         let (first, cases) = (setting("SEGLINK_SEED", FIRST_SEED), setting("SEGLINK_CASES", CASES));
         for seed in first..first + cases {
             self.case(seed);
@@ -53,8 +57,9 @@ impl Run {
         let seconds = began.elapsed().as_secs_f64();
         println!("{}", self.tally);
         println!("{}", self.shelves);
+        println!("{}", self.steps);
         println!("{cases} random cases from seed {first} in {seconds:.0} s, {:.0} a second", cases as f64 / seconds);
-        for missing in self.tally.missing().into_iter().chain(self.shelves.missing()) {
+        for missing in self.tally.missing().into_iter().chain(self.shelves.missing()).chain(self.steps.missing()) {
             self.count(Err(missing));
         }
     }
@@ -97,12 +102,19 @@ impl Run {
         self.count(outcome.map(|_| ()).map_err(|why| format!("desk case, {why}")));
     }
 
+    fn desk_of_steps(&mut self) {
+        let outcome = steps::desk();
+        println!("{} desk cases of steps", *outcome.as_ref().unwrap_or(&0));
+        self.count(outcome.map(|_| ()).map_err(|why| format!("desk case, {why}")));
+    }
+
     fn case(&mut self, seed: u64) {
         let mut random = Random::new(seed);
         let case = Case::random(&mut random);
         let outcome = catch_unwind(AssertUnwindSafe(|| {
             check(&mut random, &case, &mut self.tally)?;
-            shelves::check(&mut random, &case, &mut self.shelves)
+            shelves::check(&mut random, &case, &mut self.shelves)?;
+            steps::check(&mut random, &mut self.steps)
         }));
         let outcome = outcome.unwrap_or_else(|_| Err("the second program or the comparison itself panicked".to_string()));
         self.count(outcome.map_err(|why| format!("seed {seed}, {}", told(&case, &why))));

@@ -18,6 +18,10 @@ impl Program for Second {
         answer(second::permitted_speed(kind, count, lent, train, x))
     }
 
+    fn check_steps(kind: u32, Run { count, lent }: Run, train: &Train, starts: &[u32], speeds: &[u32]) -> Answer {
+        answer(second::check_steps(kind, count, lent, train, starts, speeds).map(|()| 0u32))
+    }
+
     fn altitude_of_packet(packet: &[u8]) -> Answer {
         answer(second::altitude_of_packet(packet))
     }

@@ -26,6 +26,8 @@ mod desk_runs;
 #[cfg(test)]
 mod desk_shelves;
 #[cfg(test)]
+mod desk_steps;
+#[cfg(test)]
 mod desk_wires;
 mod intake;
 mod journey;
@@ -38,6 +40,7 @@ mod sheet_reading;
 mod sheet_writing;
 mod shelf;
 mod speed;
+mod steps;
 
 pub use intake::{Intake, Told};
 pub use refusal::{Refusal, Refused};
@@ -68,6 +71,22 @@ pub const LENT: usize = 4;
 /// Returns the permitted speed in km/h at location `x`, in cm, of the last segment of a run: the first `count` of the segments lent, in order of
 /// travel, all of one kind. A packet's speeds count 5 km/h, a sheet's 1 km/h; no speed is above the train's maximum.
 pub fn permitted_speed(kind: u32, count: u32, lent: [&[u8]; LENT], train: &Train, x: u32) -> Result<u32, Refused> {
+    speed::permitted(&run_of(kind, count, lent)?, train, x)
+}
+
+/// Checks the steps that start at `starts`, in cm, with these speeds, in km/h, against the permitted speed at every centimetre of the last segment of
+/// a run. With [`Refusal::WrongSpeed`] the place is the first wrong centimetre.
+pub fn check_steps(kind: u32, count: u32, lent: [&[u8]; LENT], train: &Train, starts: &[u32], speeds: &[u32]) -> Result<(), Refused> {
+    steps::check(&run_of(kind, count, lent)?, train, starts, speeds)
+}
+
+/// Returns the places at which a list of right steps for a train can need a step, in any order.
+pub fn step_places(kind: u32, count: u32, lent: [&[u8]; LENT], train: &Train) -> Result<Vec<u32>, Refused> {
+    Ok(speed::changes(&run_of(kind, count, lent)?, train))
+}
+
+/// Reads the segments of a run, in order.
+fn run_of(kind: u32, count: u32, lent: [&[u8]; LENT]) -> Result<Vec<Segment>, Refused> {
     let read: fn(&[u8]) -> Result<Segment, Refused> = match kind {
         KIND_PACKET => packet_reading::segment_of,
         KIND_SHEET => sheet_reading::segment_of,
@@ -76,8 +95,7 @@ pub fn permitted_speed(kind: u32, count: u32, lent: [&[u8]; LENT], train: &Train
     if count == 0 || count as usize > LENT {
         return Err(Refusal::Run.nowhere());
     }
-    let run = lent[..count as usize].iter().map(|segment| read(segment)).collect::<Result<Vec<_>, _>>()?;
-    speed::permitted(&run, train, x)
+    lent[..count as usize].iter().map(|segment| read(segment)).collect()
 }
 
 /// Returns the permitted speed on a run of one segment.

@@ -38,6 +38,10 @@ pub enum Refusal {
     Run = 16,
     /// No sheet with the key is kept in the stores that are asked.
     NotKept = 17,
+    /// There are no steps or more than 128, unequal numbers of starts and speeds, or starts that do not rise from 0 on or reach L_SP.
+    Steps = 18,
+    /// The last step at or before a centimetre does not give the permitted speed.
+    WrongSpeed = 19,
     /// A store has more than 65,536 bytes, or its used part is not a run of accepted sheets with different keys.
     NoShelf = 21,
 }

@@ -15,7 +15,7 @@ pub struct Train {
 }
 
 impl Train {
-    fn is_allowed(&self) -> bool {
+    pub fn is_allowed(&self) -> bool {
         (1..=150_000).contains(&self.length) && CANTS.contains(&self.cant) && (1..=600).contains(&self.maximum)
     }
 
@@ -41,6 +41,15 @@ pub fn permitted(run: &[Segment], train: &Train, x: u32) -> Result<u32, Refused>
     Ok(speed.expect("the elements together cover the run").min(train.maximum))
 }
 
+/// Returns the locations of the last segment of a run, in cm, at which the permitted speed can change: where an element starts, and where it ends,
+/// with Q_FRONT 0 the train's length further on.
+pub fn changes(run: &[Segment], train: &Train) -> Vec<u32> {
+    let (last, before) = run.split_last().expect("a run has a segment");
+    let from = before.iter().map(|segment| segment.length).sum::<u32>();
+    let places = laid(run).into_iter().flat_map(|stretch| [stretch.start, stretch.end + delay(&stretch, train)]);
+    places.filter_map(|place| place.checked_sub(from)).filter(|place| *place < last.length).collect()
+}
+
 /// An element, with its start and its end in cm from the run's start.
 struct Stretch<'a> {
     element: &'a Element,
@@ -63,8 +72,16 @@ fn laid(run: &[Segment]) -> Vec<Stretch<'_>> {
 
 /// Returns whether an element holds at a location: from its start to its end, with Q_FRONT 0 to its end plus the train's length.
 fn holds(stretch: &Stretch, train: &Train, location: u32) -> bool {
-    let delay = if stretch.element.front { 0 } else { train.length };
-    stretch.start <= location && location < stretch.end + delay
+    stretch.start <= location && location < stretch.end + delay(stretch, train)
+}
+
+/// Returns how much longer than to its end an element holds: for the train's length with Q_FRONT 0.
+fn delay(stretch: &Stretch, train: &Train) -> u32 {
+    if stretch.element.front {
+        0
+    } else {
+        train.length
+    }
 }
 
 /// Returns an element's speed in km/h for a train.

@@ -19,6 +19,12 @@ pub(crate) struct Speed {
 }
 
 #[repr(C)]
+pub(crate) struct Checked {
+    pub(crate) refusal: u32,
+    pub(crate) place: u32,
+}
+
+#[repr(C)]
 pub(crate) struct Altitude {
     pub(crate) refusal: u32,
     pub(crate) place: u32,
@@ -69,6 +75,23 @@ extern "C" {
         train: Train,
         x: u32,
     ) -> Speed;
+    fn seglink_check_steps(
+        kind: u32,
+        count: u32,
+        first: *const u8,
+        first_len: usize,
+        second: *const u8,
+        second_len: usize,
+        third: *const u8,
+        third_len: usize,
+        fourth: *const u8,
+        fourth_len: usize,
+        train: Train,
+        starts: *const u32,
+        starts_len: usize,
+        speeds: *const u32,
+        speeds_len: usize,
+    ) -> Checked;
     fn seglink_altitude_of_packet(packet: *const u8, packet_len: usize) -> Altitude;
     fn seglink_version() -> u32;
     fn seglink_intake_fresh() -> State;
@@ -99,16 +122,45 @@ pub(crate) fn sheet_to_packet(sheet: &[u8], room: &mut [u8]) -> Converted {
     unsafe { seglink_sheet_to_packet(sheet.as_ptr(), sheet.len(), room.as_mut_ptr(), room.len()) }
 }
 
-/// Lends the first four of the segments, and empty ones where there are fewer; the library counts all of them.
-pub(crate) fn permitted_speed(kind: u32, segments: &[&[u8]], train: Train, x: u32) -> Speed {
+/// Returns how many segments a run has, and what is lent: a pointer and a length for each of the first four, empty ones where there are fewer.
+fn lend(segments: &[&[u8]]) -> (u32, [(*const u8, usize); LENT]) {
     let count = u32::try_from(segments.len()).unwrap_or(u32::MAX);
     let mut lent: [&[u8]; LENT] = [&[]; LENT];
     lent.iter_mut().zip(segments).for_each(|(lent, segment)| *lent = segment);
-    let [(first, first_len), (second, second_len), (third, third_len), (fourth, fourth_len)] =
-        lent.map(|segment| (segment.as_ptr(), segment.len()));
+    (count, lent.map(|segment| (segment.as_ptr(), segment.len())))
+}
+
+/// Lends the first four of the segments, and empty ones where there are fewer; the library counts all of them.
+pub(crate) fn permitted_speed(kind: u32, segments: &[&[u8]], train: Train, x: u32) -> Speed {
+    let (count, [(first, first_len), (second, second_len), (third, third_len), (fourth, fourth_len)]) = lend(segments);
     // SAFETY: each pointer comes with its own slice's length, is not null and is only read; Train has the C layout.
     unsafe {
         seglink_permitted_speed(kind, count, first, first_len, second, second_len, third, third_len, fourth, fourth_len, train, x)
+    }
+}
+
+/// Lends the segments as [`permitted_speed`] does, and the starts and speeds.
+pub(crate) fn check_steps(kind: u32, segments: &[&[u8]], train: Train, starts: &[u32], speeds: &[u32]) -> Checked {
+    let (count, [(first, first_len), (second, second_len), (third, third_len), (fourth, fourth_len)]) = lend(segments);
+    // SAFETY: each pointer comes with its own slice's length, is not null and is only read; Train has the C layout.
+    unsafe {
+        seglink_check_steps(
+            kind,
+            count,
+            first,
+            first_len,
+            second,
+            second_len,
+            third,
+            third_len,
+            fourth,
+            fourth_len,
+            train,
+            starts.as_ptr(),
+            starts.len(),
+            speeds.as_ptr(),
+            speeds.len(),
+        )
     }
 }
 

@@ -1,5 +1,5 @@
 //! The segment link in safe Rust, over the proved static library: packets to sheets and back, packets that arrive in deliveries, permitted
-//! speeds, the altitude, and a [`Shelf`] of segments.
+//! speeds, the altitude, a [`Shelf`] of segments, and a check of a supplier's [`Steps`].
 //!
 //! A packet or a sheet is of a segment (packet number 6) or of a journey (packet number 4). The conversions and an [`Intake`] take both,
 //! the questions take a segment alone.
@@ -59,6 +59,7 @@ mod refused;
 #[cfg(test)]
 mod refused_first;
 mod shelf;
+mod steps;
 mod train;
 
 pub use intake::Intake;
@@ -67,6 +68,7 @@ pub use kind::Kind;
 pub use refusal::Refusal;
 pub use refused::{Refused, Unit};
 pub use shelf::{Key, Shelf};
+pub use steps::{check_steps, steps_of, Steps};
 pub use train::Train;
 
 /// Bytes of a segment's smallest packet.

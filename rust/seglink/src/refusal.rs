@@ -41,13 +41,17 @@ pub enum Refusal {
     RunCount = 16,
     /// 17: no sheet with the key is kept in the stores that are asked.
     NotKept = 17,
+    /// 18: there are no steps or more than 128, unequal numbers of starts and speeds, or starts that do not rise from 0 on or reach L_SP.
+    Steps = 18,
+    /// 19: the last step at or before a centimetre does not give the permitted speed.
+    WrongSpeed = 19,
     /// 21: a store has more than 65,536 bytes, or its used part is not a run of accepted sheets with different keys. Only the first can be
     /// said of a [`Shelf`](crate::Shelf).
     NoShelf = 21,
 }
 
 /// Each refusal with its ground, in the words of the C header.
-const GROUNDS: [(Refusal, &str); 18] = [
+const GROUNDS: [(Refusal, &str); 20] = [
     (Refusal::ShortPacket, "a packet has fewer than 15 bytes"),
     (Refusal::PacketNumber, "the packet number is neither 4 nor 6, or is 4 where a segment is needed"),
     (Refusal::PacketLength, "the packet's bytes are not 15 + L_PACKET_ATO / 8, rounded up"),
@@ -83,6 +87,12 @@ const GROUNDS: [(Refusal, &str); 18] = [
     (Refusal::RunCount, "the run has no segment or more than 4"),
     (Refusal::NotKept, "no sheet with the key is kept in the stores that are asked"),
     (
+        Refusal::Steps,
+        "there are no steps or more than 128, unequal numbers of starts and speeds, or starts that do not rise from 0 on or reach \
+         L_SP",
+    ),
+    (Refusal::WrongSpeed, "the last step at or before a centimetre does not give the permitted speed"),
+    (
         Refusal::NoShelf,
         "a store has more than 65,536 bytes, or its used part is not a run of accepted sheets with different keys",
     ),
@@ -104,9 +114,10 @@ impl Refusal {
         GROUNDS.iter().map(|&(refusal, _)| refusal).find(|refusal| refusal.number() == number)
     }
 
-    /// Returns whether the refusal is given at a bit or a byte: 4, 5, 6, 7, 9 and 13. The place of every other refusal is 0.
+    /// Returns whether the refusal is given at a bit or a byte, 4, 5, 6, 7, 9 and 13, or at a centimetre, 19. The place of every other refusal
+    /// is 0.
     pub fn has_place(self) -> bool {
         use Refusal::*;
-        matches!(self, FieldValue | ChangeLocation | BodyBits | PaddingBit | SheetForm | BitsLeft)
+        matches!(self, FieldValue | ChangeLocation | BodyBits | PaddingBit | SheetForm | BitsLeft | WrongSpeed)
     }
 }

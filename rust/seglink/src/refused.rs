@@ -11,7 +11,7 @@ pub struct Refused {
     pub refusal: Refusal,
     /// Where the fault is, counted from 0 at the start of the packet or sheet: the first bit of the field or the first byte of the number at
     /// fault; the first bit or byte that is left; the first padding bit that is 1. 0 for a refusal that [has no place](Refusal::has_place).
-    /// Of a run, the place is within the segment that is refused.
+    /// Of a run, the place is within the segment that is refused. Of a wrong step, it is the first wrong centimetre of the run's last segment.
     pub place: u32,
     /// Unit of the place.
     pub unit: Unit,
@@ -25,6 +25,8 @@ pub enum Unit {
     Bit,
     /// The bytes of a sheet.
     Byte,
+    /// The centimetres of a run's last segment.
+    Centimetre,
 }
 
 impl fmt::Display for Refused {
@@ -33,6 +35,7 @@ impl fmt::Display for Refused {
             _ if !self.refusal.has_place() => "",
             Unit::Bit => "bit ",
             Unit::Byte => "byte ",
+            Unit::Centimetre => "centimetre ",
         };
         write!(f, "{} at {unit}{}: {}", self.refusal.number(), self.place, self.refusal.ground())
     }

@@ -1,7 +1,7 @@
 //! Tests that the C header and this crate name the same interface, refusals, grounds, kinds and sizes.
 use seglink::{
-    version, Kind, Refusal, Shelf, INTERFACE, LARGEST_JOURNEY_PACKET, LARGEST_JOURNEY_SHEET, LARGEST_PACKET, LARGEST_SHEET,
-    SMALLEST_PACKET,
+    version, Kind, Refusal, Shelf, Steps, INTERFACE, LARGEST_JOURNEY_PACKET, LARGEST_JOURNEY_SHEET, LARGEST_PACKET,
+    LARGEST_SHEET, SMALLEST_PACKET,
 };
 
 const HEADER: &str = include_str!("../../../../include/seglink.h");
@@ -33,19 +33,19 @@ fn in_rust(name: &str) -> String {
 #[test]
 fn every_refusal_has_its_name_number_and_ground_in_both() {
     let named: Vec<_> = constants().into_iter().filter(|(_, _, comment)| !comment.is_empty()).collect();
-    assert_eq!(named.iter().map(|&(_, number, _)| number).collect::<Vec<_>>(), (1..=17).chain([21]).collect::<Vec<_>>());
+    assert_eq!(named.iter().map(|&(_, number, _)| number).collect::<Vec<_>>(), (1..=19).chain([21]).collect::<Vec<_>>());
     for (name, number, ground) in named {
         let refusal = Refusal::from_number(number).unwrap();
         assert_eq!(refusal.number(), number);
         assert_eq!(format!("{refusal:?}"), in_rust(name));
         assert_eq!(refusal.ground(), ground);
-        assert_eq!(refusal.has_place(), [4, 5, 6, 7, 9, 13].contains(&number));
+        assert_eq!(refusal.has_place(), [4, 5, 6, 7, 9, 13, 19].contains(&number));
     }
 }
 
 #[test]
 fn no_other_number_is_a_refusal() {
-    for number in [0, 18, 19, 20, 22, u32::MAX] {
+    for number in [0, 20, 22, u32::MAX] {
         assert_eq!(Refusal::from_number(number), None);
     }
 }
@@ -69,4 +69,5 @@ fn the_sizes_are_the_same_in_both() {
     assert_eq!(size("LARGEST_JOURNEY_PACKET"), LARGEST_JOURNEY_PACKET);
     assert_eq!(size("LARGEST_JOURNEY_SHEET"), LARGEST_JOURNEY_SHEET);
     assert_eq!(size("LARGEST_STORE"), Shelf::LARGEST_STORE);
+    assert_eq!(size("MOST_STEPS"), Steps::MOST);
 }

@@ -9,6 +9,7 @@ mod runs;
 mod segments;
 mod shelves;
 mod speeds;
+mod steps;
 mod wires;
 
 use seglink::{Refusal, Refused};
