@@ -58,5 +58,8 @@ pub const STEPS: u32 = 18;
 // The last step at or before a centimetre does not give the permitted speed.
 pub const WRONG_SPEED: u32 = 19;
 
+// A list of cards has none or more than 64, or no card of a number.
+pub const CARD_LIST: u32 = 20;
+
 // A store has more than 65,536 bytes, or its used part is not a run of accepted sheets with different keys.
 pub const NO_SHELF: u32 = 21;

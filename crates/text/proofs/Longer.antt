@@ -34,9 +34,12 @@ same-number : (n : ℕ) (s : List ℕ) → packetNumber (take (suc n) s) ≡ pac
 same-number n [] = refl
 same-number n (b ∷ s) = rw (number-first b (take n s), number-first b s)
 
+-- a packet is judged by its first 8,208 bytes
+pub packet-front : (s : List ℕ) → 8208 ≤ length s → fromPacket wireChanges (take 8208 s) ≡ fromPacket wireChanges s
+packet-front s h =
+    let long : 8208 ≤ length (take 8208 s) = omega (arith, length-take-le 8208 s h) in
+    long-refused (take 8208 s) long ∙ rw (same-number 8207 s, long-refused s h)
+
 pub listing-front : (s : List ℕ) → 8208 ≤ length s → listingOf (take 8208 s) ≡ listingOf s
 unfolding listingOf
-listing-front s h =
-    let long : 8208 ≤ length (take 8208 s) = omega (arith, length-take-le 8208 s h) in
-    let same : fromPacket wireChanges (take 8208 s) ≡ fromPacket wireChanges s = long-refused (take 8208 s) long ∙ rw (same-number 8207 s, long-refused s h) in
-    ap listed same
+listing-front s h = ap listed (packet-front s h)

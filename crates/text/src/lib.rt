@@ -21,7 +21,7 @@ pub const ROOM: usize = 2048;
 const SHEET: usize = 5728;
 
 // Writes the line of a refusal and its place, a bit of the packet, at the start of the room. Returns the line's length.
-fn put_refusal(refusal: u32, place: u32, room: &mut [u8]) -> usize
+pub fn put_refusal(refusal: u32, place: u32, room: &mut [u8]) -> usize
     requires { ⌜ 33 ≤ length (now room) ⌝ }
     ensures { λ r. ⌜ Laid (now (room .entry)) 0 (refusedLine refusal place) r (now (room .exit)) ⌝ }
 {

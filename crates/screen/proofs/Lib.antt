@@ -1,0 +1,6 @@
+pub mod Cards
+pub mod Desk
+pub mod Lines
+pub mod Longer
+pub mod Taken
+pub mod Whole

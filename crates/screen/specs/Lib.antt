@@ -1,0 +1,5 @@
+pub mod Desk
+pub mod File
+pub mod Promised
+pub mod Screen
+pub mod internal
