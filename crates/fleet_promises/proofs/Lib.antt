@@ -1,0 +1,5 @@
+pub mod Lowest
+pub mod Board
+pub mod Faster
+pub mod Moved
+pub mod Reached

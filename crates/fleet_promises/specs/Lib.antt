@@ -1,0 +1,3 @@
+pub mod Faster
+pub mod Promised
+pub mod Samples
