@@ -127,10 +127,15 @@ typedef struct {
 // passenger train.
 // An element's entries with Q_DIFF 0 count if they name the train's cant deficiency or, if no entry does, the greatest figure below it. The lowest
 // speed of the entries that count is taken; V_STATIC if none counts. With entries for 100 and 165, a train of 150 mm has the speed of the entry for 100.
+#ifndef SEGLINK_TRAIN // fleet.h declares it too
+#define SEGLINK_TRAIN 10 // the number of seglink.h that gave it this layout
 typedef struct {
     uint32_t length, cant, maximum;
     bool freight_p, freight_g, passenger;
 } seglink_train;
+#elif SEGLINK_TRAIN != 10
+#error "seglink.h and fleet.h declare trains of different layouts"
+#endif
 
 // State of an intake, which takes packets that arrive in several deliveries, one packet after the other, into one room. The caller keeps the
 // state and the room, lends both at each call and takes the state back. All 0 is fresh; any four numbers may be handed over.

@@ -63,3 +63,18 @@ pub const CARD_LIST: u32 = 20;
 
 // A store has more than 65,536 bytes, or its used part is not a run of accepted sheets with different keys.
 pub const NO_SHELF: u32 = 21;
+
+// A leg is no segment of the journey, or the run would begin before the journey.
+pub const NO_LEG: u32 = 22;
+
+// A segment's NID_C, NID_SP or version are not those of the journey's segment at its place.
+pub const OTHER_SEGMENT: u32 = 23;
+
+// The journey's segment is not travelled in its nominal direction.
+pub const REVERSE_LEG: u32 = 24;
+
+// A temporary constraint of type 0 uses a location outside its segment.
+pub const CONSTRAINT_PLACE: u32 = 25;
+
+// The train may still stand on a segment before the run.
+pub const TAIL_BEFORE: u32 = 26;

@@ -1,9 +1,10 @@
 //! Times of the archive beside the second program and asn1c: conversions and speeds of small, middle and the largest segments; beside the
 //! second program: conversions of small and the largest journeys and of journeys full of temporary constraints; beside questions about one
 //! segment: speeds on runs of four; beside plain copies: the largest packets taken in deliveries; and beside the judge's own passes: lookups in
-//! full stores.
+//! full stores; beside a question for each card: boards of 64 cards.
 
 mod asn1c;
+mod boards;
 mod deliveries;
 mod machine;
 mod measure;
@@ -60,7 +61,8 @@ Runs: four segments, with a train that stands on all of them and with one that h
 At once and byte by byte: an intake takes a packet in one delivery, and in one for each byte; beside them plain copies of the same bytes, a
 call each. Completion judges the packet. A delivery is to cost a call and a copy, and not what a completion does.
 Lookup: of a key that is not kept, in a full store whose keys rise; beside it the judge's own passes over the store's sheets, a call each.
-Check: of 128 right steps on a segment; beside it one question about the segment's last centimetre. At most 3 times as long.";
+Check: of 128 right steps on a segment; beside it one question about the segment's last centimetre. At most 3 times as long.
+Board: of 64 cards along a packet's segment; beside it a question for each card. At most 0.4 of them.";
 
 fn main() {
     println!("Processor: {}", machine::processor());
@@ -82,6 +84,10 @@ fn main() {
     }
     let drafts: Vec<Draft> = (0..TAKEN_SEGMENTS).map(|_| segment(&mut random, LARGEST)).collect();
     steps::rows("largest segments", &drafts, &TRAIN);
+    for (name, count, sizes) in SIZES {
+        let drafts: Vec<Draft> = (0..count / 20 + 1).map(|_| segment(&mut random, sizes)).collect();
+        boards::row(name, &drafts, &TRAIN);
+    }
     let segments: Vec<_> = (0..TAKEN_SEGMENTS).map(|_| segment(&mut random, LARGEST).packet()).collect();
     deliveries::rows("largest segments", &segments);
     let journeys: Vec<_> = (0..TAKEN_JOURNEYS).map(|_| any_journey(&mut random, LONGEST).packet()).collect();

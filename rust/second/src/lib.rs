@@ -12,6 +12,8 @@ mod desk_cants;
 #[cfg(test)]
 mod desk_constraints;
 #[cfg(test)]
+mod desk_fleet;
+#[cfg(test)]
 mod desk_intakes;
 #[cfg(test)]
 mod desk_journeys;
@@ -29,6 +31,7 @@ mod desk_shelves;
 mod desk_steps;
 #[cfg(test)]
 mod desk_wires;
+mod fleet;
 mod intake;
 mod journey;
 mod numbers;
@@ -42,6 +45,7 @@ mod shelf;
 mod speed;
 mod steps;
 
+pub use fleet::{lowest, move_card, screen, Card};
 pub use intake::{Intake, Told};
 pub use refusal::{Refusal, Refused};
 pub use shelf::{add, key_of, lookup, remove, Key, Part};
@@ -76,7 +80,14 @@ pub fn permitted_speed(kind: u32, count: u32, lent: [&[u8]; LENT], train: &Train
 
 /// Checks the steps that start at `starts`, in cm, with these speeds, in km/h, against the permitted speed at every centimetre of the last segment of
 /// a run. With [`Refusal::WrongSpeed`] the place is the first wrong centimetre.
-pub fn check_steps(kind: u32, count: u32, lent: [&[u8]; LENT], train: &Train, starts: &[u32], speeds: &[u32]) -> Result<(), Refused> {
+pub fn check_steps(
+    kind: u32,
+    count: u32,
+    lent: [&[u8]; LENT],
+    train: &Train,
+    starts: &[u32],
+    speeds: &[u32],
+) -> Result<(), Refused> {
     steps::check(&run_of(kind, count, lent)?, train, starts, speeds)
 }
 

@@ -42,6 +42,8 @@ pub enum Refusal {
     Steps = 18,
     /// The last step at or before a centimetre does not give the permitted speed.
     WrongSpeed = 19,
+    /// A list of cards has none or more than 64, or no card of a number.
+    Cards = 20,
     /// A store has more than 65,536 bytes, or its used part is not a run of accepted sheets with different keys.
     NoShelf = 21,
 }
