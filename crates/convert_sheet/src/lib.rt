@@ -79,7 +79,7 @@ fn write_body(tree: Tree, sheet: &[u8], start: usize, body: &mut [u8], bytes: us
 }
 
 // Judges a sheet of `tree`; then refuses a body of more than 65,535 bits with 12.
-fn counted(tree: Tree, sheet: &[u8]) -> SheetVerdict
+pub fn counted(tree: Tree, sheet: &[u8]) -> SheetVerdict
     ensures { λ r. ⌜ r ≡ countedVerdict tree (now (sheet .entry)) ⌝ }
 {
     match sheet_judge::judge_sheet(tree, sheet) {

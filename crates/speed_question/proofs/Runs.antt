@@ -111,7 +111,7 @@ module _ (judge : List ℕ → Read) where
 -- ---- the values, and their numbers
 
 module _ (b : Brought) where
-  numbers-in : (r : List (List ℕ)) → numbersOf (valuesIn b r) ≡ numbersIn b r
+  pub numbers-in : (r : List (List ℕ)) → numbersOf (valuesIn b r) ≡ numbersIn b r
   numbers-in [] = refl
   numbers-in (s ∷ r) = ap (λ (n : List (List ℕ)). numbersAs b s ∷ n) (numbers-in r)
 
@@ -168,7 +168,7 @@ module _ (b : Brought) (p q u v : List ℕ) (count : ℕ) where
   module _ (few : count ≤ 4) where
     -- a segment that is left, and those after it
     module _ (i : ℕ) (h : i < count) where
-      split : left i ≡ nth i p q u v ∷ left (i + 1)
+      pub split : left i ≡ nth i p q u v ∷ left (i + 1)
       split = drop-lent p q u v count i h few ∙ ap (λ (n : ℕ). nth i p q u v ∷ left n) (sym (add-one i))
 
       pub one-accepted : Each (AcceptedAs b) all → AcceptedAs b (nth i p q u v)
@@ -195,7 +195,7 @@ module _ (b : Brought) (p q u v : List ℕ) (count : ℕ) where
           }
 
       -- where the last segment starts, counted from the one that is left
-      start-on : {lsp at : ℕ} → HeadOf b (nth i p q u v) lsp at → i + 1 < count → lastStart 0 (numbersIn b (left i)) ≡ lsp + lastStart 0 (numbersIn b (left (i + 1)))
+      pub start-on : {lsp at : ℕ} → HeadOf b (nth i p q u v) lsp at → i + 1 < count → lastStart 0 (numbersIn b (left i)) ≡ lsp + lastStart 0 (numbersIn b (left (i + 1)))
       start-on {lsp} d more =
           let n = nth (i + 1) p q u v in
           let r = left (i + 1 + 1) in

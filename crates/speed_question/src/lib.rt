@@ -47,7 +47,7 @@ fn refusal_of(train: Train, x: u32, lsp: u32) -> u32
 }
 
 // Judges `train` and the place `x` in the last of the `count` accepted segments, and answers with the lower of the train's maximum and the profile's speed.
-fn of_run<'a>(
+pub fn of_run<'a>(
     medium: u32,
     count: u32,
     first: &'a [u8],

@@ -1,0 +1,9 @@
+pub mod Passing
+pub mod Holding
+pub mod Grounds
+pub mod Faster
+pub mod Opened
+pub mod Standing
+pub mod Lowered
+pub mod Lowering
+pub mod Raised

@@ -1,0 +1,3 @@
+pub mod Journeys
+pub mod Travelling
+pub mod Answers
