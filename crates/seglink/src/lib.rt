@@ -1,7 +1,8 @@
-// The twelve public operations and the interface's number, under the names that the customer's server links. None has a `requires`: any bytes and numbers may be handed over.
+// The thirteen public operations and the interface's number, under the names that the customer's server links. None has a `requires`: any bytes and numbers may be handed over.
 ghost use mathlib.Core.Path.{_≡_};
 ghost use Rattle.convert.specs.Convert.{packetToSheet, sheetToPacket};
 ghost use Rattle.speed_question.specs.Question.{permittedSpeed};
+ghost use Rattle.restricted.specs.Question.{restrictedSpeed};
 ghost use Rattle.steps.specs.Steps.{checkSteps};
 ghost use Rattle.altitude.specs.Altitude.{altitudeOf};
 ghost use Rattle.intake.specs.Intake.{gathering, delivered, completed, asked};
@@ -52,6 +53,38 @@ pub extern "C" fn seglink_permitted_speed<'a>(
     ensures { λ r. ⌜ r ≡ permittedSpeed medium count (now (first .entry)) (now (second .entry)) (now (third .entry)) (now (fourth .entry)) train x ⌝ }
 {
     speed_question::permitted_speed(medium, count, first, second, third, fourth, train, x)
+}
+
+// Answers the restricted speed of `train` at `x` cm from the start of the last of a run of `count` segments that is travelled on `journey`, of the same
+// medium: the lowest of the permitted speed and of the journey's temporary constraints that hold there. `leg` is the number of the journey's segment in
+// which x lies. Answers 0, 0 and the speed in km/h; or a refusal's number, its place and 0.
+#[no_mangle]
+pub extern "C" fn seglink_restricted_speed<'a>(
+    medium: u32,
+    count: u32,
+    first: &'a [u8],
+    second: &'a [u8],
+    third: &'a [u8],
+    fourth: &'a [u8],
+    journey: &'a [u8],
+    leg: u32,
+    train: Train,
+    x: u32,
+) -> Speed
+    ensures { λ r. ⌜ r ≡ restrictedSpeed medium count (now (first .entry)) (now (second .entry)) (now (third .entry)) (now (fourth .entry)) (now (journey .entry)) leg train x ⌝ }
+{
+    restricted::restricted_speed(
+        medium,
+        count,
+        first,
+        second,
+        third,
+        fourth,
+        journey,
+        leg,
+        train,
+        x,
+    )
 }
 
 // Answers the altitude of a packet's segment: 0, 0 and the altitude in signed centimetres; or a refusal's number, its place and 0.

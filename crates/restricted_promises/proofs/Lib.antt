@@ -1,0 +1,9 @@
+pub mod Journeys
+pub mod Speeds
+pub mod Permitted
+pub mod DemandThree
+pub mod Faster
+pub mod Standing
+pub mod Reached
+pub mod Desk
+pub mod Outcome

@@ -1,0 +1,1 @@
+// The promises on the restricted speed. It has no code of its own.
