@@ -1,5 +1,6 @@
-// demo [NEXT]: reads a packet from standard input and converts it to its sheet and back; of a segment, answers the permitted speed of four trains at
-// two places. If NEXT is a file with the packet of the next segment, answers their speeds there too, by that segment alone and by the run of both.
+// demo [SEGMENT]: reads a packet from standard input and converts it to its sheet and back; of a segment, answers the permitted speed of four trains
+// at two places. If SEGMENT is a file with the packet of the next segment, answers their speeds there too, by that segment alone and by the run of
+// both. Of a journey, SEGMENT is the packet of its first segment: answers the permitted speed there, and the speed that the journey restricts it to.
 #include <stdio.h>
 #include <string.h>
 
@@ -14,7 +15,7 @@ static const struct {
     {"freight P, 25 m, 130 mm,  83 km/h", {.length = 2500, .cant = 130, .maximum = 83, .freight_p = true}},
     {"freight G, 40 m,  80 mm, 100 km/h", {.length = 4000, .cant = 80, .maximum = 100, .freight_g = true}},
 };
-static const uint32_t PLACES[] = {6000, 11800}, NEXT_PLACES[] = {300, 1800, 4500};
+static const uint32_t PLACES[] = {6000, 11800}, NEXT_PLACES[] = {300, 1800, 4500}, RESTRICTED_PLACES[] = {2500, 6500};
 enum { JOURNEY = 4 };
 
 // Prints the count of the bytes, and the bytes in hexadecimal, 24 on a line.
@@ -74,13 +75,30 @@ static void print_next(const uint8_t *packet, size_t packet_len, const uint8_t *
     }
 }
 
-// Reads the file with the next segment's packet and returns the count of its bytes, 0 if it cannot be read.
-static size_t read_next(const char *name, uint8_t next[SEGLINK_LARGEST_PACKET + 1])
+// Prints the permitted speed of each train at each place of the journey's first segment, and the speed that the journey restricts it to.
+static void print_restricted(const uint8_t *segment, size_t segment_len, const uint8_t *journey, size_t journey_len)
+{
+    for (size_t i = 0; i < sizeof RESTRICTED_PLACES / sizeof *RESTRICTED_PLACES; ++i) {
+        uint32_t x = RESTRICTED_PLACES[i];
+        printf("Permitted at %u cm of its first segment, and restricted by the journey:\n", (unsigned)x);
+        for (size_t j = 0; j < sizeof TRAINS / sizeof *TRAINS; ++j) {
+            seglink_train train = TRAINS[j].train;
+            printf("    %s: ", TRAINS[j].name);
+            print_speed(seglink_permitted_speed_one(SEGLINK_KIND_PACKET, segment, segment_len, train, x));
+            printf(", ");
+            print_speed(seglink_restricted_speed_one(SEGLINK_KIND_PACKET, segment, segment_len, journey, journey_len, 0, train, x));
+            printf("\n");
+        }
+    }
+}
+
+// Reads the file with a segment's packet and returns the count of its bytes, 0 if it cannot be read.
+static size_t read_segment(const char *name, uint8_t segment[SEGLINK_LARGEST_PACKET + 1])
 {
     FILE *file = fopen(name, "rb");
     if (file == NULL)
         return 0;
-    size_t length = fread(next, 1, SEGLINK_LARGEST_PACKET + 1, file);
+    size_t length = fread(segment, 1, SEGLINK_LARGEST_PACKET + 1, file);
     fclose(file);
     return length;
 }
@@ -101,8 +119,12 @@ int main(int argc, char **argv)
     if (packet[0] != JOURNEY)
         print_speeds(packet, length);
     if (argc > 1) {
-        uint8_t next[SEGLINK_LARGEST_PACKET + 1];
-        print_next(packet, length, next, read_next(argv[1], next));
+        uint8_t segment[SEGLINK_LARGEST_PACKET + 1];
+        size_t segment_len = read_segment(argv[1], segment);
+        if (packet[0] == JOURNEY)
+            print_restricted(segment, segment_len, packet, length);
+        else
+            print_next(packet, length, segment, segment_len);
     }
     return 0;
 }

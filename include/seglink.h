@@ -1,7 +1,7 @@
 // The operations of the segment link, for C11 and C++: link with libseglink.a, which `rt staticlib seglink` writes for x86-64.
 // This is the interface number 10: it links with an archive of that number and with no other.
 // A packet or a sheet is of a segment (packet number 6) or of a journey (packet number 4). The conversions and the intake take both; the questions
-// on speed and altitude and the shelf take a segment alone. A segment has up to 31 changes of speed, 31 of voltage and 31 of current.
+// on speed and altitude and the shelf take segments alone, but for the restricted speed, which takes a journey beside them. A segment has up to 31 changes of speed, 31 of voltage and 31 of current.
 //
 // Each segment of a journey has up to 31 temporary constraints. Q_TC_Type 0 uses Q_FRONT and V_Speed_Level, 1 uses the adhesion, 2 and 3 use neither.
 // Q_TC_Range 0 uses the start, 1 the end, 2 both, 3 neither. A field that is not used is 0. No type uses the current: it is 1,023 in the packet
@@ -31,6 +31,8 @@ extern "C" {
 //     a sheet               its numbers in order (9 before 2, 4 or 5), then 9 for bytes that are left
 //     a conversion          the refusals of its packet or sheet, then 12 (of a sheet alone), then 8
 //     a speed question      15, then 16, then the refusals of its packets or sheets, one segment after the other, then 10, then 11
+//     a restricted speed    15, then 16, then the refusals of its segments as above, then those of its journey (of a sheet 12 last), then 22, then for
+//                           each segment 23, 24, 25, then 10, then 11, then 26
 //     a check of steps      the refusals of a speed question without 11, then 18, then 19
 //     an altitude question  the refusals of its packet
 //     a completion          8, then the refusals of its packet
@@ -41,7 +43,7 @@ extern "C" {
 //     a lookup              21 of either store, then 17
 //
 // The place says where the fault is: a bit of the packet or a byte of the sheet. Both are counted from 0 at the start, the top bit of a byte first;
-// of a run, at the start of the segment that is refused.
+// of a run, at the start of the segment that is refused; of a journey beside a run, at the journey's start.
 //     4, 5                  the first bit of the field at fault, or the first byte of its number; of a constraint whose start is not below
 //                           its end, the end is at fault
 //     6                     the first bit of the field that does not fit
@@ -54,7 +56,7 @@ extern "C" {
 enum {
     SEGLINK_SUCCESS = 0,
     SEGLINK_SHORT_PACKET = 1,    // a packet has fewer than 15 bytes
-    SEGLINK_PACKET_NUMBER = 2,   // the packet number is neither 4 nor 6, or is 4 where a segment is needed
+    SEGLINK_PACKET_NUMBER = 2,   // the packet number is neither 4 nor 6, is 4 where a segment is needed, or is 6 where a journey is needed
     SEGLINK_PACKET_LENGTH = 3,   // the packet's bytes are not 15 + L_PACKET_ATO / 8, rounded up
     SEGLINK_FIELD_VALUE = 4,     // a field is outside its range or set, or not 0 where it is not used: NID_CTRACTION at voltage 0, the last eight fields at a passing point, fields of a temporary constraint (its current: not 1,023 in a packet)
     SEGLINK_CHANGE_LOCATION = 5, // a change's location does not rise, is 0, or is at or past L_SP; or a temporary constraint's start is not below its end
@@ -72,7 +74,12 @@ enum {
     SEGLINK_NOT_KEPT = 17,       // no sheet with the key is kept in the stores that are asked
     SEGLINK_STEPS = 18,          // there are no steps or more than 128, unequal numbers of starts and speeds, or starts that do not rise from 0 on or reach L_SP
     SEGLINK_WRONG_SPEED = 19,    // the last step at or before a centimetre does not give the permitted speed
-    SEGLINK_NO_SHELF = 21        // a store has more than 65,536 bytes, or its used part is not a run of accepted sheets with different keys
+    SEGLINK_NO_SHELF = 21,       // a store has more than 65,536 bytes, or its used part is not a run of accepted sheets with different keys
+    SEGLINK_NO_LEG = 22,         // the leg is no segment of the journey, or the run would begin before the journey
+    SEGLINK_OTHER_SEGMENT = 23,  // a segment's NID_C, NID_SP or version are not those of the journey's segment at its place
+    SEGLINK_REVERSE_LEG = 24,    // a segment is not travelled in its nominal direction
+    SEGLINK_CONSTRAINT_PLACE = 25, // a constraint of type 0 uses a location outside its segment: a start at or past L_SP, an end of 0 or past L_SP
+    SEGLINK_TAIL_BEFORE = 26     // the train may still stand on a segment before the run: the run does not begin at leg 0, and x counted from the run's start is below the train's length
 };
 
 // Kinds of a speed question: it brings packets of segments, or sheets of segments.
@@ -194,6 +201,28 @@ seglink_speed seglink_permitted_speed(uint32_t kind, uint32_t count, const uint8
 static inline seglink_speed seglink_permitted_speed_one(uint32_t kind, const uint8_t *segment, size_t segment_len, seglink_train train, uint32_t x)
 {
     return seglink_permitted_speed(kind, 1, segment, segment_len, segment, 0, segment, 0, segment, 0, train, x);
+}
+
+// Returns the restricted speed of `train` at `x` cm from the start of the last segment of a run: the lowest of what seglink_permitted_speed answers
+// there and of the speeds of the journey's temporary constraints of type 0 that hold there. A dashboard that has the journey asks this question and
+// shows its answer: the permitted speed alone knows nothing of the yard's restrictions.
+// `kind`, `count`, the segments, `train` and `x` are as there; the journey is of the same kind, a packet's speeds count 5 km/h there too. `leg` is the
+// number of the journey's segment in which x lies, 0 the first: the run's segments are the journey's segments leg - count + 1 to leg.
+// A constraint restricts, within its own segment, from its start to L_SP (Q_TC_Range 0), from 0 to its end (1), from its start to its end (2) or all
+// of it (3). It holds from its start on and before its end, with Q_FRONT 0 before its end plus the train's length, across boundaries too. Constraints
+// of other types, and those of other segments of the journey, restrict nothing. Q_JP_Status plays no part.
+// Any values may be handed over. With 15 and 16 neither a segment nor the journey is read. Any other refusal is one of seglink_permitted_speed, of
+// kind 1 also 12, or 22 to 26, whose place is 0. With 23 to 25 the first segment of the run at fault decides: a typing error in a constraint is told
+// and not dropped. A train that is longer than all that is lent is refused with 26, unless the run begins at leg 0, where its tail is before the journey.
+seglink_speed seglink_restricted_speed(uint32_t kind, uint32_t count, const uint8_t *first, size_t first_len, const uint8_t *second, size_t second_len,
+                                       const uint8_t *third, size_t third_len, const uint8_t *fourth, size_t fourth_len,
+                                       const uint8_t *journey, size_t journey_len, uint32_t leg, seglink_train train, uint32_t x);
+
+// Answers as seglink_restricted_speed for a run of one segment.
+static inline seglink_speed seglink_restricted_speed_one(uint32_t kind, const uint8_t *segment, size_t segment_len, const uint8_t *journey, size_t journey_len,
+                                                         uint32_t leg, seglink_train train, uint32_t x)
+{
+    return seglink_restricted_speed(kind, 1, segment, segment_len, segment, 0, segment, 0, segment, 0, journey, journey_len, leg, train, x);
 }
 
 // Checks the steps that a supplier's tool prints for a train on a segment: `starts` in cm from the start of the last segment of a run, and `speeds`

@@ -1,5 +1,5 @@
 // Calls the static library from C: both conversions of segments and journeys, the intake, the shelf, the questions' refusals, speeds by kind, by cant
-// deficiency, by the train's maximum and on runs of segments, null with length 0, and the interface's number.
+// deficiency, by the train's maximum, on runs of segments and by a journey's restrictions, null with length 0, and the interface's number.
 // Checks the answers against packets, sheets, states, places and speeds that are written here from the build definition. 'time' measures times instead.
 #define _DEFAULT_SOURCE
 #include <signal.h>
@@ -1653,23 +1653,23 @@ static void planned(struct fields *s, struct plan plan)
         s->field[s->count++] = rest.field[i];
 }
 
-// Memory for four segments, in which each ends at the last byte that can be read, and as much that cannot be read at all.
-enum { LENT = 4, PAGES = 65536 };
-static uint8_t *readable[LENT], *unreadable;
+// Memory for four segments and a journey, in which each ends at the last byte that can be read, and as much that cannot be read at all.
+enum { LENT = 4, BESIDE = LENT, PARTS, PAGES = 65536 };
+static uint8_t *readable[PARTS], *unreadable;
 
 static void segment_read(int signal)
 {
-    static const char why[] = "FAILED: a segment was read that is not to be read, or past its end\n";
+    static const char why[] = "FAILED: a segment or a journey was read that is not to be read, or past its end\n";
     (void)signal;
     _exit(write(STDOUT_FILENO, why, sizeof why - 1) > 0 ? 1 : 2);
 }
 
 static void map_memory(void)
 {
-    for (int i = 0; i <= LENT; ++i) {
+    for (int i = 0; i <= PARTS; ++i) {
         uint8_t *pages = mmap(NULL, 2 * PAGES, PROT_NONE, MAP_PRIVATE | MAP_ANONYMOUS, -1, 0);
-        check("memory of runs", "whether there is some", pages != MAP_FAILED && (i == LENT || mprotect(pages, PAGES, PROT_READ | PROT_WRITE) == 0), true);
-        if (i == LENT)
+        check("memory of runs", "whether there is some", pages != MAP_FAILED && (i == PARTS || mprotect(pages, PAGES, PROT_READ | PROT_WRITE) == 0), true);
+        if (i == PARTS)
             unreadable = pages;
         else
             readable[i] = pages;
@@ -1681,7 +1681,7 @@ static void map_memory(void)
 // A segment that is lent: its bytes' first and their count.
 struct lent { const uint8_t *first; size_t length; };
 
-// Copies a segment to the end of readable memory, the nth of a run.
+// Copies a segment to the end of readable memory, the nth of a run; the journey beside a run is the one after the last.
 static struct lent lend_segment(int nth, const struct bytes *segment)
 {
     uint8_t *first = readable[nth] + PAGES - segment->length;
@@ -1854,6 +1854,198 @@ static void past_the_last(struct fields *s)
     }
 }
 
+// ---- Restricted speeds, worked out by hand
+
+// The segments of these runs, by NID_SP: their length in cm; each has 104 km/h with the delay, and the version 0.5.
+enum { LONG_ONE, SHORT_ONE, LAST_ONE, LEAST_ONE };
+static const uint32_t LENGTHS[] = {1000, 50, 1000, 10};
+
+// A segment of a journey, with `count` constraints by their numbers from Q_TC_Type to Q_Low_Adhesion_Rate.
+struct leg { uint32_t nid_sp, minor, direction, count, constraint[2][7]; };
+
+static void legged(struct fields *s, uint32_t count, const struct leg *leg)
+{
+    header(s, 4, 0x12345, 1, 0, 0, 7);
+    same(s, 3, 1);
+    same(s, 8, count);
+    for (uint32_t i = 0; i < count; ++i) {
+        identity(s, 0, leg[i].nid_sp, 0, leg[i].minor);
+        same(s, 1, leg[i].direction);
+        same(s, 5, 0);
+        same(s, 5, leg[i].count);
+        for (uint32_t j = 0; j < leg[i].count; ++j)
+            constraint(s, leg[i].constraint[j]);
+    }
+}
+
+static void segment_of(struct fields *s, uint32_t nid_sp)
+{
+    planned(s, (struct plan){LENGTHS[nid_sp], 104, 0, 0, 0});
+    s->field[NID_SP] = (struct field){32, nid_sp, nid_sp, nid_sp};
+    s->field[VERSION_Y] = (struct field){8, 5, 5, 5};
+}
+
+static seglink_speed journey_speed(uint32_t kind, uint32_t count, const struct lent run[LENT], struct lent journey, uint32_t leg, seglink_train train, uint32_t x)
+{
+    return seglink_restricted_speed(kind, count, run[0].first, run[0].length, run[1].first, run[1].length, run[2].first, run[2].length, run[3].first, run[3].length,
+                                    journey.first, journey.length, leg, train, x);
+}
+
+#define ON(nid_sp) {nid_sp, 5, 1, 0, {{0}}}
+#define ONE_ON(nid_sp, ...) {nid_sp, 5, 1, 1, {{__VA_ARGS__}}}
+#define ALL_43 0, 3, 0, 0, 0, 43, 0
+#define AT_END 0, 0, 1000, 0, 0, 43, 0
+#define BESIDE_IT {9, 0, 0, 1, {{AT_END}}}
+
+// Journeys of `legs` segments, runs of `count` segments by NID_SP, the leg, the train's length and x; and the refusal, or the speed from sheets: packets
+// give the greatest multiple of 5 not above it.
+static const struct { const char *name; uint32_t legs; struct leg leg[4]; uint32_t count, segment[LENT], at, length, x, refusal, speed; } BY_JOURNEY[] = {
+    {"no constraint", 1, {ON(LONG_ONE)}, 1, {LONG_ONE}, 0, 200, 0, 0, 104},
+    {"before its start", 1, {ONE_ON(LONG_ONE, 0, 0, 300, 0, 0, 43, 0)}, 1, {LONG_ONE}, 0, 200, 299, 0, 104},
+    {"from its start on", 1, {ONE_ON(LONG_ONE, 0, 0, 300, 0, 0, 43, 0)}, 1, {LONG_ONE}, 0, 200, 300, 0, 43},
+    {"from its start to L_SP", 1, {ONE_ON(LONG_ONE, 0, 0, 300, 0, 1, 43, 0)}, 1, {LONG_ONE}, 0, 200, 999, 0, 43},
+    {"before its end", 1, {ONE_ON(LONG_ONE, 0, 1, 0, 300, 1, 43, 0)}, 1, {LONG_ONE}, 0, 200, 299, 0, 43},
+    {"at its end, Q_FRONT 1", 1, {ONE_ON(LONG_ONE, 0, 1, 0, 300, 1, 43, 0)}, 1, {LONG_ONE}, 0, 200, 300, 0, 104},
+    {"the tail at its end", 1, {ONE_ON(LONG_ONE, 0, 1, 0, 300, 0, 43, 0)}, 1, {LONG_ONE}, 0, 200, 499, 0, 43},
+    {"left", 1, {ONE_ON(LONG_ONE, 0, 1, 0, 300, 0, 43, 0)}, 1, {LONG_ONE}, 0, 200, 500, 0, 104},
+    {"an end at L_SP", 1, {ONE_ON(LONG_ONE, 0, 1, 0, 1000, 1, 43, 0)}, 1, {LONG_ONE}, 0, 200, 999, 0, 43},
+    {"before its start and end", 1, {ONE_ON(LONG_ONE, 0, 2, 300, 500, 0, 43, 0)}, 1, {LONG_ONE}, 0, 200, 299, 0, 104},
+    {"between its start and end", 1, {ONE_ON(LONG_ONE, 0, 2, 300, 500, 0, 43, 0)}, 1, {LONG_ONE}, 0, 200, 300, 0, 43},
+    {"past its start and end", 1, {ONE_ON(LONG_ONE, 0, 2, 300, 500, 0, 43, 0)}, 1, {LONG_ONE}, 0, 200, 700, 0, 104},
+    {"the whole segment", 1, {ONE_ON(LONG_ONE, 0, 3, 0, 0, 1, 43, 0)}, 1, {LONG_ONE}, 0, 200, 999, 0, 43},
+    {"higher than the profile", 1, {ONE_ON(LONG_ONE, 0, 3, 0, 0, 1, 604, 0)}, 1, {LONG_ONE}, 0, 200, 0, 0, 104},
+    {"a standstill", 1, {ONE_ON(LONG_ONE, 0, 3, 0, 0, 1, 0, 0)}, 1, {LONG_ONE}, 0, 200, 0, 0, 0},
+    {"the lower of two, first", 1, {{LONG_ONE, 5, 1, 2, {{0, 3, 0, 0, 1, 43, 0}, {0, 3, 0, 0, 1, 64, 0}}}}, 1, {LONG_ONE}, 0, 200, 0, 0, 43},
+    {"the lower of two, second", 1, {{LONG_ONE, 5, 1, 2, {{0, 3, 0, 0, 1, 64, 0}, {0, 3, 0, 0, 1, 43, 0}}}}, 1, {LONG_ONE}, 0, 200, 0, 0, 43},
+    {"the delay of each", 1, {{LONG_ONE, 5, 1, 2, {{0, 1, 0, 500, 1, 43, 0}, {0, 1, 0, 500, 0, 64, 0}}}}, 1, {LONG_ONE}, 0, 200, 500, 0, 64},
+    {"low adhesion", 1, {ONE_ON(LONG_ONE, 1, 3, 0, 0, 0, 0, 5)}, 1, {LONG_ONE}, 0, 200, 0, 0, 104},
+    {"a driving mode from L_SP on", 1, {ONE_ON(LONG_ONE, 2, 0, 1000, 0, 0, 0, 0)}, 1, {LONG_ONE}, 0, 200, 0, 0, 104},
+    {"constraints of other legs", 3, {BESIDE_IT, ON(LONG_ONE), ONE_ON(LAST_ONE, ALL_43)}, 1, {LONG_ONE}, 1, 200, 200, 0, 104},
+    {"its own leg's constraint", 3, {BESIDE_IT, ON(LONG_ONE), ONE_ON(LAST_ONE, ALL_43)}, 1, {LAST_ONE}, 2, 200, 200, 0, 43},
+    {"a segment that stands twice, first", 2, {ON(LONG_ONE), ONE_ON(LONG_ONE, ALL_43)}, 1, {LONG_ONE}, 0, 200, 300, 0, 104},
+    {"a segment that stands twice, then", 2, {ON(LONG_ONE), ONE_ON(LONG_ONE, ALL_43)}, 1, {LONG_ONE}, 1, 200, 300, 0, 43},
+    {"over a short segment", 3, {ONE_ON(LONG_ONE, 0, 0, 950, 0, 0, 43, 0), ON(SHORT_ONE), ON(LAST_ONE)}, 3, {LONG_ONE, SHORT_ONE, LAST_ONE}, 2, 200, 149, 0, 43},
+    {"over a short segment, left", 3, {ONE_ON(LONG_ONE, 0, 0, 950, 0, 0, 43, 0), ON(SHORT_ONE), ON(LAST_ONE)}, 3, {LONG_ONE, SHORT_ONE, LAST_ONE}, 2, 200, 150, 0, 104},
+    {"over a short segment, Q_FRONT 1", 3, {ONE_ON(LONG_ONE, 0, 0, 950, 0, 1, 43, 0), ON(SHORT_ONE), ON(LAST_ONE)}, 3, {LONG_ONE, SHORT_ONE, LAST_ONE}, 2, 200, 0, 0, 104},
+    {"locations of its own segment", 3, {ON(LONG_ONE), ONE_ON(SHORT_ONE, 0, 2, 10, 20, 0, 43, 0), ON(LAST_ONE)}, 3, {LONG_ONE, SHORT_ONE, LAST_ONE}, 2, 200, 169, 0, 43},
+    {"a start past the last segment's L_SP", 2, {ONE_ON(LONG_ONE, 0, 0, 500, 0, 1, 43, 0), ON(LEAST_ONE)}, 2, {LONG_ONE, LEAST_ONE}, 1, 200, 0, 0, 104},
+    {"a start past its own segment's L_SP", 2, {ONE_ON(LEAST_ONE, 0, 0, 10, 0, 1, 43, 0), ON(LONG_ONE)}, 2, {LEAST_ONE, LONG_ONE}, 1, 200, 0, 25, 0},
+    {"a long train at leg 0", 2, {ONE_ON(LEAST_ONE, ALL_43), ON(SHORT_ONE)}, 2, {LEAST_ONE, SHORT_ONE}, 1, 150000, 49, 0, 43},
+    {"a tail at the run's start", 3, {BESIDE_IT, ON(SHORT_ONE), ON(LONG_ONE)}, 2, {SHORT_ONE, LONG_ONE}, 2, 200, 150, 0, 104},
+    {"a tail before the run", 3, {BESIDE_IT, ON(SHORT_ONE), ON(LONG_ONE)}, 2, {SHORT_ONE, LONG_ONE}, 2, 200, 149, 26, 0},
+    {"a tail before a run of one", 2, {ON(SHORT_ONE), ON(LONG_ONE)}, 1, {LONG_ONE}, 1, 200, 199, 26, 0},
+    {"longer than all that is lent", 3, {BESIDE_IT, ON(SHORT_ONE), ON(LONG_ONE)}, 2, {SHORT_ONE, LONG_ONE}, 2, 1050, 999, 26, 0},
+    {"11 before 26", 3, {BESIDE_IT, ON(SHORT_ONE), ON(LONG_ONE)}, 2, {SHORT_ONE, LONG_ONE}, 2, 1100, 1000, 11, 0},
+    {"10 before 11 and 26", 3, {BESIDE_IT, ON(SHORT_ONE), ON(LONG_ONE)}, 2, {SHORT_ONE, LONG_ONE}, 2, 150001, 1000, 10, 0},
+    {"25 of the second before 10", 3, {BESIDE_IT, ON(SHORT_ONE), ONE_ON(LONG_ONE, AT_END)}, 2, {SHORT_ONE, LONG_ONE}, 2, 0, 1000, 25, 0},
+    {"24 of the second before its 25", 3, {BESIDE_IT, ON(SHORT_ONE), {LONG_ONE, 5, 0, 1, {{AT_END}}}}, 2, {SHORT_ONE, LONG_ONE}, 2, 0, 1000, 24, 0},
+    {"23 of the second before its 24", 3, {BESIDE_IT, ON(SHORT_ONE), {LONG_ONE, 4, 0, 1, {{AT_END}}}}, 2, {SHORT_ONE, LONG_ONE}, 2, 0, 1000, 23, 0},
+    {"25 of the first before 23", 3, {BESIDE_IT, ONE_ON(SHORT_ONE, AT_END), BESIDE_IT}, 2, {SHORT_ONE, LONG_ONE}, 2, 0, 1000, 25, 0},
+    {"24 of the first before its 25", 3, {BESIDE_IT, {SHORT_ONE, 5, 0, 1, {{AT_END}}}, BESIDE_IT}, 2, {SHORT_ONE, LONG_ONE}, 2, 0, 1000, 24, 0},
+    {"23 of the first before its 24", 3, {BESIDE_IT, {LAST_ONE, 5, 0, 1, {{AT_END}}}, BESIDE_IT}, 2, {SHORT_ONE, LONG_ONE}, 2, 0, 1000, 23, 0},
+    {"22 before 23", 3, {BESIDE_IT, BESIDE_IT, BESIDE_IT}, 2, {SHORT_ONE, LONG_ONE}, 0, 0, 1000, 22, 0},
+    {"a leg past the journey", 2, {ON(LONG_ONE), ON(LONG_ONE)}, 1, {LONG_ONE}, 2, 200, 0, 22, 0},
+    {"a leg with the low bits of a right one", 2, {ON(LONG_ONE), ON(LONG_ONE)}, 1, {LONG_ONE}, 256, 200, 0, 22, 0},
+    {"the largest leg", 2, {ON(LONG_ONE), ON(LONG_ONE)}, 1, {LONG_ONE}, 0xFFFFFFFF, 200, 0, 22, 0},
+    {"the largest leg, a run of two", 2, {ON(LONG_ONE), ON(LONG_ONE)}, 2, {LONG_ONE, LONG_ONE}, 0xFFFFFFFF, 200, 0, 22, 0},
+    {"a journey of no segment", 0, {ON(0)}, 1, {LONG_ONE}, 0, 200, 0, 22, 0},
+    {"an end of 0", 1, {ONE_ON(LONG_ONE, 0, 1, 0, 0, 0, 43, 0)}, 1, {LONG_ONE}, 0, 200, 0, 25, 0},
+    {"an end past L_SP", 1, {ONE_ON(LONG_ONE, 0, 1, 0, 1001, 0, 43, 0)}, 1, {LONG_ONE}, 0, 200, 0, 25, 0},
+    {"a start and an end past L_SP", 1, {ONE_ON(LONG_ONE, 0, 2, 999, 1001, 0, 43, 0)}, 1, {LONG_ONE}, 0, 200, 0, 25, 0},
+    {"the second constraint past L_SP", 1, {{LONG_ONE, 5, 1, 2, {{ALL_43}, {AT_END}}}}, 1, {LONG_ONE}, 0, 200, 0, 25, 0},
+};
+
+// Checks one row: all in memory that ends with it, segments past the count that cannot be read, and the inline function for a run of one.
+static void by_journey(size_t row, uint32_t kind, struct fields *s)
+{
+    static struct bytes segment, journey;
+    const char *name = BY_JOURNEY[row].name;
+    struct lent run[LENT] = {{unreadable, 39}, {unreadable, 39}, {unreadable, SIZE_MAX}, {NULL, 0}};
+    uint32_t count = BY_JOURNEY[row].count, leg = BY_JOURNEY[row].at, x = BY_JOURNEY[row].x, speed = BY_JOURNEY[row].speed;
+    for (uint32_t i = 0; i < count; ++i) {
+        segment_of(s, BY_JOURNEY[row].segment[i]);
+        segment = kind == SEGLINK_KIND_PACKET ? packet_of(s) : sheet_of(s, false);
+        run[i] = lend_segment((int)i, &segment);
+    }
+    legged(s, BY_JOURNEY[row].legs, BY_JOURNEY[row].leg);
+    journey = kind == SEGLINK_KIND_PACKET ? packet_of(s) : sheet_of(s, false);
+    struct lent beside = lend_segment(BESIDE, &journey);
+    seglink_train train = {.length = BY_JOURNEY[row].length, .cant = 150, .maximum = 600};
+    seglink_speed wanted = {BY_JOURNEY[row].refusal, 0, kind == SEGLINK_KIND_PACKET ? speed / 5 * 5 : speed};
+    speed_answered(name, kind, journey_speed(kind, count, run, beside, leg, train, x), wanted);
+    if (count == 1)
+        speed_answered(name, kind, seglink_restricted_speed_one(kind, run[0].first, run[0].length, beside.first, beside.length, leg, train, x), wanted);
+    if (wanted.refusal == 0 && speed > 41) {
+        train.maximum = 41;
+        wanted.speed = lower(41, wanted.speed);
+        speed_answered(name, kind, journey_speed(kind, count, run, beside, leg, train, x), wanted);
+    }
+    // with 15 and 16 nothing is read
+    const struct lent none[LENT] = {{unreadable, 39}, {unreadable, 39}, {unreadable, SIZE_MAX}, {unreadable, 0}}, hidden = {unreadable, 92};
+    speed_answered(name, 2, journey_speed(2, count, none, hidden, leg, train, x), (seglink_speed){15, 0, 0});
+    speed_answered(name, 0x80000001, journey_speed(0x80000001, 0, none, hidden, leg, train, x), (seglink_speed){15, 0, 0});
+    speed_answered(name, kind, journey_speed(kind, 0, none, hidden, leg, train, x), (seglink_speed){16, 0, 0});
+    speed_answered(name, kind, journey_speed(kind, 5, none, hidden, leg, train, x), (seglink_speed){16, 0, 0});
+}
+
+// Journeys that are refused beside the desk's segment, before the leg, the train and x: their first `length` bytes.
+static const struct { const char *name; uint32_t kind; const struct bytes *journey; size_t length; seglink_speed refused; } NO_JOURNEY[] = {
+    {"no bytes for a journey", 0, &journey_packet, 0, {1, 0, 0}},
+    {"a segment for a journey", 0, &desk_packet, 39, {2, 0, 0}},
+    {"a cut segment for a journey", 0, &desk_packet, 38, {2, 0, 0}},
+    {"a journey without its last byte", 0, &restricted_packet, 50, {3, 0, 0}},
+    {"no bytes for a journey", 1, &journey_sheet, 0, {9, 0, 0}},
+    {"a segment for a journey", 1, &desk_sheet, 25, {2, 0, 0}},
+    {"a journey without its last byte", 1, &restricted_sheet, 61, {9, 61, 0}},
+    {"a journey's packet as a sheet", 1, &journey_packet, 42, {9, 2, 0}},
+};
+
+// Checks journeys that are refused: after the segments' refusals, and before 22.
+static void refused_journeys(struct fields *s)
+{
+    static struct bytes journey;
+    for (size_t i = 0; i < sizeof NO_JOURNEY / sizeof *NO_JOURNEY; ++i) {
+        uint32_t kind = NO_JOURNEY[i].kind;
+        const struct bytes *segment = kind == SEGLINK_KIND_PACKET ? &desk_packet : &desk_sheet;
+        journey = *NO_JOURNEY[i].journey;
+        journey.length = NO_JOURNEY[i].length;
+        struct lent beside = lend_segment(BESIDE, &journey);
+        speed_answered(NO_JOURNEY[i].name, kind, seglink_restricted_speed_one(kind, segment->byte, segment->length, beside.first, beside.length, 9, NO_TRAIN, 1), NO_JOURNEY[i].refused);
+        seglink_speed own = kind == SEGLINK_KIND_PACKET ? (seglink_speed){1, 0, 0} : (seglink_speed){9, 8, 0};
+        speed_answered(NO_JOURNEY[i].name, kind, seglink_restricted_speed_one(kind, segment->byte, 8, beside.first, beside.length, 9, NO_TRAIN, 1), own);
+    }
+    full_journey(s, 42, 486, 0);
+    journey = sheet_of(s, false);
+    seglink_speed long_body = seglink_restricted_speed_one(SEGLINK_KIND_SHEET, desk_sheet.byte, desk_sheet.length, journey.byte, journey.length, 9, NO_TRAIN, 1);
+    speed_answered("a journey whose body is too long", SEGLINK_KIND_SHEET, long_body, (seglink_speed){12, 0, 0});
+}
+
+// Checks that NID_C, NID_SP and both numbers of the version are compared.
+static void other_identities(struct fields *s)
+{
+    static struct bytes segment, journey;
+    static const struct leg leg = ON(LONG_ONE);
+    seglink_train train = {.length = 200, .cant = 150, .maximum = 600};
+    segment_of(s, LONG_ONE);
+    segment = packet_of(s);
+    for (size_t field = FIRST_NID_C; field <= FIRST_VERSION_Y; ++field) {
+        legged(s, 1, &leg);
+        s->field[field].value ^= 1u << (s->field[field].width - 1);
+        journey = packet_of(s);
+        seglink_speed got = seglink_restricted_speed_one(SEGLINK_KIND_PACKET, segment.byte, segment.length, journey.byte, journey.length, 0, train, 0);
+        speed_answered("another segment", SEGLINK_KIND_PACKET, got, (seglink_speed){23, 0, 0});
+    }
+}
+
+static void restricted_speeds(struct fields *s)
+{
+    for (size_t i = 0; i < sizeof BY_JOURNEY / sizeof *BY_JOURNEY; ++i)
+        for (uint32_t kind = 0; kind < 2; ++kind)
+            by_journey(i, kind, s);
+    other_identities(s);
+    refused_journeys(s);
+}
+
 static void runs(struct fields *s)
 {
     map_memory();
@@ -1861,6 +2053,7 @@ static void runs(struct fields *s)
     broken_runs();
     ordered();
     past_the_last(s);
+    restricted_speeds(s);
     signal(SIGSEGV, SIG_DFL);
     signal(SIGBUS, SIG_DFL);
 }
@@ -1895,6 +2088,12 @@ static void null_questions(void)
         seglink_speed wanted = {refusals[kind], 0, 0};
         speed_answered("a speed question about null", kind, seglink_permitted_speed_one(kind, NULL, 0, train, 0), wanted);
         speed_asked("a speed question about an empty array", kind, &nothing, train, 0, wanted);
+        speed_answered("a restricted speed about null", kind, seglink_restricted_speed_one(kind, NULL, 0, NULL, 0, 0, train, 0), wanted);
+        if (kind < 2) {
+            const struct bytes *segment = kind == SEGLINK_KIND_PACKET ? &desk_packet : &desk_sheet;
+            seglink_speed of_null = seglink_restricted_speed_one(kind, segment->byte, segment->length, NULL, 0, 0, train, 0);
+            speed_answered("a restricted speed about a journey of null", kind, of_null, wanted);
+        }
         speed_answered("a run of four times null", kind, seglink_permitted_speed(kind, 4, NULL, 0, NULL, 0, NULL, 0, NULL, 0, train, 0), wanted);
     }
     seglink_altitude got = seglink_altitude_of_packet(NULL, 0), wanted = seglink_altitude_of_packet(EMPTY, 0);

@@ -5,7 +5,7 @@ import pages
 from sources import ROOT
 
 FOLDER = ROOT.parent / "shared" / "documents"
-NAMES = ("01-scope.md", "02-change-requests.md")
+NAMES = ("01-scope.md", "02-change-requests.md", "../design/INTERFACE.md")
 # a number with its sign and its commas is one word, as is what hyphens, apostrophes and slashes join; every other sign is a word of its own
 WORD = re.compile(r"-?\w+(?:[-'.,/]\w+)*|\S")
 
@@ -22,7 +22,7 @@ def paragraphs(page):
 
 
 def quotable():
-    """The words of each paragraph of documents 01 and 02, and of each demand on the promises' page."""
+    """The words of each paragraph of documents 01 and 02 and of the interface page, and of each demand on the promises' page."""
     for name in NAMES:
         yield from paragraphs((FOLDER / name).read_text())
     for heading, body in pages.sections(pages.PROMISES.read_text()):

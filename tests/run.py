@@ -62,7 +62,7 @@ def plain():
 
 
 def quotations():
-    """Every quotation in a comment of the definitions stands word for word in document 01, in document 02 or in a demand of the promises' page."""
+    """Every quotation in a comment of the definitions stands word for word in document 01, in document 02, on the interface page or in a demand of the promises' page."""
     if not documents.FOLDER.is_dir():
         raise NotRun("../shared/documents is not there")
     texts = list(documents.quotable())

@@ -8,6 +8,7 @@ mod boards;
 mod deliveries;
 mod machine;
 mod measure;
+mod restricted;
 mod runs;
 mod shelves;
 mod steps;
@@ -58,6 +59,8 @@ the others write a sheet, and writes a packet from that structure. Reading, it r
 value outside its range; it answers no speeds and has no journeys. Freeing the structures is not counted. The run stops where a packet
 does not come back from it unchanged.
 Runs: four segments, with a train that stands on all of them and with one that has left three, beside one segment with the same train.
+Restricted: a speed with a journey, in whose last segment x lies; beside it the permitted speed of the same run and the journey's judgement, which is
+its conversion into no room, refused with 8. The ratio is to both together.
 At once and byte by byte: an intake takes a packet in one delivery, and in one for each byte; beside them plain copies of the same bytes, a
 call each. Completion judges the packet. A delivery is to cost a call and a copy, and not what a completion does.
 Lookup: of a key that is not kept, in a full store whose keys rise; beside it the judge's own passes over the store's sheets, a call each.
@@ -82,6 +85,7 @@ fn main() {
     for (name, count, sizes) in SIZES {
         runs::rows(name, &mut random, count / 2, sizes);
     }
+    restricted::rows(&mut random, SMALL);
     let drafts: Vec<Draft> = (0..TAKEN_SEGMENTS).map(|_| segment(&mut random, LARGEST)).collect();
     steps::rows("largest segments", &drafts, &TRAIN);
     for (name, count, sizes) in SIZES {

@@ -64,6 +64,23 @@ extern "C" {
         train: Card,
         x: u32,
     ) -> Speed;
+    fn seglink_restricted_speed(
+        kind: u32,
+        count: u32,
+        first: *const u8,
+        first_len: usize,
+        second: *const u8,
+        second_len: usize,
+        third: *const u8,
+        third_len: usize,
+        fourth: *const u8,
+        fourth_len: usize,
+        journey: *const u8,
+        journey_len: usize,
+        leg: u32,
+        train: Card,
+        x: u32,
+    ) -> Speed;
     fn seglink_check_steps(
         kind: u32,
         count: u32,
@@ -103,6 +120,16 @@ impl Program for Archive {
     fn permitted_speed(kind: u32, Run { count, lent }: Run, train: &Train, x: u32) -> Answer {
         let [(a, a_len), (b, b_len), (c, c_len), (d, d_len)] = lent.map(|segment| (segment.as_ptr(), segment.len()));
         let asked = unsafe { seglink_permitted_speed(kind, count, a, a_len, b, b_len, c, c_len, d, d_len, card(train), x) };
+        let Speed { refusal, place, speed } = asked;
+        Answer { refusal, place, value: speed.into() }
+    }
+
+    fn restricted_speed(kind: u32, Run { count, lent }: Run, journey: &[u8], leg: u32, train: &Train, x: u32) -> Answer {
+        let [(a, a_len), (b, b_len), (c, c_len), (d, d_len)] = lent.map(|segment| (segment.as_ptr(), segment.len()));
+        let (j, j_len, train) = (journey.as_ptr(), journey.len(), card(train));
+        let asked = unsafe {
+            seglink_restricted_speed(kind, count, a, a_len, b, b_len, c, c_len, d, d_len, j, j_len, leg, train, x)
+        };
         let Speed { refusal, place, speed } = asked;
         Answer { refusal, place, value: speed.into() }
     }

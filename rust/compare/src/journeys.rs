@@ -5,7 +5,7 @@ use crate::random::Random;
 use crate::segments::{header, identity, plain};
 
 /// Most timing points, and most temporary constraints, of a segment.
-const MOST: u32 = 31;
+pub const MOST: u32 = 31;
 /// Most bits of a body.
 const MOST_BITS: u32 = 65_535;
 /// Bits of a body without segments, of a segment without timing points and constraints, of a timing point, and of a constraint.
@@ -90,7 +90,7 @@ pub fn journey(random: &mut Random, counts: &[(u32, u32)]) -> Draft {
 }
 
 /// Draws a constraint of any type and range, at locations near the segment's start or anywhere; the number of an unused field is 0.
-fn constraint(random: &mut Random) -> Constraint {
+pub fn constraint(random: &mut Random) -> Constraint {
     let (tc_type, range) = (random.between(0, 3), random.between(0, 3));
     let last = random.pick(&[1, 2, 3_000, 16_777_215, 16_777_215]);
     let location = random.with_ends(0, last);
@@ -108,7 +108,7 @@ fn constraint(random: &mut Random) -> Constraint {
     [tc_type, range, start, end, front, speed, adhesion, 0]
 }
 
-fn timing_point(random: &mut Random, draft: &mut Draft) {
+pub fn timing_point(random: &mut Random, draft: &mut Draft) {
     plain(random, draft, 32);
     plain(random, draft, 15);
     draft.same(Kind::ArrivalSeconds, 17, random.with_ends(0, 86_400));

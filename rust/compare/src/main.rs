@@ -5,9 +5,12 @@ use compare::case::Case;
 use compare::check::{check, compare};
 use compare::desk;
 use compare::desk_intakes;
+use compare::desk_restricted;
 use compare::desk_runs;
 use compare::desk_shelves;
 use compare::random::Random;
+use compare::restricted;
+use compare::restricted_event::RestrictedTally;
 use compare::shelf_event::ShelfTally;
 use compare::shelves;
 use compare::steps;
@@ -18,6 +21,8 @@ use std::time::Instant;
 
 const CASES: u64 = 40_000;
 const FIRST_SEED: u64 = 1;
+/// One case in so many asks for restricted speeds too, some thirty questions: the gate's time is short.
+const RESTRICTED: u64 = 3;
 /// How many failures are shown whole; later ones are only counted.
 const SHOWN: u64 = 5;
 
@@ -26,6 +31,7 @@ struct Run {
     tally: Tally,
     shelves: ShelfTally,
     steps: StepsTally,
+    restricted: RestrictedTally,
     passed: u64,
     failed: u64,
 }
@@ -50,6 +56,7 @@ impl Run {
         self.desk_of_intakes();
         self.desk_of_shelves();
         self.desk_of_steps();
+        self.desk_of_restricted();
         let (first, cases) = (setting("SEGLINK_SEED", FIRST_SEED), setting("SEGLINK_CASES", CASES));
         for seed in first..first + cases {
             self.case(seed);
@@ -58,10 +65,10 @@ impl Run {
         println!("{}", self.tally);
         println!("{}", self.shelves);
         println!("{}", self.steps);
+        println!("{}", self.restricted);
         println!("{cases} random cases from seed {first} in {seconds:.0} s, {:.0} a second", cases as f64 / seconds);
-        for missing in self.tally.missing().into_iter().chain(self.shelves.missing()).chain(self.steps.missing()) {
-            self.count(Err(missing));
-        }
+        let missing = [self.tally.missing(), self.shelves.missing(), self.steps.missing(), self.restricted.missing()];
+        missing.into_iter().flatten().for_each(|missing| self.count(Err(missing)));
     }
 
     fn desk(&mut self) {
@@ -108,13 +115,26 @@ impl Run {
         self.count(outcome.map(|_| ()).map_err(|why| format!("desk case, {why}")));
     }
 
+    fn desk_of_restricted(&mut self) {
+        let cases = desk_restricted::cases();
+        println!("{} desk cases of restricted speeds", cases.len());
+        for case in cases {
+            let outcome = case.check(&mut self.restricted);
+            self.count(outcome.map_err(|why| format!("desk case, {}: {why}", case.name)));
+        }
+    }
+
     fn case(&mut self, seed: u64) {
         let mut random = Random::new(seed);
         let case = Case::random(&mut random);
         let outcome = catch_unwind(AssertUnwindSafe(|| {
             check(&mut random, &case, &mut self.tally)?;
             shelves::check(&mut random, &case, &mut self.shelves)?;
-            steps::check(&mut random, &mut self.steps)
+            steps::check(&mut random, &mut self.steps)?;
+            if seed % RESTRICTED > 0 {
+                return Ok(());
+            }
+            restricted::check(&mut random, &mut self.restricted)
         }));
         let outcome = outcome.unwrap_or_else(|_| Err("the second program or the comparison itself panicked".to_string()));
         self.count(outcome.map_err(|why| format!("seed {seed}, {}", told(&case, &why))));

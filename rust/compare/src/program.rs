@@ -139,6 +139,7 @@ pub trait Program {
     fn packet_to_sheet(packet: &[u8], room: &mut [u8]) -> Answer;
     fn sheet_to_packet(sheet: &[u8], room: &mut [u8]) -> Answer;
     fn permitted_speed(kind: u32, run: Run, train: &Train, x: u32) -> Answer;
+    fn restricted_speed(kind: u32, run: Run, journey: &[u8], leg: u32, train: &Train, x: u32) -> Answer;
     fn check_steps(kind: u32, run: Run, train: &Train, starts: &[u32], speeds: &[u32]) -> Answer;
     fn altitude_of_packet(packet: &[u8]) -> Answer;
     fn fresh() -> Intake;

@@ -62,7 +62,7 @@ impl fmt::Display for Drawn {
 }
 
 /// Draws a count of segments, one time in eight one that no run has; the low bits of some of these are those of a run's count.
-fn any_count(random: &mut Random) -> u32 {
+pub fn any_count(random: &mut Random) -> u32 {
     if random.one_in(8) {
         random.pick(&[0, 0, 5, 5, 6, 7, 8, 255, 256, 257, 260, 65_537, 0x8000_0001, 0x8000_0004, u32::MAX])
     } else {
@@ -112,7 +112,7 @@ pub fn any_end(random: &mut Random, run: &[Draft], train: &Train) -> u32 {
 }
 
 /// Breaks a segment in both media: fields, bytes, a journey in its place, noise or nothing at all.
-fn broken(random: &mut Random, draft: &Draft) -> (Vec<u8>, Vec<u8>) {
+pub fn broken(random: &mut Random, draft: &Draft) -> (Vec<u8>, Vec<u8>) {
     let mut draft = draft.clone();
     match random.between(0, 5) {
         0 | 1 => spoil_fields(random, &mut draft),

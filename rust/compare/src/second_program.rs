@@ -18,6 +18,10 @@ impl Program for Second {
         answer(second::permitted_speed(kind, count, lent, train, x))
     }
 
+    fn restricted_speed(kind: u32, Run { count, lent }: Run, journey: &[u8], leg: u32, train: &Train, x: u32) -> Answer {
+        answer(second::restricted_speed(kind, count, lent, journey, leg, train, x))
+    }
+
     fn check_steps(kind: u32, Run { count, lent }: Run, train: &Train, starts: &[u32], speeds: &[u32]) -> Answer {
         answer(second::check_steps(kind, count, lent, train, starts, speeds).map(|()| 0u32))
     }

@@ -24,6 +24,8 @@ mod desk_maxima;
 #[cfg(test)]
 mod desk_places;
 #[cfg(test)]
+mod desk_restricted;
+#[cfg(test)]
 mod desk_runs;
 #[cfg(test)]
 mod desk_shelves;
@@ -38,6 +40,7 @@ mod numbers;
 mod packet_reading;
 mod packet_writing;
 mod refusal;
+mod restricted;
 mod segment;
 mod sheet_reading;
 mod sheet_writing;
@@ -51,6 +54,7 @@ pub use refusal::{Refusal, Refused};
 pub use shelf::{add, key_of, lookup, remove, Key, Part};
 pub use speed::Train;
 
+use journey::Journey;
 use segment::Segment;
 
 /// Writes the sheet of a packet at the start of the room and returns its length.
@@ -76,6 +80,21 @@ pub const LENT: usize = 4;
 /// travel, all of one kind. A packet's speeds count 5 km/h, a sheet's 1 km/h; no speed is above the train's maximum.
 pub fn permitted_speed(kind: u32, count: u32, lent: [&[u8]; LENT], train: &Train, x: u32) -> Result<u32, Refused> {
     speed::permitted(&run_of(kind, count, lent)?, train, x)
+}
+
+/// Returns the restricted speed in km/h at location `x`, in cm, of the last segment of a run: the lowest of the permitted speed and of the speeds of
+/// the journey's temporary constraints that hold there. The journey is of the segments' kind; x lies in its segment number `leg`, 0 the first.
+pub fn restricted_speed(
+    kind: u32,
+    count: u32,
+    lent: [&[u8]; LENT],
+    journey: &[u8],
+    leg: u32,
+    train: &Train,
+    x: u32,
+) -> Result<u32, Refused> {
+    let run = run_of(kind, count, lent)?;
+    restricted::restricted(&run, &journey_of(kind, journey)?, leg, train, x)
 }
 
 /// Checks the steps that start at `starts`, in cm, with these speeds, in km/h, against the permitted speed at every centimetre of the last segment of
@@ -107,6 +126,16 @@ fn run_of(kind: u32, count: u32, lent: [&[u8]; LENT]) -> Result<Vec<Segment>, Re
         return Err(Refusal::Run.nowhere());
     }
     lent[..count as usize].iter().map(|segment| read(segment)).collect()
+}
+
+/// Reads a journey of a kind that is known. A sheet is refused too if its packet would be too long.
+fn journey_of(kind: u32, journey: &[u8]) -> Result<Journey, Refused> {
+    if kind == KIND_PACKET {
+        return packet_reading::journey_of(journey);
+    }
+    let journey = sheet_reading::journey_of(journey)?;
+    packet_writing::fits_a_packet(&journey)?;
+    Ok(journey)
 }
 
 /// Returns the permitted speed on a run of one segment.

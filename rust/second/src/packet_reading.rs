@@ -27,6 +27,14 @@ pub fn segment_of(packet: &[u8]) -> Result<Segment, Refused> {
     }
 }
 
+/// Returns the journey in a packet; refuses any other packet number than a journey's.
+pub fn journey_of(packet: &[u8]) -> Result<Journey, Refused> {
+    match number_of(packet)? {
+        JOURNEY_NUMBER => read(packet, Fields::journey),
+        _ => Err(Refusal::Number.nowhere()),
+    }
+}
+
 /// Returns the packet number; refuses a packet that is too short for a header.
 fn number_of(packet: &[u8]) -> Result<u32, Refused> {
     if packet.len() < HEADER_BYTES {

@@ -12,10 +12,19 @@ pub fn packet_of(carried: &Carried) -> Result<Vec<u8>, Refused> {
         Carried::Segment(segment) => (SEGMENT_NUMBER, &segment.header, segment_body(segment)),
         Carried::Journey(journey) => (JOURNEY_NUMBER, &journey.header, journey_body(journey)),
     };
-    let length = u16::try_from(body.len()).map_err(|_| Refusal::Body.nowhere())?;
-    let mut packet = header(number, length, head);
+    let mut packet = header(number, counted(&body)?, head);
     packet.append(&mut body);
     Ok(bytes_of(&packet))
+}
+
+/// Refuses a journey if a packet's header could not count the bits of its body.
+pub fn fits_a_packet(journey: &Journey) -> Result<(), Refused> {
+    counted(&journey_body(journey)).map(|_| ())
+}
+
+/// Returns the count of a body's bits, which the header has in 16 bits.
+fn counted(body: &[bool]) -> Result<u16, Refused> {
+    u16::try_from(body.len()).map_err(|_| Refusal::Body.nowhere())
 }
 
 fn segment_body(segment: &Segment) -> Vec<bool> {

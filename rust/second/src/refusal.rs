@@ -46,6 +46,16 @@ pub enum Refusal {
     Cards = 20,
     /// A store has more than 65,536 bytes, or its used part is not a run of accepted sheets with different keys.
     NoShelf = 21,
+    /// The leg is no segment of the journey, or the run would begin before the journey.
+    NoLeg = 22,
+    /// A segment's NID_C, NID_SP or version are not those of the journey's segment at its place.
+    OtherSegment = 23,
+    /// The journey's segment is not travelled in its nominal direction.
+    ReverseLeg = 24,
+    /// A speed constraint of the journey's segment starts or ends outside the segment.
+    ConstraintPlace = 25,
+    /// The train may still stand on a segment before the run.
+    TailBefore = 26,
 }
 
 /// A refusal, and the bit of the packet or the byte of the sheet at which it is given, both counted from 0.

@@ -38,6 +38,7 @@ pub struct Header {
     pub counter: u32,
 }
 
+#[derive(PartialEq, Eq)]
 pub struct Identity {
     pub country: u32,
     pub number: u32,

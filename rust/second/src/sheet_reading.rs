@@ -25,6 +25,15 @@ pub fn segment_of(sheet: &[u8]) -> Result<Segment, Refused> {
     }
 }
 
+/// Returns the journey in a sheet; refuses any other packet number than a journey's.
+pub fn journey_of(sheet: &[u8]) -> Result<Journey, Refused> {
+    let mut numbers = Numbers::new(sheet);
+    match any(&mut numbers)? {
+        JOURNEY_NUMBER => to_the_end(numbers, journey),
+        _ => Err(Refusal::Number.nowhere()),
+    }
+}
+
 /// Reads by `read`, and refuses bytes that are left after it.
 fn to_the_end<T>(mut numbers: Numbers, read: fn(&mut Numbers) -> Result<T, Refused>) -> Result<T, Refused> {
     let content = read(&mut numbers)?;

@@ -75,6 +75,23 @@ extern "C" {
         train: Train,
         x: u32,
     ) -> Speed;
+    fn seglink_restricted_speed(
+        kind: u32,
+        count: u32,
+        first: *const u8,
+        first_len: usize,
+        second: *const u8,
+        second_len: usize,
+        third: *const u8,
+        third_len: usize,
+        fourth: *const u8,
+        fourth_len: usize,
+        journey: *const u8,
+        journey_len: usize,
+        leg: u32,
+        train: Train,
+        x: u32,
+    ) -> Speed;
     fn seglink_check_steps(
         kind: u32,
         count: u32,
@@ -136,6 +153,31 @@ pub(crate) fn permitted_speed(kind: u32, segments: &[&[u8]], train: Train, x: u3
     // SAFETY: each pointer comes with its own slice's length, is not null and is only read; Train has the C layout.
     unsafe {
         seglink_permitted_speed(kind, count, first, first_len, second, second_len, third, third_len, fourth, fourth_len, train, x)
+    }
+}
+
+/// Lends the segments as [`permitted_speed`] does, and the journey.
+pub(crate) fn restricted_speed(kind: u32, segments: &[&[u8]], journey: &[u8], leg: u32, train: Train, x: u32) -> Speed {
+    let (count, [(first, first_len), (second, second_len), (third, third_len), (fourth, fourth_len)]) = lend(segments);
+    // SAFETY: each pointer comes with its own slice's length, is not null and is only read; Train has the C layout.
+    unsafe {
+        seglink_restricted_speed(
+            kind,
+            count,
+            first,
+            first_len,
+            second,
+            second_len,
+            third,
+            third_len,
+            fourth,
+            fourth_len,
+            journey.as_ptr(),
+            journey.len(),
+            leg,
+            train,
+            x,
+        )
     }
 }
 

@@ -1,8 +1,8 @@
 //! The segment link in safe Rust, over the proved static library: packets to sheets and back, packets that arrive in deliveries, permitted
-//! speeds, the altitude, a [`Shelf`] of segments, and a check of a supplier's [`Steps`].
+//! and [restricted](restricted_speed) speeds, the altitude, a [`Shelf`] of segments, and a check of a supplier's [`Steps`].
 //!
 //! A packet or a sheet is of a segment (packet number 6) or of a journey (packet number 4). The conversions and an [`Intake`] take both,
-//! the questions take a segment alone.
+//! the questions take segments alone, but for [`restricted_speed`], which takes a journey beside them.
 //! A segment has up to 31 changes of speed, 31 of voltage and 31 of current.
 //! A segment of a journey has up to 31 temporary constraints. A field that a constraint's type and range do not use is 0; its current, which
 //! no type uses, is 1,023 in the packet. All speeds are lowered to multiples of 5 km/h on their way to the packet.
@@ -13,6 +13,9 @@
 //! An element with Q_FRONT 0 holds for the train's length past its end. So a question takes a run of up to four segments, in order of travel, the
 //! last of them with the train's front: their elements are laid end to end, and those on which the tail still stands count.
 //! No permitted speed is above the train's own maximum.
+//!
+//! The permitted speed knows nothing of a journey. Where a journey is at hand, ask for the [`restricted_speed`]: it has the journey's temporary
+//! constraints of a speed in it.
 //!
 //! Any bytes may be handed over. An operation answers, or gives the one [`Refusal`] that the build definition names, with its place,
 //! and then a lent room keeps every byte it had.
@@ -58,6 +61,7 @@ mod refusal;
 mod refused;
 #[cfg(test)]
 mod refused_first;
+mod restricted;
 mod shelf;
 mod steps;
 mod train;
@@ -67,6 +71,7 @@ pub use interface::INTERFACE;
 pub use kind::Kind;
 pub use refusal::Refusal;
 pub use refused::{Refused, Unit};
+pub use restricted::restricted_speed;
 pub use shelf::{Key, Shelf};
 pub use steps::{check_steps, steps_of, Steps};
 pub use train::Train;

@@ -6,7 +6,7 @@
 pub enum Refusal {
     /// 1: a packet has fewer than 15 bytes.
     ShortPacket = 1,
-    /// 2: the packet number is neither 4 nor 6, or is 4 where a segment is needed.
+    /// 2: the packet number is neither 4 nor 6, is 4 where a segment is needed, or is 6 where a journey is needed.
     PacketNumber = 2,
     /// 3: the packet's bytes are not 15 + L_PACKET_ATO / 8, rounded up.
     PacketLength = 3,
@@ -48,12 +48,26 @@ pub enum Refusal {
     /// 21: a store has more than 65,536 bytes, or its used part is not a run of accepted sheets with different keys. Only the first can be
     /// said of a [`Shelf`](crate::Shelf).
     NoShelf = 21,
+    /// 22: the leg is no segment of the journey, or the run would begin before the journey.
+    NoLeg = 22,
+    /// 23: a segment's NID_C, NID_SP or version are not those of the journey's segment at its place.
+    OtherSegment = 23,
+    /// 24: a segment is not travelled in its nominal direction.
+    ReverseLeg = 24,
+    /// 25: a constraint of type 0 uses a location outside its segment: a start at or past L_SP, an end of 0 or past L_SP.
+    ConstraintPlace = 25,
+    /// 26: the train may still stand on a segment before the run: the run does not begin at leg 0, and x counted from the run's start is
+    /// below the train's length.
+    TailBefore = 26,
 }
 
 /// Each refusal with its ground, in the words of the C header.
-const GROUNDS: [(Refusal, &str); 20] = [
+const GROUNDS: [(Refusal, &str); 25] = [
     (Refusal::ShortPacket, "a packet has fewer than 15 bytes"),
-    (Refusal::PacketNumber, "the packet number is neither 4 nor 6, or is 4 where a segment is needed"),
+    (
+        Refusal::PacketNumber,
+        "the packet number is neither 4 nor 6, is 4 where a segment is needed, or is 6 where a journey is needed",
+    ),
     (Refusal::PacketLength, "the packet's bytes are not 15 + L_PACKET_ATO / 8, rounded up"),
     (
         Refusal::FieldValue,
@@ -95,6 +109,21 @@ const GROUNDS: [(Refusal, &str); 20] = [
     (
         Refusal::NoShelf,
         "a store has more than 65,536 bytes, or its used part is not a run of accepted sheets with different keys",
+    ),
+    (Refusal::NoLeg, "the leg is no segment of the journey, or the run would begin before the journey"),
+    (
+        Refusal::OtherSegment,
+        "a segment's NID_C, NID_SP or version are not those of the journey's segment at its place",
+    ),
+    (Refusal::ReverseLeg, "a segment is not travelled in its nominal direction"),
+    (
+        Refusal::ConstraintPlace,
+        "a constraint of type 0 uses a location outside its segment: a start at or past L_SP, an end of 0 or past L_SP",
+    ),
+    (
+        Refusal::TailBefore,
+        "the train may still stand on a segment before the run: the run does not begin at leg 0, and x counted from the run's \
+         start is below the train's length",
     ),
 ];
 

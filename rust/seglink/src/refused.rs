@@ -11,7 +11,7 @@ pub struct Refused {
     pub refusal: Refusal,
     /// Where the fault is, counted from 0 at the start of the packet or sheet: the first bit of the field or the first byte of the number at
     /// fault; the first bit or byte that is left; the first padding bit that is 1. 0 for a refusal that [has no place](Refusal::has_place).
-    /// Of a run, the place is within the segment that is refused. Of a wrong step, it is the first wrong centimetre of the run's last segment.
+    /// Of a run, the place is within the segment that is refused, or within the journey beside it. Of a wrong step, it is the first wrong centimetre of the run's last segment.
     pub place: u32,
     /// Unit of the place.
     pub unit: Unit,

@@ -1,6 +1,6 @@
-//! Tests of what is refused before a segment is read: kinds that no [`Kind`](crate::Kind) has, handed over at the boundary, and runs of no
-//! segment or of more than four.
-use crate::boundary::{permitted_speed, Speed};
+//! Tests of what is refused before a segment or a journey is read: kinds that no [`Kind`](crate::Kind) has, handed over at the boundary, and runs
+//! of no segment or of more than four.
+use crate::boundary::{permitted_speed, restricted_speed, Speed};
 use crate::{answer, packet_of, Refusal, Train, Unit};
 
 /// The build definition's sample sheet.
@@ -8,14 +8,17 @@ const SHEET: [u8; 25] = [6, 0xC5, 0xC6, 4, 1, 0, 0, 7, 0, 0, 0, 0, 1, 0, 0, 0, 8
 const TRAIN: Train = Train { length: 200, cant: 150, maximum: 600, freight_p: false, freight_g: false, passenger: true };
 const NO_TRAIN: Train = Train { length: 0, cant: 0, ..TRAIN };
 
-/// Checks that a question is refused with a number at 0, whatever the segment, the train and x are.
+/// Checks that both questions are refused with a number at 0, whatever the segment, the journey, the leg, the train and x are.
 fn always_refused(kind: u32, count: usize, refusal: u32) {
     let packet = packet_of(&SHEET).unwrap();
     for segment in [&packet[..], &SHEET, &packet[..38], &[4], &[]] {
         for (train, x) in [(TRAIN, 0), (TRAIN, 1), (NO_TRAIN, 0), (NO_TRAIN, u32::MAX)] {
-            let answer = permitted_speed(kind, &vec![segment; count], train, x);
-            let told = (answer.refusal, answer.place, answer.speed);
-            assert_eq!(told, (refusal, 0, 0), "kind {kind}, {count} of {segment:02X?}, {train:?}, {x}");
+            let permitted = permitted_speed(kind, &vec![segment; count], train, x);
+            let restricted = restricted_speed(kind, &vec![segment; count], segment, x, train, x);
+            for answer in [permitted, restricted] {
+                let told = (answer.refusal, answer.place, answer.speed);
+                assert_eq!(told, (refusal, 0, 0), "kind {kind}, {count} of {segment:02X?}, {train:?}, {x}");
+            }
         }
     }
 }

@@ -5,6 +5,7 @@ mod header;
 mod intakes;
 mod journeys;
 mod refusals;
+mod restricted;
 mod runs;
 mod segments;
 mod shelves;
