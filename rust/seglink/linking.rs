@@ -1,29 +1,43 @@
 // What the build scripts of the safe crates share: finding a static library, which must be for x86-64 and of the crate's interface.
+// Where there is none, a warning says so: the crate is then checked and documented, and nothing that uses it links.
 use std::env;
 use std::fs;
 use std::path::{Path, PathBuf};
 
-/// Links lib`name`.a: from the folder that `NAME_LIB_DIR` names, else from the repository's target/staticlib. Its interface must have this number.
+/// Links lib`name`.a: from the folder that `NAME_LIB_DIR` names, else from the package's lib or the repository's target/staticlib. Its interface must
+/// have this number.
 pub fn link(name: &str, number: u32) {
     let variable = format!("{}_LIB_DIR", name.to_uppercase());
     println!("cargo:rerun-if-env-changed={variable}");
-    let architecture = env::var("CARGO_CFG_TARGET_ARCH").unwrap_or_default();
-    assert!(
-        architecture == "x86_64",
-        "lib{name}.a is for x86-64, and not for {architecture}: build for x86_64-unknown-linux-gnu"
-    );
+    println!("cargo:rerun-if-env-changed=DOCS_RS");
+    if env::var_os("DOCS_RS").is_some() {
+        return;
+    }
     let folder = library_folder(&variable);
     let library = folder.join(format!("lib{name}.a"));
-    let otherwise = format!("run `rt staticlib {name}`, or set {variable} to the folder of one that is");
-    assert!(library.is_file(), "{} is not there: {otherwise}", library.display());
-    assert!(
-        has_symbol(&library, &format!("{name}_interface_{number}")),
-        "{} is not of the interface {number}: {otherwise}",
-        library.display()
-    );
     println!("cargo:rerun-if-changed={}", library.display());
-    println!("cargo:rustc-link-search=native={}", folder.display());
+    let otherwise = format!("run `rt staticlib {name}`, or set {variable} to another folder");
+    match missing(&library, &otherwise) {
+        Some(said) => println!("cargo:warning=nothing will link: {} {said}", library.display()),
+        None => {
+            assert!(
+                has_symbol(&library, &format!("{name}_interface_{number}")),
+                "{} is not of the interface {number}: {otherwise}",
+                library.display()
+            );
+            println!("cargo:rustc-link-search=native={}", folder.display());
+        }
+    }
     println!("cargo:rustc-link-lib=static={name}");
+}
+
+/// Returns why the library does not serve this target, or nothing where it does.
+fn missing(library: &Path, otherwise: &str) -> Option<String> {
+    let architecture = env::var("CARGO_CFG_TARGET_ARCH").unwrap_or_default();
+    if architecture != "x86_64" {
+        return Some(format!("is for x86-64, and not for {architecture}: build for x86_64-unknown-linux-gnu"));
+    }
+    (!library.is_file()).then(|| format!("is not there: {otherwise}"))
 }
 
 /// Returns whether a library has a symbol: its names end with a byte 0.
@@ -34,8 +48,10 @@ fn has_symbol(library: &Path, symbol: &str) -> bool {
 }
 
 fn library_folder(variable: &str) -> PathBuf {
+    let root = Path::new(env!("CARGO_MANIFEST_DIR")).join("../..");
     match env::var_os(variable) {
         Some(folder) => PathBuf::from(folder),
-        None => PathBuf::from(env!("CARGO_MANIFEST_DIR")).join("../../target/staticlib"),
+        None if root.join("lib").is_dir() => root.join("lib"),
+        None => root.join("target/staticlib"),
     }
 }

@@ -8,9 +8,9 @@
 //! // The build definition's sample: a segment of 1 cm, 80 km/h.
 //! let sheet = [6, 0xC5, 0xC6, 4, 1, 0, 0, 7, 0, 0, 0, 0, 1, 0, 0, 0, 80, 0, 0, 0, 0, 0, 0, 0, 0];
 //! let packet = seglink::packet_of(&sheet).unwrap();
-//! let train = Train { length: 200, cant: 150, maximum: 600, freight_p: false, freight_g: false, passenger: true };
-//! let slower = Train { maximum: 63, ..train };
-//! let mut cards = [Card { train, location: 0 }, Card { train: slower, location: 0 }, Card { train: slower, location: 0 }];
+//! let train = Train::new(200, 150, 600).passenger();
+//! let slower = Train::new(200, 150, 63).passenger();
+//! let mut cards = [Card::new(train, 0), Card::new(slower, 0), Card::new(slower, 0)];
 //! assert_eq!(lowest(&cards, &packet), Ok((1, 63)));
 //!
 //! // A change takes any location; the board judges it.
@@ -19,14 +19,21 @@
 //! assert_eq!(move_card(&mut cards, 3, 0), Err(Refused::CardList));
 //! assert_eq!(lowest(&[], &packet), Err(Refused::CardList));
 //! ```
+//!
+//! Without the feature `std`, which is there by default, the crate needs `core` and `alloc` alone.
+//! The crate is checked and documented where the static library is missing, or is for another processor; a program that uses it then does not link.
+#![no_std]
 #![deny(unsafe_code, missing_docs)]
+
+#[cfg(feature = "std")]
+extern crate std;
 
 mod boundary;
 mod interface;
 
+use core::fmt;
 pub use interface::INTERFACE;
 use seglink::{Refusal, Train};
-use std::fmt;
 
 /// Most cards in a list.
 pub const MOST_CARDS: usize = 64;
@@ -35,7 +42,8 @@ pub const MOST_CARDS: usize = 64;
 const CARD_LIST: u32 = 20;
 
 /// A train card: a train, and the location of its front in cm from the start of the packet's segment.
-#[derive(Clone, Copy, Debug, PartialEq, Eq)]
+#[derive(Clone, Copy, Debug, PartialEq, Eq, Hash)]
+#[must_use]
 #[repr(C)]
 pub struct Card {
     /// The train.
@@ -44,8 +52,15 @@ pub struct Card {
     pub location: u32,
 }
 
-/// Why the board refused.
-#[derive(Clone, Copy, Debug, PartialEq, Eq)]
+impl Card {
+    /// Makes the card of a train whose front is at `location_cm`.
+    pub const fn new(train: Train, location_cm: u32) -> Card {
+        Card { train, location: location_cm }
+    }
+}
+
+/// Why the board refused. Prints as [`seglink::Refused`] does.
+#[derive(Clone, Copy, Debug, PartialEq, Eq, Hash)]
 pub enum Refused {
     /// 20: the list has no card or more than [`MOST_CARDS`], or it has no card of the number.
     CardList,
@@ -58,19 +73,58 @@ pub enum Refused {
     },
 }
 
-impl fmt::Display for Refused {
-    fn fmt(&self, f: &mut fmt::Formatter) -> fmt::Result {
+impl Refused {
+    /// Returns the refusal's number.
+    #[must_use]
+    pub const fn number(self) -> u32 {
         match self {
-            Refused::CardList => write!(f, "20: the list has no card or more than 64, or it has no card of the number"),
-            Refused::Question { refusal, place } if refusal.has_place() => write!(f, "{} at bit {place}: {}", refusal.number(), refusal.ground()),
-            Refused::Question { refusal, .. } => write!(f, "{}: {}", refusal.number(), refusal.ground()),
+            Refused::CardList => CARD_LIST,
+            Refused::Question { refusal, .. } => refusal.number(),
         }
     }
 }
 
+impl From<Refused> for u32 {
+    fn from(refused: Refused) -> u32 {
+        refused.number()
+    }
+}
+
+impl fmt::Display for Refused {
+    fn fmt(&self, f: &mut fmt::Formatter<'_>) -> fmt::Result {
+        match self {
+            Refused::CardList => {
+                write!(f, "{CARD_LIST}: the list has no card or more than {MOST_CARDS}, or it has no card of the number")
+            }
+            Refused::Question { refusal, place } if refusal.has_place() => {
+                write!(f, "{} at bit {place}: {}", refusal.number(), refusal.ground())
+            }
+            Refused::Question { refusal, .. } => refusal.fmt(f),
+        }
+    }
+}
+
+#[cfg(feature = "std")]
 impl std::error::Error for Refused {}
 
+/// An error of input and output with the refusal inside: `InvalidInput` for the list, a card's train and its location, `InvalidData` for the packet.
+#[cfg(feature = "std")]
+impl From<Refused> for std::io::Error {
+    fn from(refused: Refused) -> std::io::Error {
+        use std::io::ErrorKind;
+        let kind = match refused {
+            Refused::CardList | Refused::Question { refusal: Refusal::TrainValue | Refusal::PastEnd, .. } => {
+                ErrorKind::InvalidInput
+            }
+            Refused::Question { .. } => ErrorKind::InvalidData,
+        };
+        std::io::Error::new(kind, refused)
+    }
+}
+
 /// Returns the number and the permitted speed in km/h of the first card with the lowest permitted speed on the packet's segment.
+///
+/// # Errors
 ///
 /// Refused, in this order: an empty or longer list; the packet, with its place; the cards, one after the other, each for its train and then for
 /// its location.
@@ -86,7 +140,11 @@ pub fn lowest(cards: &[Card], packet: &[u8]) -> Result<(usize, u32), Refused> {
     }
 }
 
-/// Changes the location of a card, to any location; all else of the list stays as it was. Refused for an empty or longer list and a number past it.
+/// Changes the location of a card, to any location; all else of the list stays as it was.
+///
+/// # Errors
+///
+/// Refused with [`Refused::CardList`] for an empty or longer list and a number past it, and then changes nothing.
 pub fn move_card(cards: &mut [Card], card: usize, location: u32) -> Result<(), Refused> {
     // a number that does not fit is past every list
     match boundary::move_card(cards, u32::try_from(card).unwrap_or(u32::MAX), location) {

@@ -5,7 +5,7 @@ use seglink::{Refusal, Train};
 const HEADER: &str = include_str!("../../../include/fleet.h");
 /// The segment of the wall screen's sample: 1,000 cm, 100 km/h up to 500 cm and 140 from there on, with other speeds for some trains.
 const PACKET: &[u8] = include_bytes!("../../../crates/wall_screen/data/packet");
-const TRAIN: Train = Train { length: 200, cant: 80, maximum: 600, freight_p: false, freight_g: false, passenger: false };
+const TRAIN: Train = Train::new(200, 80, 600);
 
 fn at(location: u32) -> Card {
     Card { train: TRAIN, location }
@@ -66,6 +66,6 @@ fn the_header_has_the_crate_s_number_refusal_and_limit() {
     assert!(HEADER.contains(&format!("\n#define FLEET_INTERFACE {INTERFACE}\n")));
     assert!(HEADER.contains(&format!(" = fleet_interface_{INTERFACE};\n")));
     assert!(HEADER.contains(&format!("FLEET_MOST_CARDS = {MOST_CARDS}\n")));
-    let (number, ground) = HEADER.split_once("FLEET_CARD_LIST = ").unwrap().1.lines().next().unwrap().split_once(", // ").unwrap();
+    let (number, ground) = HEADER.split_once("FLEET_CARD_LIST = ").unwrap().1.lines().next().unwrap().split_once(" // ").unwrap();
     assert_eq!(Refused::CardList.to_string(), format!("{number}: {ground}"));
 }

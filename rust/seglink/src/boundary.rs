@@ -260,5 +260,5 @@ pub(crate) fn shelf_lookup<'a>(
     let refusal =
         unsafe { seglink_shelf_lookup_into(&mut part, first.0, first.1, yard_used, second.0, second.1, standard_used, key) };
     // SAFETY: the library is proved to hand back a part of the yard's store or of the default store; both are lent for 'a and not changed.
-    (refusal, unsafe { std::slice::from_raw_parts(part.bytes, part.length) })
+    (refusal, unsafe { core::slice::from_raw_parts(part.bytes, part.length) })
 }

@@ -1,17 +1,18 @@
 //! Packets that arrive in several deliveries: an intake that owns its room.
 use crate::boundary::{self, State};
-use crate::{answer, filled, Refused, Unit, LARGEST_JOURNEY_SHEET};
+use crate::{answer, filled, Refused, Unit, LARGEST_JOURNEY_PACKET, LARGEST_JOURNEY_SHEET};
+use alloc::{vec, vec::Vec};
 
 /// Takes packets that arrive in several deliveries, one packet after the other. However a packet was cut, it gets the verdict and the sheet
 /// that its bytes get when they are given at once.
 ///
 /// ```
-/// use seglink::{Intake, Refusal, Refused, LARGEST_JOURNEY_PACKET};
+/// use seglink::{Intake, Refusal, Refused};
 ///
 /// let sheet = [6, 0xC5, 0xC6, 4, 1, 0, 0, 7, 0, 0, 0, 0, 1, 0, 0, 0, 80, 0, 0, 0, 0, 0, 0, 0, 0];
 /// let packet = seglink::packet_of(&sheet)?;
 ///
-/// let mut intake = Intake::new(LARGEST_JOURNEY_PACKET);
+/// let mut intake = Intake::default(); // for any packet
 /// for delivery in [&packet[..10], &[], &packet[10..]] {
 ///     intake.deliver(delivery);
 /// }
@@ -24,7 +25,10 @@ use crate::{answer, filled, Refused, Unit, LARGEST_JOURNEY_SHEET};
 /// assert_eq!(intake.sheet().unwrap_err().refusal, Refusal::PacketLength);
 /// # Ok::<(), Refused>(())
 /// ```
+///
+/// With the feature `std` it is written to as well: `std::io::copy(&mut radio, &mut intake)?`. What is written is a delivery.
 #[derive(Clone, Debug)]
+#[must_use]
 pub struct Intake {
     state: State,
     room: Vec<u8>,
@@ -42,20 +46,47 @@ impl Intake {
         self.state = boundary::intake_deliver(self.state, delivery, &mut self.room);
     }
 
-    /// Judges the bytes delivered since the last verdict, and returns them if they are a packet. They are refused with
-    /// [`ShortRoom`](crate::Refusal::ShortRoom), before all other refusals, if they exceed the capacity. The next packet starts afresh.
+    /// Judges the bytes delivered since the last verdict, and returns them if they are a packet. The next packet starts afresh.
+    ///
+    /// # Errors
+    ///
+    /// Refused with [`ShortRoom`](crate::Refusal::ShortRoom), before all other refusals, if the bytes exceed the capacity; else as the packet is.
     pub fn complete(&mut self) -> Result<&[u8], Refused> {
         self.state = boundary::intake_complete(self.state, &self.room);
         let State { length, refusal, place, .. } = self.state;
         answer(refusal, place, Unit::Bit, &self.room[..length as usize])
     }
 
-    /// Returns the sheet of the packet that was judged, or its refusal again, until the next delivery that has bytes or the next completion.
-    /// At any other time the refusal is [`TooEarly`](crate::Refusal::TooEarly).
+    /// Returns the sheet of the packet that was judged, until the next delivery that has bytes or the next completion.
+    ///
+    /// # Errors
+    ///
+    /// Refused as the packet was; at any other time with [`TooEarly`](crate::Refusal::TooEarly).
     pub fn sheet(&self) -> Result<Vec<u8>, Refused> {
         filled(LARGEST_JOURNEY_SHEET, |room| {
             let converted = boundary::intake_sheet(self.state, &self.room, room);
             answer(converted.refusal, converted.place, Unit::Bit, converted.length as usize)
         })
+    }
+}
+
+/// An intake that has taken nothing, for any packet.
+impl Default for Intake {
+    fn default() -> Intake {
+        Intake::new(LARGEST_JOURNEY_PACKET)
+    }
+}
+
+/// Takes what is written as a delivery. All of it is taken, and nothing fails here: if the bytes exceed the capacity, [`complete`](Intake::complete)
+/// refuses them.
+#[cfg(feature = "std")]
+impl std::io::Write for Intake {
+    fn write(&mut self, delivery: &[u8]) -> std::io::Result<usize> {
+        self.deliver(delivery);
+        Ok(delivery.len())
+    }
+
+    fn flush(&mut self) -> std::io::Result<()> {
+        Ok(())
     }
 }

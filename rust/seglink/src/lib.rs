@@ -30,7 +30,7 @@
 //! assert_eq!(seglink::sheet_of(&packet)?, sheet);
 //! assert_eq!(seglink::altitude_of_packet(&packet)?, -100_000);
 //!
-//! let train = Train { length: 200, cant: 150, maximum: 600, freight_p: false, freight_g: false, passenger: true };
+//! let train = Train::new(200, 150, 600).passenger(); // 2 m long, 150 mm of cant deficiency, 600 km/h at most
 //! assert_eq!(seglink::permitted_speed(Kind::Packet, &[&packet], train, 0)?, 80);
 //! assert_eq!(seglink::permitted_speed(Kind::Sheet, &[&sheet], train, 0)?, 80);
 //! assert_eq!(seglink::permitted_speed(Kind::Packet, &[&packet], train, 1).unwrap_err().refusal, Refusal::PastEnd);
@@ -42,7 +42,7 @@
 //! assert_eq!(seglink::permitted_speed(Kind::Sheet, &[&sheet, &next], train, 0)?, 80);
 //!
 //! // A slower train keeps to its own maximum.
-//! let slower = Train { maximum: 63, ..train };
+//! let slower = Train::new(200, 150, 63).passenger();
 //! assert_eq!(seglink::permitted_speed(Kind::Packet, &[&packet], slower, 0)?, 63);
 //!
 //! packet[38] = 0x24; // two padding bits
@@ -51,7 +51,18 @@
 //! assert_eq!(refused.to_string(), "7 at bit 306: a padding bit is 1");
 //! # Ok::<(), Refused>(())
 //! ```
+//!
+//! Without the feature `std`, which is there by default, the crate needs `core` and `alloc` alone; [`Refused`] is then no `std::error::Error` and
+//! turns into no `std::io::Error`, and an [`Intake`] is no `std::io::Write`.
+//! The crate is checked and documented where the static library is missing, or is for another processor; a program that uses it then does not link.
+#![no_std]
 #![deny(unsafe_code, missing_docs)]
+
+extern crate alloc;
+#[cfg(feature = "std")]
+extern crate std;
+
+use alloc::{vec, vec::Vec};
 
 mod boundary;
 mod intake;
@@ -69,7 +80,7 @@ mod train;
 pub use intake::Intake;
 pub use interface::INTERFACE;
 pub use kind::Kind;
-pub use refusal::Refusal;
+pub use refusal::{Refusal, UnknownRefusal};
 pub use refused::{Refused, Unit};
 pub use restricted::restricted_speed;
 pub use shelf::{Key, Shelf};
@@ -88,23 +99,40 @@ pub const LARGEST_JOURNEY_PACKET: usize = 8207;
 pub const LARGEST_JOURNEY_SHEET: usize = 15226;
 
 /// Writes the sheet of a packet to the start of the room and returns the sheet's length; the bytes of the room past it stay.
+///
+/// # Errors
+///
+/// Refused as the packet is (1 to 7 and 13, at a bit), then with [`Refusal::ShortRoom`]. A refusal leaves the room as it was.
 pub fn packet_to_sheet(packet: &[u8], room: &mut [u8]) -> Result<usize, Refused> {
     let converted = boundary::packet_to_sheet(packet, room);
     answer(converted.refusal, converted.place, Unit::Bit, converted.length as usize)
 }
 
 /// Writes the packet of a sheet to the start of the room and returns the packet's length; the bytes of the room past it stay.
+///
+/// # Errors
+///
+/// Refused as the sheet is (2, 4, 5 and 9, at a byte), then with [`Refusal::LongBody`], then with [`Refusal::ShortRoom`]. A refusal leaves the room as it
+/// was.
 pub fn sheet_to_packet(sheet: &[u8], room: &mut [u8]) -> Result<usize, Refused> {
     let converted = boundary::sheet_to_packet(sheet, room);
     answer(converted.refusal, converted.place, Unit::Byte, converted.length as usize)
 }
 
-/// Returns the sheet of a packet, in a room of its own: never refused with [`Refusal::ShortRoom`].
+/// Returns the sheet of a packet, in a room of its own that has no spare bytes.
+///
+/// # Errors
+///
+/// Refused as [`packet_to_sheet`], and never with [`Refusal::ShortRoom`].
 pub fn sheet_of(packet: &[u8]) -> Result<Vec<u8>, Refused> {
     filled(LARGEST_JOURNEY_SHEET, |room| packet_to_sheet(packet, room))
 }
 
-/// Returns the packet of a sheet, in a room of its own: never refused with [`Refusal::ShortRoom`].
+/// Returns the packet of a sheet, in a room of its own that has no spare bytes.
+///
+/// # Errors
+///
+/// Refused as [`sheet_to_packet`], and never with [`Refusal::ShortRoom`].
 pub fn packet_of(sheet: &[u8]) -> Result<Vec<u8>, Refused> {
     filled(LARGEST_JOURNEY_PACKET, |room| sheet_to_packet(sheet, room))
 }
@@ -112,6 +140,8 @@ pub fn packet_of(sheet: &[u8]) -> Result<Vec<u8>, Refused> {
 /// Returns the permitted speed in km/h of a train at `x` cm from the start of the last segment of a run: the profile's speed, or the train's maximum
 /// where that is lower. The segments, one to four of them, are in order of travel and all of one kind; the same may stand twice. Packets' speeds
 /// are multiples of 5 km/h, a train's maximum need not be one.
+///
+/// # Errors
 ///
 /// Refused, in this order: a run of none or more than four, of which none is read; the segments, one after the other, each with its own refusal
 /// at a place within it; the train; x at or past the end of the last segment.
@@ -121,21 +151,27 @@ pub fn permitted_speed(kind: Kind, segments: &[&[u8]], train: Train, x: u32) -> 
 }
 
 /// Returns the altitude of a packet's segment in signed centimetres.
+///
+/// # Errors
+///
+/// Refused as the packet is: 1 to 7 and 13, at a bit.
 pub fn altitude_of_packet(packet: &[u8]) -> Result<i32, Refused> {
     let asked = boundary::altitude_of_packet(packet);
     answer(asked.refusal, asked.place, Unit::Bit, asked.altitude)
 }
 
 /// Returns the number of the static library's interface, which is [`INTERFACE`].
+#[must_use]
 pub fn version() -> u32 {
     boundary::version()
 }
 
-/// Lends a conversion a room of `size` bytes and returns the bytes that it wrote.
+/// Lends a conversion a room of `size` bytes and returns the bytes that it wrote, without the rest of the room.
 fn filled(size: usize, convert: impl FnOnce(&mut [u8]) -> Result<usize, Refused>) -> Result<Vec<u8>, Refused> {
     let mut room = vec![0; size];
     let length = convert(&mut room)?;
     room.truncate(length);
+    room.shrink_to_fit();
     Ok(room)
 }
 

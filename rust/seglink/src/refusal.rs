@@ -1,6 +1,17 @@
 //! The refusals of the build definition, each with its number and its ground.
+use core::fmt;
 
 /// Why an operation refused. If several grounds are met, the order of the build definition decides which refusal is given.
+/// Prints as `7: a padding bit is 1`.
+///
+/// ```
+/// use seglink::Refusal;
+///
+/// assert_eq!(Refusal::try_from(7), Ok(Refusal::PaddingBit));
+/// assert_eq!(u32::from(Refusal::PaddingBit), 7);
+/// assert_eq!(Refusal::PaddingBit.to_string(), "7: a padding bit is 1");
+/// assert_eq!(Refusal::try_from(0).unwrap_err().to_string(), "no refusal has the number 0");
+/// ```
 #[derive(Clone, Copy, Debug, PartialEq, Eq, Hash)]
 #[non_exhaustive]
 pub enum Refusal {
@@ -10,8 +21,8 @@ pub enum Refusal {
     PacketNumber = 2,
     /// 3: the packet's bytes are not 15 + L_PACKET_ATO / 8, rounded up.
     PacketLength = 3,
-    /// 4: a field is outside its range or set, or not 0 where it is not used: NID_CTRACTION at voltage 0, the last eight fields at a
-    /// passing point, fields of a temporary constraint (its current: not 1,023 in a packet).
+    /// 4: a field is outside its range or set, or not 0 where it is not used. Not used are NID_CTRACTION at voltage 0, the last eight fields at
+    /// a passing point, and fields of a temporary constraint by its type and range; its current is 1,023 in a packet.
     FieldValue = 4,
     /// 5: a change's location does not rise, is 0, or is at or past L_SP; or a temporary constraint's start is not below its end.
     ChangeLocation = 5,
@@ -46,7 +57,7 @@ pub enum Refusal {
     /// 19: the last step at or before a centimetre does not give the permitted speed.
     WrongSpeed = 19,
     /// 21: a store has more than 65,536 bytes, or its used part is not a run of accepted sheets with different keys. Only the first can be
-    /// said of a [`Shelf`](crate::Shelf).
+    /// said of a [`Shelf`](crate::Shelf) that was not made of a used part.
     NoShelf = 21,
     /// 22: the leg is no segment of the journey, or the run would begin before the journey.
     NoLeg = 22,
@@ -69,11 +80,7 @@ const GROUNDS: [(Refusal, &str); 25] = [
         "the packet number is neither 4 nor 6, is 4 where a segment is needed, or is 6 where a journey is needed",
     ),
     (Refusal::PacketLength, "the packet's bytes are not 15 + L_PACKET_ATO / 8, rounded up"),
-    (
-        Refusal::FieldValue,
-        "a field is outside its range or set, or not 0 where it is not used: NID_CTRACTION at voltage 0, the last eight fields at \
-         a passing point, fields of a temporary constraint (its current: not 1,023 in a packet)",
-    ),
+    (Refusal::FieldValue, "a field is outside its range or set, or not 0 where it is not used"),
     (
         Refusal::ChangeLocation,
         "a change's location does not rise, is 0, or is at or past L_SP; or a temporary constraint's start is not below its end",
@@ -129,24 +136,70 @@ const GROUNDS: [(Refusal, &str); 25] = [
 
 impl Refusal {
     /// Returns the number of the build definition.
-    pub fn number(self) -> u32 {
+    #[must_use]
+    pub const fn number(self) -> u32 {
         self as u32
     }
 
     /// Returns the ground in words.
+    #[must_use]
     pub fn ground(self) -> &'static str {
         GROUNDS.iter().find(|&&(refusal, _)| refusal == self).expect("each refusal has its ground").1
     }
 
     /// Returns the refusal with this number, if there is one.
+    #[must_use]
     pub fn from_number(number: u32) -> Option<Refusal> {
         GROUNDS.iter().map(|&(refusal, _)| refusal).find(|refusal| refusal.number() == number)
     }
 
     /// Returns whether the refusal is given at a bit or a byte, 4, 5, 6, 7, 9 and 13, or at a centimetre, 19. The place of every other refusal
     /// is 0.
-    pub fn has_place(self) -> bool {
+    #[must_use]
+    pub const fn has_place(self) -> bool {
         use Refusal::*;
         matches!(self, FieldValue | ChangeLocation | BodyBits | PaddingBit | SheetForm | BitsLeft | WrongSpeed)
     }
+
+    /// Returns whether a packet or a sheet is refused so for its own bytes, whatever else is handed over: 1 to 7, 9, 12 and 13.
+    #[cfg(feature = "std")]
+    pub(crate) fn is_of_bytes(self) -> bool {
+        matches!(self.number(), 1..=7 | 9 | 12 | 13)
+    }
 }
+
+impl fmt::Display for Refusal {
+    fn fmt(&self, f: &mut fmt::Formatter<'_>) -> fmt::Result {
+        write!(f, "{}: {}", self.number(), self.ground())
+    }
+}
+
+#[cfg(feature = "std")]
+impl std::error::Error for Refusal {}
+
+impl From<Refusal> for u32 {
+    fn from(refusal: Refusal) -> u32 {
+        refusal.number()
+    }
+}
+
+impl TryFrom<u32> for Refusal {
+    type Error = UnknownRefusal;
+
+    fn try_from(number: u32) -> Result<Refusal, UnknownRefusal> {
+        Refusal::from_number(number).ok_or(UnknownRefusal(number))
+    }
+}
+
+/// A number that is no refusal's; 0 is success.
+#[derive(Clone, Copy, Debug, PartialEq, Eq, Hash)]
+pub struct UnknownRefusal(pub u32);
+
+impl fmt::Display for UnknownRefusal {
+    fn fmt(&self, f: &mut fmt::Formatter<'_>) -> fmt::Result {
+        write!(f, "no refusal has the number {}", self.0)
+    }
+}
+
+#[cfg(feature = "std")]
+impl std::error::Error for UnknownRefusal {}

@@ -1,9 +1,9 @@
 //! The error of every operation: a refusal and its place.
 use crate::Refusal;
-use std::error::Error;
-use std::fmt;
+use core::fmt;
 
-/// Why an operation refused, and where. Prints as `6 at bit 300: a field does not fit in the body's remaining bits`.
+/// Why an operation refused, and where. Prints as `6 at bit 300: a field does not fit in the body's remaining bits`, and without a place where the
+/// refusal has none.
 #[derive(Clone, Copy, Debug, PartialEq, Eq, Hash)]
 #[non_exhaustive]
 pub struct Refused {
@@ -29,16 +29,41 @@ pub enum Unit {
     Centimetre,
 }
 
-impl fmt::Display for Refused {
+impl fmt::Display for Unit {
     fn fmt(&self, f: &mut fmt::Formatter<'_>) -> fmt::Result {
-        let unit = match self.unit {
-            _ if !self.refusal.has_place() => "",
-            Unit::Bit => "bit ",
-            Unit::Byte => "byte ",
-            Unit::Centimetre => "centimetre ",
-        };
-        write!(f, "{} at {unit}{}: {}", self.refusal.number(), self.place, self.refusal.ground())
+        f.write_str(match self {
+            Unit::Bit => "bit",
+            Unit::Byte => "byte",
+            Unit::Centimetre => "centimetre",
+        })
     }
 }
 
-impl Error for Refused {}
+impl fmt::Display for Refused {
+    fn fmt(&self, f: &mut fmt::Formatter<'_>) -> fmt::Result {
+        let Refused { refusal, place, unit } = self;
+        if refusal.has_place() {
+            write!(f, "{} at {unit} {place}: {}", refusal.number(), refusal.ground())
+        } else {
+            refusal.fmt(f)
+        }
+    }
+}
+
+#[cfg(feature = "std")]
+impl std::error::Error for Refused {}
+
+/// An error of input and output with the refusal inside: `NotFound` for a key that is not kept, `InvalidInput` for what else the caller chose (the
+/// room, the train, x, the run, the steps), `InvalidData` for the fault of a packet or a sheet.
+#[cfg(feature = "std")]
+impl From<Refused> for std::io::Error {
+    fn from(refused: Refused) -> std::io::Error {
+        use std::io::ErrorKind;
+        let kind = match refused.refusal {
+            Refusal::NotKept => ErrorKind::NotFound,
+            refusal if refusal.is_of_bytes() => ErrorKind::InvalidData,
+            _ => ErrorKind::InvalidInput,
+        };
+        std::io::Error::new(kind, refused)
+    }
+}

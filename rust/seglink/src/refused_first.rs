@@ -2,11 +2,12 @@
 //! of no segment or of more than four.
 use crate::boundary::{permitted_speed, restricted_speed, Speed};
 use crate::{answer, packet_of, Refusal, Train, Unit};
+use alloc::{string::ToString, vec};
 
 /// The build definition's sample sheet.
 const SHEET: [u8; 25] = [6, 0xC5, 0xC6, 4, 1, 0, 0, 7, 0, 0, 0, 0, 1, 0, 0, 0, 80, 0, 0, 0, 0, 0, 0, 0, 0];
-const TRAIN: Train = Train { length: 200, cant: 150, maximum: 600, freight_p: false, freight_g: false, passenger: true };
-const NO_TRAIN: Train = Train { length: 0, cant: 0, ..TRAIN };
+const TRAIN: Train = Train::new(200, 150, 600).passenger();
+const NO_TRAIN: Train = Train::new(0, 0, 600).passenger();
 
 /// Checks that both questions are refused with a number at 0, whatever the segment, the journey, the leg, the train and x are.
 fn always_refused(kind: u32, count: usize, refusal: u32) {
@@ -42,8 +43,8 @@ fn a_run_of_none_or_more_than_four_is_refused_before_segments_train_and_x() {
 #[test]
 fn both_are_errors_that_say_so() {
     for (kind, segments, refusal, words) in [
-        (2, &[&SHEET[..]][..], Refusal::UnknownKind, "15 at 0: the kind is neither 0 nor 1"),
-        (1, &[], Refusal::RunCount, "16 at 0: the run has no segment or more than 4"),
+        (2, &[&SHEET[..]][..], Refusal::UnknownKind, "15: the kind is neither 0 nor 1"),
+        (1, &[], Refusal::RunCount, "16: the run has no segment or more than 4"),
     ] {
         let Speed { refusal: number, place, speed } = permitted_speed(kind, segments, TRAIN, 0);
         let refused = answer(number, place, Unit::Byte, speed).unwrap_err();

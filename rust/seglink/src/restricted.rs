@@ -9,6 +9,8 @@ use crate::{answer, boundary, Kind, Refused, Train};
 /// the journey's segments up to it. A constraint holds from its start on and before its end, with Q_FRONT 0 before its end plus the train's
 /// length, across boundaries too.
 ///
+/// # Errors
+///
 /// Refused, in this order: a run of none or more than four; the segments, one after the other, each with its own refusal; the journey with its own;
 /// [`NoLeg`](crate::Refusal::NoLeg); for each segment [`OtherSegment`](crate::Refusal::OtherSegment),
 /// [`ReverseLeg`](crate::Refusal::ReverseLeg), [`ConstraintPlace`](crate::Refusal::ConstraintPlace); the train; x at or past the end of the last
@@ -20,7 +22,7 @@ use crate::{answer, boundary, Kind, Refused, Train};
 /// // A segment of 100 cm, 80 km/h, and a journey over it: 33 km/h from 20 cm to 45 cm, Q_FRONT 0.
 /// let segment = [6, 0xC5, 0xC6, 4, 1, 0, 0, 7, 0, 0, 0, 0, 100, 0, 0, 0, 80, 0, 0, 0, 0, 0, 0, 0, 0];
 /// let journey = [4, 0xC5, 0xC6, 4, 1, 0, 0, 7, 1, 1, 0, 0, 0, 0, 1, 0, 1, 0, 2, 20, 45, 0, 33, 0, 0];
-/// let train = Train { length: 10, cant: 80, maximum: 600, freight_p: false, freight_g: false, passenger: false };
+/// let train = Train::new(10, 80, 600);
 /// for (x, permitted, restricted) in [(19, 80, 80), (20, 80, 33), (54, 80, 33), (55, 80, 80)] {
 ///     assert_eq!(seglink::permitted_speed(Kind::Sheet, &[&segment], train, x)?, permitted);
 ///     assert_eq!(seglink::restricted_speed(Kind::Sheet, &[&segment], &journey, 0, train, x)?, restricted);

@@ -1,5 +1,6 @@
 //! The shelf: keeps segment sheets and finds them by NID_C, NID_SP and version.
 use crate::{answer, boundary, Refused, Unit};
+use alloc::{vec, vec::Vec};
 
 /// Key of a segment's sheet on a [`Shelf`]. Any numbers may be asked for; a number that no sheet can have is kept nowhere.
 #[derive(Clone, Copy, Debug, PartialEq, Eq, PartialOrd, Ord, Hash)]
@@ -35,9 +36,14 @@ pub struct Key {
 /// yard.remove(key)?;
 /// assert_eq!(yard.remove(key).unwrap_err().refusal, Refusal::NotKept);
 /// assert_eq!(standard.get(key), Some(&sheet[..]));
+///
+/// let again = Shelf::of_used_part(standard.used_part(), 100);
+/// assert_eq!(again.get(key), Some(&sheet[..]));
+/// assert_eq!(Shelf::of_used_part(&[0, 0, 0, 1, 6], 100).remove(key).unwrap_err().refusal, Refusal::NoShelf);
 /// # Ok::<(), Refused>(())
 /// ```
 #[derive(Clone, Debug)]
+#[must_use]
 pub struct Shelf {
     store: Vec<u8>,
     used: u32,
@@ -52,20 +58,43 @@ impl Shelf {
         Shelf { store: vec![0; capacity], used: 0 }
     }
 
+    /// Makes a shelf of a used part that was kept elsewhere, as in a file, with a store of `capacity` bytes, or of the used part's if these are
+    /// more. Any bytes may be handed over: each call judges them, and refuses what is no shelf with [`NoShelf`](crate::Refusal::NoShelf).
+    pub fn of_used_part(used_part: &[u8], capacity: usize) -> Shelf {
+        let mut store = used_part.to_vec();
+        store.resize(capacity.max(used_part.len()), 0);
+        Shelf { store, used: u32::try_from(used_part.len()).unwrap_or(u32::MAX) }
+    }
+
+    /// Returns the used part of the store: the kept sheets, each after four bytes for its length, most significant first.
+    #[must_use]
+    pub fn used_part(&self) -> &[u8] {
+        &self.store[..self.used().min(self.store.len())]
+    }
+
     /// Returns how many bytes the kept sheets take, four for each included.
+    #[must_use]
     pub fn used(&self) -> usize {
         self.used as usize
     }
 
-    /// Keeps the sheet of a segment; a kept sheet of the same key goes. Refused with [`ShortRoom`](crate::Refusal::ShortRoom), after the
-    /// refusals of the sheet, if there is no room. A refusal changes nothing.
+    /// Keeps the sheet of a segment; a kept sheet of the same key goes.
+    ///
+    /// # Errors
+    ///
+    /// Refused as the sheet is (2, 4, 5 and 9, at a byte), then with [`ShortRoom`](crate::Refusal::ShortRoom) if there is no room. A refusal changes
+    /// nothing.
     pub fn add(&mut self, sheet: &[u8]) -> Result<(), Refused> {
         let shelved = boundary::shelf_add(&mut self.store, self.used, sheet);
         self.used = shelved.used;
         answer(shelved.refusal, shelved.place, Unit::Byte, ())
     }
 
-    /// Removes the sheet with this key. Refused with [`NotKept`](crate::Refusal::NotKept) if there is none.
+    /// Removes the sheet with this key.
+    ///
+    /// # Errors
+    ///
+    /// Refused with [`NotKept`](crate::Refusal::NotKept) if there is none.
     pub fn remove(&mut self, key: Key) -> Result<(), Refused> {
         let shelved = boundary::shelf_remove(&mut self.store, self.used, key);
         self.used = shelved.used;
@@ -73,12 +102,17 @@ impl Shelf {
     }
 
     /// Returns the sheet with this key: the part of the yard's store that keeps it, or else of the default store's.
+    ///
+    /// # Errors
+    ///
+    /// Refused with [`NotKept`](crate::Refusal::NotKept) if neither keeps one.
     pub fn lookup<'a>(yard: &'a Shelf, standard: &'a Shelf, key: Key) -> Result<&'a [u8], Refused> {
         let (refusal, part) = boundary::shelf_lookup(&yard.store, yard.used, &standard.store, standard.used, key);
         answer(refusal, 0, Unit::Byte, part)
     }
 
     /// Returns the sheet with this key, if this shelf keeps it.
+    #[must_use]
     pub fn get(&self, key: Key) -> Option<&[u8]> {
         let (refusal, part) = boundary::shelf_lookup(&self.store, self.used, &[], 0, key);
         (refusal == 0).then_some(part)

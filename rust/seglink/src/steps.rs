@@ -1,5 +1,6 @@
 //! A supplier's speed steps, and the check of them.
 use crate::{answer, boundary, permitted_speed, Kind, Refusal, Refused, Train, Unit};
+use alloc::{vec, vec::Vec};
 
 /// Speed steps of a segment for a train: each step starts at a centimetre and holds up to the next. There are as many speeds as starts.
 #[derive(Clone, Debug, PartialEq, Eq)]
@@ -19,6 +20,8 @@ impl Steps {
 /// km/h. Accepted exactly if there are 1 to 128 steps, as many starts as speeds, the first start is 0, the starts rise strictly and lie below the
 /// segment's length, and at every centimetre the last step at or before it gives what [`permitted_speed`] answers.
 ///
+/// # Errors
+///
 /// Refused, in this order: as [`permitted_speed`], but for x; [`Refusal::Steps`]; [`Refusal::WrongSpeed`] at the first wrong centimetre.
 ///
 /// ```
@@ -26,7 +29,7 @@ impl Steps {
 ///
 /// // A segment of 10 cm: 100 km/h with the delay, from 5 cm on 140 km/h.
 /// let sheet = [6, 0xC5, 0xC6, 4, 1, 0, 0, 7, 0, 0, 0, 0, 10, 0, 0, 0, 100, 0, 0, 1, 5, 0x8C, 1, 0, 0, 0, 0, 0, 0, 0];
-/// let train = Train { length: 2, cant: 80, maximum: 120, freight_p: false, freight_g: false, passenger: false };
+/// let train = Train::new(2, 80, 120);
 /// seglink::check_steps(Kind::Sheet, &[&sheet], train, &[0, 7], &[100, 120])?;
 ///
 /// let forgotten = seglink::check_steps(Kind::Sheet, &[&sheet], train, &[0, 5], &[100, 120]).unwrap_err();
@@ -44,7 +47,11 @@ pub fn check_steps(kind: Kind, segments: &[&[u8]], train: Train, starts: &[u32],
 }
 
 /// Makes the right steps of a run's last segment for a train, without neighbours of one speed: asks for the speed at 0, and then wherever the steps so
-/// far are wrong first. Refused as [`check_steps`], with [`Refusal::Steps`] if more than 128 steps are needed.
+/// far are wrong first.
+///
+/// # Errors
+///
+/// Refused as [`check_steps`], with [`Refusal::Steps`] if more than 128 steps are needed.
 pub fn steps_of(kind: Kind, segments: &[&[u8]], train: Train) -> Result<Steps, Refused> {
     let mut steps = Steps { starts: vec![0], speeds: vec![permitted_speed(kind, segments, train, 0)?] };
     while let Err(refused) = check_steps(kind, segments, train, &steps.starts, &steps.speeds) {

@@ -1,7 +1,7 @@
 //! Tests that the C header and this crate name the same interface, refusals, grounds, kinds and sizes.
 use seglink::{
-    version, Kind, Refusal, Shelf, Steps, INTERFACE, LARGEST_JOURNEY_PACKET, LARGEST_JOURNEY_SHEET, LARGEST_PACKET,
-    LARGEST_SHEET, SMALLEST_PACKET,
+    version, Kind, Refusal, Shelf, Steps, UnknownRefusal, INTERFACE, LARGEST_JOURNEY_PACKET, LARGEST_JOURNEY_SHEET,
+    LARGEST_PACKET, LARGEST_SHEET, SMALLEST_PACKET,
 };
 
 const HEADER: &str = include_str!("../../../../include/seglink.h");
@@ -43,10 +43,26 @@ fn every_refusal_has_its_name_number_and_ground_in_both() {
     }
 }
 
+/// Returns the words that seglink_refusal_text of the header has for a refusal.
+fn words(name: &str) -> &'static str {
+    let case = format!("    case SEGLINK_{name}: return \"");
+    let line = HEADER.lines().find_map(|line| line.strip_prefix(&case)).unwrap_or_else(|| panic!("{name} has no words"));
+    line.strip_suffix("\";").unwrap()
+}
+
+#[test]
+fn the_header_s_words_of_every_refusal_are_its_ground() {
+    for (name, number, ground) in constants().into_iter().filter(|(_, _, comment)| !comment.is_empty()) {
+        assert_eq!(words(name), ground);
+        assert_eq!(Refusal::from_number(number).unwrap().to_string(), format!("{number}: {ground}"));
+    }
+}
+
 #[test]
 fn no_other_number_is_a_refusal() {
     for number in [0, 20, 27, u32::MAX] {
         assert_eq!(Refusal::from_number(number), None);
+        assert_eq!(Refusal::try_from(number), Err(UnknownRefusal(number)));
     }
 }
 

@@ -96,5 +96,5 @@ fn the_sheet_is_given_from_completion_to_the_next_bytes_or_completion() {
 #[test]
 fn a_sheet_asked_for_too_early_says_so() {
     let said = Intake::new(0).sheet().unwrap_err().to_string();
-    assert!(said.starts_with("14 at 0: an intake's sheet is asked for before a completion, "), "{said}");
+    assert!(said.starts_with("14: an intake's sheet is asked for before a completion, "), "{said}");
 }

@@ -4,6 +4,7 @@ mod conversions;
 mod header;
 mod intakes;
 mod journeys;
+mod manners;
 mod refusals;
 mod restricted;
 mod runs;

@@ -131,7 +131,7 @@ fn past_end() {
 #[test]
 fn a_refusal_is_an_error_that_says_its_number_its_place_and_its_ground() {
     let error: Box<dyn Error> = altitude_of_packet(&DESK_PACKET[..38]).unwrap_err().into();
-    assert_eq!(error.to_string(), "3 at 0: the packet's bytes are not 15 + L_PACKET_ATO / 8, rounded up");
+    assert_eq!(error.to_string(), "3: the packet's bytes are not 15 + L_PACKET_ATO / 8, rounded up");
     let error = altitude_of_packet(&desk_packet_with(2, 0xB8)[..38]).unwrap_err();
     assert_eq!(error.to_string(), "6 at bit 300: a field does not fit in the body's remaining bits");
     let error = permitted_speed(Kind::Packet, &[&desk_packet_with(2, 0xBA)], TRAIN, 0).unwrap_err();

@@ -100,7 +100,7 @@ fn the_first_segment_that_is_refused_says_why_and_where() {
         assert_eq!(told(permitted_speed(Kind::Sheet, run, no_train, 1)), Err(refused));
     }
     let error = permitted_speed(Kind::Packet, &[&DESK_PACKET, &DESK_PACKET[..38]], SHUTTLE, 0).unwrap_err();
-    assert_eq!(error.to_string(), "3 at 0: the packet's bytes are not 15 + L_PACKET_ATO / 8, rounded up");
+    assert_eq!(error.to_string(), "3: the packet's bytes are not 15 + L_PACKET_ATO / 8, rounded up");
     let error = permitted_speed(Kind::Sheet, &[good, cut], SHUTTLE, 0).unwrap_err();
     assert!(error.to_string().starts_with("9 at byte 24: "));
 }

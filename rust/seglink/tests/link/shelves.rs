@@ -84,3 +84,28 @@ fn a_store_has_at_most_65_536_bytes() {
     assert_eq!(told(Shelf::new(Shelf::LARGEST_STORE).add(&sheet([0; 4]))), Ok(()));
     assert_eq!(told(Shelf::new(0).add(&sheet([0; 4]))), Err((Refusal::ShortRoom, 0)));
 }
+
+#[test]
+fn a_used_part_makes_the_shelf_again() {
+    let mut shelf = Shelf::new(2 * ENTRY);
+    assert_eq!(shelf.used_part(), []);
+    shelf.add(&sheet([2, 0, 0, 0])).unwrap();
+    shelf.add(&sheet([1, 0, 0, 0])).unwrap();
+    let kept = [&[0, 0, 0, 25][..], &sheet([1, 0, 0, 0]), &[0, 0, 0, 25], &sheet([2, 0, 0, 0])].concat();
+    assert_eq!(shelf.used_part(), kept);
+    let mut again = Shelf::of_used_part(shelf.used_part(), 0);
+    assert_eq!((again.used(), again.get(key([2, 0, 0, 0]))), (2 * ENTRY, Some(&sheet([2, 0, 0, 0])[..])));
+    assert_eq!(told(again.add(&sheet([3, 0, 0, 0]))), Err((Refusal::ShortRoom, 0)));
+    assert_eq!(told(Shelf::of_used_part(&kept, 3 * ENTRY).add(&sheet([3, 0, 0, 0]))), Ok(()));
+}
+
+#[test]
+fn a_used_part_that_is_no_shelf_is_refused() {
+    let entry = [&[0, 0, 0, 25][..], &sheet([1, 0, 0, 0])].concat();
+    let large = vec![0; Shelf::LARGEST_STORE + 1];
+    for used in [&entry[..28], &[&entry[..], &[0]].concat(), &[&entry[..], &entry].concat(), &[0, 0, 0, 0], &large] {
+        let mut shelf = Shelf::of_used_part(used, 100);
+        assert_eq!(told(shelf.add(&sheet([2, 0, 0, 0]))), Err((Refusal::NoShelf, 0)), "{} bytes", used.len());
+        assert_eq!(shelf.used_part(), used);
+    }
+}
