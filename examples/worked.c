@@ -41,7 +41,7 @@ static void ask(const uint8_t *sheet, size_t sheet_len)
 {
     seglink_altitude altitude = seglink_altitude_of_packet(PACKET, sizeof PACKET);
     printf("The segment lies at %d cm (refusal %u).\n", (int)altitude.altitude, (unsigned)altitude.refusal);
-    seglink_train train = {.length = 200, .cant = 150, .maximum = 160, .passenger = true};
+    seglink_train train = seglink_train_of(200, 150, 160, SEGLINK_PASSENGER);
     seglink_speed here = seglink_permitted_speed_one(SEGLINK_KIND_PACKET, PACKET, sizeof PACKET, train, 0);
     printf("A passenger train of 200 cm may run at %u km/h at 0 cm (refusal %u).\n", (unsigned)here.speed, (unsigned)here.refusal);
     seglink_speed same = seglink_permitted_speed_one(SEGLINK_KIND_SHEET, sheet, sheet_len, train, 0);
@@ -57,7 +57,7 @@ static void ask_next(const uint8_t *sheet, size_t sheet_len)
     uint8_t next[SEGLINK_LARGEST_SHEET];
     memcpy(next, sheet, sheet_len);
     next[16] = 120; // V_STATIC
-    seglink_train train = {.length = 200, .cant = 150, .maximum = 160, .passenger = true};
+    seglink_train train = seglink_train_of(200, 150, 160, SEGLINK_PASSENGER);
     seglink_speed alone = seglink_permitted_speed_one(SEGLINK_KIND_SHEET, next, sheet_len, train, 0);
     // two segments are lent: the other two are the first one again, with length 0
     seglink_speed run = seglink_permitted_speed(SEGLINK_KIND_SHEET, 2, sheet, sheet_len, next, sheet_len, sheet, 0, sheet, 0, train, 0);

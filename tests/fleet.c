@@ -18,8 +18,12 @@ static const uint8_t PACKET[] = {
 
 // Six different cards, and what the segment permits each.
 static const fleet_card CARDS[] = {
-    {{200, 80, 600, false, false, false}, 699}, {{100, 100, 300, true, false, false}, 10},  {{300, 130, 250, false, true, false}, 20},
-    {{400, 150, 200, false, false, true}, 30},  {{500, 165, 83, false, false, false}, 40}, {{600, 180, 500, false, false, false}, 999},
+    {{.length = 200, .cant = 80, .maximum = 600}, 699},
+    {{.length = 100, .cant = 100, .maximum = 300, .freight_p = true}, 10},
+    {{.length = 300, .cant = 130, .maximum = 250, .freight_g = true}, 20},
+    {{.length = 400, .cant = 150, .maximum = 200, .passenger = true}, 30},
+    {{.length = 500, .cant = 165, .maximum = 83}, 40},
+    {{.length = 600, .cant = 180, .maximum = 500}, 999},
 };
 static const uint32_t SPEEDS[] = {100, 60, 45, 90, 83, 120};
 enum { COUNT = sizeof CARDS / sizeof *CARDS };

@@ -95,9 +95,9 @@ def refused():
     yield "the largest segment's last current", packet(largest[:-10] + field(10, 1001)), 4, 16570
 
 
-def said(data):
-    """Runs the program with the data on a pipe, and returns its status and what it prints."""
-    done = subprocess.run(RUN, input=data, capture_output=True, check=False)
+def said(data, *words):
+    """Runs the program with the data on a pipe and these arguments, and returns its status and what it prints."""
+    done = subprocess.run(RUN + list(words), input=data, capture_output=True, check=False)
     return done.returncode, done.stdout.decode("ascii", "replace"), done.stderr.decode("ascii", "replace")
 
 
@@ -112,10 +112,17 @@ def piece_by_piece(data):
     return child.returncode, out.decode("ascii", "replace"), err.decode("ascii", "replace")
 
 
+def named(data):
+    """Runs the program with a file's name, which it does not read, and returns its status and what it prints: the text that it gives to standard error."""
+    status, out, err = said(data, "examples/sample.packet")
+    return status, err, out
+
+
 def main():
     cases = [(name, said, data, text) for name, data, text in accepted()]
     cases += [(name, said, data, f"REFUSED {number} AT {place}\n") for name, data, number, place in refused()]
     cases += [("the document's packet, piece by piece", piece_by_piece, SAMPLE, TWO_LINES)]
+    cases += [("a file's name", named, SAMPLE, "listing reads standard input and no file: listing <FILE\n")]
     failed = 0
     for name, how, data, text in cases:
         answer = how(data)

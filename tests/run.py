@@ -10,8 +10,9 @@ from sources import CRATES, ROOT, declares, edits, functions, modules, public_fu
 
 SECONDS = 120
 SENTENCE = 300
-# what a program that opens files assumes
-ASSUMED = {"wall_screen": ["libc: libc::close, libc::read, libc::write", "os: os::c::rattle_open_to_read, os::c::rattle_set_errno"]}
+# what each program assumes
+ASSUMED = {"listing": ["libc: libc::read, libc::write", "os: os::c::rattle_arg_count"],
+           "wall_screen": ["libc: libc::close, libc::read, libc::write", "os: os::c::rattle_open_to_read, os::c::rattle_set_errno"]}
 # what an error says that is of the edit's shape, or of another declaration, and not of a fact
 SHAPES = ("can be named from here", "has no field", "was not admitted")
 
@@ -74,8 +75,8 @@ def quotations():
 
 
 def no_axioms():
-    """No axiom stands in the repository, and no crate's proof reports one; a program reports that the C library reads and writes, one that opens
-    files also that they are opened and closed, and no other."""
+    """No axiom stands in the repository, and no crate's proof reports one; a program reports that the C library reads and writes, the listing
+    also that its arguments are counted, the wall screen that files are opened and closed, and no other."""
     for crate in CRATES:
         for path in sources(crate, "specs", ".antt") + sources(crate, "proofs", ".antt"):
             if re.search(r"^\s*axiom |Prim\.Axiom", path.read_text(), re.M):
@@ -84,7 +85,7 @@ def no_axioms():
         verdict = [line for line in said.splitlines() if line.startswith("logic=")]
         named = re.findall(r"^axioms (.*) \(", said, re.M)
         program = (ROOT / "crates" / crate / "src" / "main.rt").exists()
-        assumed = ASSUMED.get(crate, ["libc: libc::read, libc::write"]) if program else []
+        assumed = ASSUMED[crate] if program else []
         if len(verdict) != 1 or not verdict[0].startswith("logic=proved ") or named != assumed or ("axioms=" in verdict[0]) != program:
             yield f"{crate}: its verdict is {verdict}, with {named}"
 

@@ -45,7 +45,7 @@ impl Case {
 }
 
 /// Draws a segment, or one time in three a journey.
-fn any_draft(random: &mut Random) -> Draft {
+pub fn any_draft(random: &mut Random) -> Draft {
     if random.one_in(3) {
         let counts = any_counts(random);
         journey(random, &counts)

@@ -166,7 +166,7 @@ impl Draft {
 
     /// Returns the kind of each field, its first bit in the packet, where L_PACKET_ATO follows the first field, and its number's first byte in
     /// the sheet.
-    fn begins(&self) -> Vec<(Kind, u32, u32)> {
+    pub fn begins(&self) -> Vec<(Kind, u32, u32)> {
         let (mut bit, mut sheet, mut begins) = (0, Vec::new(), Vec::new());
         for field in &self.fields {
             begins.push((field.kind, bit, sheet.len() as u32));
