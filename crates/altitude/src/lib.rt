@@ -1,4 +1,7 @@
 // The altitude of a segment in signed centimetres, from its packet.
+
+#![tactic(auto)]
+
 ghost use Rattle.std.specs.Prelude.{◌≡◌, ◌<◌, ◌^◌};
 ghost use Rattle.altitude.specs.Altitude.{centimetres, altitude_of};
 

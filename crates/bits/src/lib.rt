@@ -1,4 +1,7 @@
 // Reads a field of up to 32 bits at any bit of a slice, through the eight bytes that hold it.
+
+#![tactic(auto)]
+
 pub mod write;
 
 ghost use Rattle.std.specs.Prelude.{◌≡◌, ◌+◌, ◌-◌, ◌*◌, ◌/◌, ◌%◌, ◌^◌, ◌<◌, ◌≤◌, min, length};

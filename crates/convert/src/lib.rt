@@ -1,4 +1,7 @@
 // The answer of a conversion, from a packet to its sheet or from a sheet to its packet.
+
+#![tactic(auto)]
+
 ghost use Rattle.std.specs.Prelude.{◌≡◌};
 
 // Answer of a conversion: 0, 0 and the length of the result in bytes; or a refusal's number, its place (a bit of a packet, a byte of a sheet) and 0.

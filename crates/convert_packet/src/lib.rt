@@ -1,5 +1,7 @@
 // The conversion of a packet, of a segment or a journey, to its sheet: the packet is judged whole, then its sheet is written.
 
+#![tactic(auto)]
+
 ghost use Rattle.std.specs.Prelude.{◌≡◌, ◌≤◌, length};
 ghost use Rattle.std.proofs.lemmas.List.Edits.{sets};
 ghost use Rattle.grammar.specs.segment.Frame.{packet_number};

@@ -1,6 +1,8 @@
 // The conversion of a sheet, of a segment or a journey, to its packet: the sheet is judged whole, then its packet is written.
 // The header's writer is lent the first fifteen bytes of the room, the body's writer the rest.
 
+#![tactic(auto)]
+
 ghost use Rattle.std.specs.Prelude.{◌≡◌, ◌++◌, ◌+◌, ◌-◌, ◌/◌, ◌≤◌, ◌<◌, ◌^◌, length, drop};
 ghost use Rattle.bits.specs.Bits.{bytes_of_bits};
 ghost use Rattle.grammar.specs.link.Link.{tree_number};

@@ -1,4 +1,7 @@
 // One field between packet and sheet: its width, its value lowered and raised, its bytes in the sheet, and the tables of figures.
+
+#![tactic(auto)]
+
 pub mod lower;
 pub mod raise;
 pub mod size;

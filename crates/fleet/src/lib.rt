@@ -1,5 +1,8 @@
 // The fleet board: a lent list of up to 64 train cards, each with a location on the segment of one packet.
 // `fleet_lowest` and `fleet_move`, which take the list, are proved by walks of their code, by hand. What they call takes plain data and bytes.
+
+#![tactic(auto)]
+
 ghost use Rattle.std.specs.Prelude.{◌≡◌, ◌<◌};
 ghost use Rattle.speed_packet.specs.internal.Asking.{AcceptedPacket};
 ghost use Rattle.fleet.specs.Fleet.{no_board, asked_of, named_in, moved, answer_of, alone, board};

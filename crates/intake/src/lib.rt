@@ -1,4 +1,7 @@
 // The intake: takes a packet in several deliveries into a lent room, and judges it when it is complete. The caller keeps its state, a value.
+
+#![tactic(auto)]
+
 ghost use Rattle.std.specs.Prelude.{◌≡◌};
 ghost use Rattle.intake.specs.Intake.{gathering, passed, judged_as, gathered, gathers_at, delivered, completed, is_verdict, judged_sheet, asked};
 

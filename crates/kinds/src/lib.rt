@@ -1,4 +1,7 @@
 // Field kinds: one type for each kind, with its width in bits, its largest packet value, and the rule that judges its values.
+
+#![tactic(auto)]
+
 pub mod body;
 pub mod header;
 pub mod journey;

@@ -1,6 +1,8 @@
 // Reads the segments of an accepted journey packet and their temporary constraints, at bits of the packet. What was accepted is not judged again.
 // Locations are in cm, speeds in km/h.
 
+#![tactic(auto)]
+
 ghost use Rattle.format.specs.Format.{times};
 ghost use Rattle.grammar.specs.journey.Journey as tree;
 ghost use Rattle.speed_element.specs.internal.Reading.{Readable, Passes};

@@ -1,5 +1,7 @@
 // One segment of a journey, a leg, and one of its temporary constraints, as both media give them. Locations are in cm, speeds in km/h.
 
+#![tactic(auto)]
+
 ghost use Rattle.std.specs.Prelude.{◌≡◌, cond, ◌&&◌, ◌||◌, min, eqb, ltb, leb};
 ghost use Rattle.legs.specs.Restricted.{uses_start, uses_end, begins_at, stops_at, held_until, holds_at};
 ghost use Rattle.legs.specs.Travelled.{outside};

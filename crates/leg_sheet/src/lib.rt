@@ -1,6 +1,8 @@
 // Reads the segments of an accepted journey sheet and their temporary constraints, at bytes of the sheet. What was accepted is not judged again.
 // Locations are in cm, speeds in km/h.
 
+#![tactic(auto)]
+
 ghost use Rattle.std.specs.Prelude.{◌≤◌};
 ghost use Rattle.format.specs.Format.{times};
 ghost use Rattle.grammar.specs.journey.Journey as tree;

@@ -1,5 +1,8 @@
 // Lists the packet on standard input: its segment and the elements of its speed profile, or its refusal.
 // It takes no file name: where there is one, it says so on standard error, and reads and lists nothing.
+
+#![tactic(auto)]
+
 use libc::{STDERR_FILENO, STDIN_FILENO, STDOUT_FILENO};
 
 // Reads a packet from standard input and writes its listing to standard output.

@@ -1,5 +1,8 @@
 // Judges one field of a packet, and counts the bytes of its number in the sheet. Nothing is written.
 // Parameters: `s` is the packet, `stop` the bit where its fields end, `at` the bit of the field, `n` the sheet bytes before it.
+
+#![tactic(auto)]
+
 pub mod header;
 pub mod row;
 

@@ -1,5 +1,8 @@
 // Judges the fields of a journey's packet, and counts the bytes of its sheet. Nothing is written.
 // Parameters: `s` is the packet, `stop` the bit where its fields end, `at` the bit where a part begins, `n` the sheet bytes before it.
+
+#![tactic(auto)]
+
 pub mod constraint;
 pub mod constraint_bytes;
 pub mod point;

@@ -1,5 +1,7 @@
 // A packet judged whole: its frame, its fields by its tree, and its padding; the bytes of its sheet are counted. Nothing is written.
 
+#![tactic(auto)]
+
 ghost use Rattle.std.specs.Prelude.{◌≡◌, ◌≤◌, length};
 ghost use Rattle.format.specs.internal.Places.{Placed};
 ghost use Rattle.grammar.specs.link.Link.{tree_number};

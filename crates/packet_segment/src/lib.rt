@@ -1,5 +1,8 @@
 // The fields of a segment's packet judged, with the bytes of its sheet counted: the fields before the lists, and the three lists. Nothing is written.
 // Parameters: `s` is the packet, `stop` the bit where its fields end, `at` the bit of the part, `n` the sheet bytes before it.
+
+#![tactic(auto)]
+
 pub mod element;
 pub mod head;
 

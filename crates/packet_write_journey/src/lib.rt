@@ -1,5 +1,8 @@
 // Writes the body of an accepted journey sheet's packet. No value is judged again.
 // Parameters: `sheet` is read and `room` is written, at the place `p` or `from`; each function returns the place after its part.
+
+#![tactic(auto)]
+
 pub mod constraint;
 pub mod point;
 

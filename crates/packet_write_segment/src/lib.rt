@@ -1,4 +1,7 @@
 // The packet of an accepted segment sheet, written part by part. What was accepted is not judged again.
+
+#![tactic(auto)]
+
 pub mod elements;
 pub mod row;
 

@@ -1,5 +1,8 @@
 // The restricted speed of a train at a place of a run of segments on a journey: the lowest of the permitted speed and of the journey's temporary constraints that hold there.
 // The segments are judged in order, then the journey, then the legs against the segments, then the train and the place; only then is the speed worked out.
+
+#![tactic(auto)]
+
 pub mod journey;
 pub mod travelled;
 

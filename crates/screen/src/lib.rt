@@ -1,4 +1,7 @@
 // The text of the wall screen: a line for each card of a cards file on the segment of a packet, or the line of a refusal.
+
+#![tactic(auto)]
+
 pub mod file;
 
 ghost use Rattle.std.specs.Prelude.{◌≡◌, ◌+◌, ◌≤◌, ◌<◌, length};

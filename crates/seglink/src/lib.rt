@@ -1,4 +1,7 @@
 // The thirteen public operations and the interface's number, under the names that the customer's server links. None has a `requires`: any bytes and numbers may be handed over.
+
+#![tactic(auto)]
+
 ghost use Rattle.std.specs.Prelude.{◌≡◌};
 ghost use Rattle.convert.specs.Convert.{packet_to_sheet, sheet_to_packet};
 ghost use Rattle.speed_question.specs.Question.{permitted_speed};

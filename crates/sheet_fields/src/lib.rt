@@ -1,5 +1,8 @@
 // Judges one field of a sheet, and counts the bits of its value in the packet. Nothing is written.
 // Parameters: `s` is the sheet, `at` the byte of the field's number, `n` the packet bits before it modulo 2^32.
+
+#![tactic(auto)]
+
 pub mod header;
 pub mod row;
 

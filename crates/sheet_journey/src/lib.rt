@@ -1,5 +1,8 @@
 // Judges the numbers of a journey's sheet, and counts the bits of its packet. Nothing is written.
 // Parameters: `s` is the sheet, `at` the byte where a part begins, `n` the packet bits before it modulo 2^32.
+
+#![tactic(auto)]
+
 pub mod constraint;
 pub mod point;
 

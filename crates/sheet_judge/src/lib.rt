@@ -1,5 +1,7 @@
 // A sheet judged whole: the packet number, the fields of its tree, and the verdict. Nothing is written.
 
+#![tactic(auto)]
+
 ghost use Rattle.std.specs.Prelude.{◌≡◌};
 ghost use Rattle.grammar.specs.link.Link.{tree_number};
 ghost use Rattle.verdict.specs.internal.Verdict.{sheet_verdict};

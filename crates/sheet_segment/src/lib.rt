@@ -1,6 +1,8 @@
 // The sheet of a segment judged part by part, with the bits of its packet counted. Nothing is written.
 // `at` is the byte where a part begins, `n` the packet bits counted before the part, modulo 2^32.
 
+#![tactic(auto)]
+
 ghost use Rattle.std.specs.Prelude.{◌≡◌, ◌<◌};
 ghost use Rattle.kinds.specs.Tables.{cant_figures};
 ghost use Rattle.grammar.specs.internal.rows.Rows as rows;

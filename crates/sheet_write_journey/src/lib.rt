@@ -1,5 +1,8 @@
 // The sheet of an accepted journey, written part by part into a room that holds all of it. What was accepted is not judged again.
 // Parameters: `packet` is the packet, `stop` the bit where its fields end, `at` the bit of the part, `room` the room, `n` the byte of `room` for the part's first number.
+
+#![tactic(auto)]
+
 pub mod constraint;
 pub mod rows;
 

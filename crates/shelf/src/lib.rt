@@ -1,6 +1,9 @@
 // The shelf: keeps segment sheets in a lent store and finds them by NID_C, NID_SP and version. The caller keeps the store and how many of its bytes are used.
 // A kept sheet is an entry: four bytes for its length, most significant first, then its bytes. A run is entries one after the other, with nothing between.
 // Places and sizes are in bytes.
+
+#![tactic(auto)]
+
 mod moves;
 mod run;
 

@@ -1,4 +1,7 @@
 // A train of a speed question: its measures, which of them are allowed, and the categories that it belongs to.
+
+#![tactic(auto)]
+
 ghost use Rattle.std.specs.Prelude.{◌≡◌, false, ◌%◌, get_or};
 ghost use Rattle.speed.specs.Speed.{valid_train, figure, limited, memberships};
 

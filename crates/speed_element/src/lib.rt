@@ -1,5 +1,7 @@
 // One element of a speed profile: the lowest speeds of the entries that name the train, the element's speed, and whether it holds.
 
+#![tactic(auto)]
+
 ghost use Rattle.std.specs.Prelude.{◌≡◌, ◌&&◌, [], min, ◌<◌};
 ghost use Rattle.speed.specs.Speed.{held_to, holds};
 ghost use Rattle.speed_element.specs.internal.Elements.{none, counted, Distant, cant_of, no_lows, instead_from, Kept, Worked, OneMore, element_with};

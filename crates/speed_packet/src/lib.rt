@@ -1,6 +1,8 @@
 // Passes over the speed profile of an accepted packet, element by element. What was accepted is not judged again.
 // Locations and lengths are in cm, speeds in km/h.
 
+#![tactic(auto)]
+
 ghost use Rattle.std.specs.Prelude.{◌≡◌, ◌+◌};
 ghost use Rattle.kinds.specs.Tables.{cant_figures};
 ghost use Rattle.grammar.specs.segment.Segment as segment;

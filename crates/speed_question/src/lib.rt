@@ -1,5 +1,8 @@
 // The permitted speed of a train at a place of a run of segments, from packets or from sheets.
 // The segments are judged whole, in order, then the train, then the place; only then is the speed worked out.
+
+#![tactic(auto)]
+
 pub mod run;
 
 ghost use Rattle.std.specs.Prelude.{◌≡◌};

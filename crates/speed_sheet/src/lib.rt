@@ -1,6 +1,8 @@
 // Passes over the speed profile of an accepted sheet, element by element. What was accepted is not judged again.
 // Locations and lengths are in cm, speeds in km/h.
 
+#![tactic(auto)]
+
 ghost use Rattle.std.specs.Prelude.{◌≡◌, ◌<◌, length};
 ghost use Rattle.grammar.specs.segment.Segment as segment;
 ghost use Rattle.grammar.specs.internal.segment.Parts as parts;

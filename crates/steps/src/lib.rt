@@ -1,5 +1,8 @@
 // Checks a supplier's speed steps against the permitted speed, at every centimetre of the last segment of a run.
 // The code looks only at places where a step or the permitted speed can change. Places are in cm, speeds in km/h.
+
+#![tactic(auto)]
+
 pub mod looking;
 pub mod spans;
 

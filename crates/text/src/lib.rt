@@ -1,4 +1,7 @@
 // The listing of a packet as text, written into a room that the caller lends.
+
+#![tactic(auto)]
+
 pub mod lines;
 pub mod sheet;
 pub mod words;

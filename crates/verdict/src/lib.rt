@@ -1,4 +1,7 @@
 // Verdicts on a packet and on a sheet: the size of the conversion's result, or a refusal with its place.
+
+#![tactic(auto)]
+
 pub mod frame;
 
 // `SheetBytes(bytes)`: the bytes of the packet's sheet. `Refused(number, bit)`.

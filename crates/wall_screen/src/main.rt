@@ -1,4 +1,7 @@
 // Shows the fleet on a wall screen: a line for each card of the file `cards` on the segment of the file `packet`, or a refusal.
+
+#![tactic(auto)]
+
 ghost use Rattle.std.specs.Prelude.{◌≤◌, length};
 
 use libc::STDOUT_FILENO;
