@@ -1,6 +1,6 @@
 -- The steps of the intake over plain values: a delivery, the completion, and the question for the sheet.
 use mathlib.Core.Path.{◌≡◌, refl}
-use mathlib.Core.Bool.{true, false, and_false}
+use mathlib.Core.Bool.{true, false, and-false}
 use mathlib.Core.List.{List, [], ◌++◌, append-nil}
 use Prim.Native.Nat.{ℕ, ◌+◌, ◌-◌, ◌≤◌, ◌<◌}
 use native.Mathlib.Nat.{le_refl, le_of_eq}
@@ -30,7 +30,7 @@ module _ (n : ℕ) (d room : List ℕ) {i : Intake} where
   put_past h e = rw (lt-leb (n + length d) (length room) h, e)
 
   pub put_uncounted : 4294967295 < n + length d → i ≡ passed → ◌≡◌ {A = Delivered} (record { intake = i; room = room }) (gathers_at n d room)
-  put_uncounted h e = rw (lt-leb (n + length d) 4294967295 h, and_false (leb (n + length d) (length room)), e)
+  put_uncounted h e = rw (lt-leb (n + length d) 4294967295 h, and-false (leb (n + length d) (length room)), e)
 
   pub put_held : n + length d ≤ length room → n + length d ≤ 4294967295 → i ≡ gathering (n + length d) → {end : List ℕ} → end ≡ take n room ++ (d ++ drop (n + length d) room)
       → ◌≡◌ {A = Delivered} (record { intake = i; room = end }) (gathers_at n d room)

@@ -1,6 +1,6 @@
 -- The cases that document 01 spells out, as facts of the field kinds: how speeds and currents are lowered, and which number each refused value gets.
 use mathlib.Core.Path.{◌≡◌, refl}
-use mathlib.Core.Bool.{false, and_false}
+use mathlib.Core.Bool.{false, and-false}
 use mathlib.Core.List.{[], ◌∷◌, map}
 use mathlib.Core.Option.{some}
 use Prim.Native.Nat.{ℕ, zero, suc, ◌/◌, ◌%◌, ◌^◌, ◌<◌, ◌≤◌}
@@ -64,7 +64,7 @@ operational_digit i zero v h e = absurd (omega arith)
 operational_digit zero (suc n) v h e = let d : v / 16 ^ 0 ≡ v = omega arith in let f : digit (v % 16) ≡ false = rw d at e in rw f
 operational_digit (suc i) (suc n) v h e =
     let d : v / 16 ^ suc i ≡ v / 16 / 16 ^ i = rw (pow-succ', ← div-div-eq-div-mul v 16 (16 ^ i)) in
-    rw (operational_digit i n (v / 16) (omega arith) (rw d at e)) (and_false (digit (v % 16)))
+    rw (operational_digit i n (v / 16) (omega arith) (rw d at e)) (and-false (digit (v % 16)))
 
 -- "NID_CTRACTION .. is 0 where the voltage is 0"
 pub traction_0 : (v : ℕ) → number_in_sheet (nid_c_traction 0) (suc v) ≡ Refused 4

@@ -16,7 +16,7 @@ impl NidC {
     pub const LARGEST: u32 = 1023;
 
     pub fn rule() -> Rule
-        ensures* { do ⌜ Keeps nid_c (← (⟦NidC::WIDTH⟧).entry) (← (⟦NidC::LARGEST⟧).entry) result ⌝ }
+        ensures { Keeps nid_c Self.WIDTH Self.LARGEST result }
     {
         up_to(Self::WIDTH, Self::LARGEST)
     }
@@ -32,7 +32,7 @@ impl NidSp {
     pub const LARGEST: u32 = 4294967295;
 
     pub fn rule() -> Rule
-        ensures* { do ⌜ Keeps nid_sp (← (⟦NidSp::WIDTH⟧).entry) (← (⟦NidSp::LARGEST⟧).entry) result ⌝ }
+        ensures { Keeps nid_sp Self.WIDTH Self.LARGEST result }
     {
         up_to(Self::WIDTH, Self::LARGEST)
     }
@@ -48,7 +48,7 @@ impl MSpVersion {
     pub const LARGEST: u32 = 255;
 
     pub fn rule() -> Rule
-        ensures* { do ⌜ Keeps m_sp_version (← (⟦MSpVersion::WIDTH⟧).entry) (← (⟦MSpVersion::LARGEST⟧).entry) result ⌝ }
+        ensures { Keeps m_sp_version Self.WIDTH Self.LARGEST result }
     {
         up_to(Self::WIDTH, Self::LARGEST)
     }
@@ -67,7 +67,7 @@ impl LSp {
 
     // Returns the rule for a length of `LEAST` to `LARGEST` cm.
     pub fn rule() -> Rule
-        ensures* { do ⌜ Keeps l_sp (← (⟦LSp::WIDTH⟧).entry) (← (⟦LSp::LARGEST⟧).entry) result ⌝ }
+        ensures { Keeps l_sp Self.WIDTH Self.LARGEST result }
     {
         Rule::Range {
             width: Self::WIDTH,
@@ -88,7 +88,7 @@ impl DEoAOffset {
     pub const LARGEST: u32 = 16777215;
 
     pub fn rule() -> Rule
-        ensures* { do ⌜ Keeps d_eoa_offset (← (⟦DEoAOffset::WIDTH⟧).entry) (← (⟦DEoAOffset::LARGEST⟧).entry) result ⌝ }
+        ensures { Keeps d_eoa_offset Self.WIDTH Self.LARGEST result }
     {
         up_to(Self::WIDTH, Self::LARGEST)
     }
@@ -104,7 +104,7 @@ impl QUtcOffset {
     pub const LARGEST: u32 = 112;
 
     pub fn rule() -> Rule
-        ensures* { do ⌜ Keeps q_utc_offset (← (⟦QUtcOffset::WIDTH⟧).entry) (← (⟦QUtcOffset::LARGEST⟧).entry) result ⌝ }
+        ensures { Keeps q_utc_offset Self.WIDTH Self.LARGEST result }
     {
         up_to(Self::WIDTH, Self::LARGEST)
     }
@@ -120,7 +120,7 @@ impl MSpAltitude {
     pub const LARGEST: u32 = 1048575;
 
     pub fn rule() -> Rule
-        ensures* { do ⌜ Keeps m_sp_altitude (← (⟦MSpAltitude::WIDTH⟧).entry) (← (⟦MSpAltitude::LARGEST⟧).entry) result ⌝ }
+        ensures { Keeps m_sp_altitude Self.WIDTH Self.LARGEST result }
     {
         up_to(Self::WIDTH, Self::LARGEST)
     }
@@ -138,7 +138,7 @@ impl VStatic {
     pub const STEP: u32 = 5;
 
     pub fn rule() -> Rule
-        ensures* { do ⌜ Keeps speed (← (⟦VStatic::WIDTH⟧).entry) (← (⟦VStatic::LARGEST⟧).entry) result ⌝ }
+        ensures { Keeps speed Self.WIDTH Self.LARGEST result }
     {
         Rule::Speed
     }
@@ -154,7 +154,7 @@ impl QFront {
     pub const LARGEST: u32 = 1;
 
     pub fn rule() -> Rule
-        ensures* { do ⌜ Keeps q_front (← (⟦QFront::WIDTH⟧).entry) (← (⟦QFront::LARGEST⟧).entry) result ⌝ }
+        ensures { Keeps q_front Self.WIDTH Self.LARGEST result }
     {
         up_to(Self::WIDTH, Self::LARGEST)
     }
@@ -170,7 +170,7 @@ impl NIter {
     pub const LARGEST: u32 = 31;
 
     pub fn rule(most: u32) -> Rule
-        ensures* { do ⌜ Keeps (n_iter most) (← (⟦NIter::WIDTH⟧).entry) most result ⌝ }
+        ensures { Keeps (n_iter most) Self.WIDTH most result }
     {
         up_to(Self::WIDTH, most)
     }
@@ -186,7 +186,7 @@ impl QDiff {
     pub const LARGEST: u32 = 2;
 
     pub fn rule() -> Rule
-        ensures* { do ⌜ Keeps q_diff (← (⟦QDiff::WIDTH⟧).entry) (← (⟦QDiff::LARGEST⟧).entry) result ⌝ }
+        ensures { Keeps q_diff Self.WIDTH Self.LARGEST result }
     {
         up_to(Self::WIDTH, Self::LARGEST)
     }
@@ -202,7 +202,7 @@ impl NcCdDiff {
     pub const LARGEST: u32 = 10;
 
     pub fn rule() -> Rule
-        ensures* { do ⌜ Keeps nc_cd_diff (← (⟦NcCdDiff::WIDTH⟧).entry) (← (⟦NcCdDiff::LARGEST⟧).entry) result ⌝ }
+        ensures { Keeps nc_cd_diff Self.WIDTH Self.LARGEST result }
     {
         Rule::Cant
     }
@@ -218,7 +218,7 @@ impl NcDiff {
     pub const LARGEST: u32 = 2;
 
     pub fn rule() -> Rule
-        ensures* { do ⌜ Keeps nc_diff (← (⟦NcDiff::WIDTH⟧).entry) (← (⟦NcDiff::LARGEST⟧).entry) result ⌝ }
+        ensures { Keeps nc_diff Self.WIDTH Self.LARGEST result }
     {
         up_to(Self::WIDTH, Self::LARGEST)
     }
@@ -234,7 +234,7 @@ impl DLocation {
     pub const LARGEST: u32 = 16777215;
 
     pub fn rule(last: u32, lsp: u32) -> Rule
-        ensures* { do ⌜ Keeps (d_location last lsp) (← (⟦DLocation::WIDTH⟧).entry) (← (⟦DLocation::LARGEST⟧).entry) result ⌝ }
+        ensures { Keeps (d_location last lsp) Self.WIDTH Self.LARGEST result }
     {
         Rule::Location { last, lsp }
     }
@@ -250,7 +250,7 @@ impl MVoltage {
     pub const LARGEST: u32 = 5;
 
     pub fn rule() -> Rule
-        ensures* { do ⌜ Keeps m_voltage (← (⟦MVoltage::WIDTH⟧).entry) (← (⟦MVoltage::LARGEST⟧).entry) result ⌝ }
+        ensures { Keeps m_voltage Self.WIDTH Self.LARGEST result }
     {
         Rule::Volts
     }
@@ -299,7 +299,7 @@ impl MCurrent {
     pub const STEP: u32 = 10;
 
     pub fn rule() -> Rule
-        ensures* { do ⌜ Keeps m_current (← (⟦MCurrent::WIDTH⟧).entry) (← (⟦MCurrent::LARGEST⟧).entry) result ⌝ }
+        ensures { Keeps m_current Self.WIDTH Self.LARGEST result }
     {
         Rule::Current
     }

@@ -22,7 +22,7 @@ impl NidPacketAto {
 
     // Returns the rule for the packet number of a segment.
     pub fn rule() -> Rule
-        ensures* { do ⌜ Keeps nid_packet_ato (← (⟦NidPacketAto::WIDTH⟧).entry) (← (⟦NidPacketAto::LARGEST⟧).entry) result ⌝ }
+        ensures { Keeps nid_packet_ato Self.WIDTH Self.LARGEST result }
     {
         Rule::Range {
             width: Self::WIDTH,
@@ -43,7 +43,7 @@ impl LPacketAto {
     pub const LARGEST: u32 = 65535;
 
     pub fn rule() -> Rule
-        ensures* { do ⌜ Keeps l_packet_ato (← (⟦LPacketAto::WIDTH⟧).entry) (← (⟦LPacketAto::LARGEST⟧).entry) result ⌝ }
+        ensures { Keeps l_packet_ato Self.WIDTH Self.LARGEST result }
     {
         up_to(Self::WIDTH, Self::LARGEST)
     }
@@ -59,7 +59,7 @@ impl NidOperational {
     pub const LARGEST: u32 = 4294967295;
 
     pub fn rule() -> Rule
-        ensures* { do ⌜ Keeps nid_operational (← (⟦NidOperational::WIDTH⟧).entry) (← (⟦NidOperational::LARGEST⟧).entry) result ⌝ }
+        ensures { Keeps nid_operational Self.WIDTH Self.LARGEST result }
     {
         Rule::Operational
     }
@@ -75,7 +75,7 @@ impl NidEngine {
     pub const LARGEST: u32 = 16777215;
 
     pub fn rule() -> Rule
-        ensures* { do ⌜ Keeps nid_engine (← (⟦NidEngine::WIDTH⟧).entry) (← (⟦NidEngine::LARGEST⟧).entry) result ⌝ }
+        ensures { Keeps nid_engine Self.WIDTH Self.LARGEST result }
     {
         up_to(Self::WIDTH, Self::LARGEST)
     }
@@ -91,7 +91,7 @@ impl TTimestampDate {
     pub const LARGEST: u32 = 32767;
 
     pub fn rule() -> Rule
-        ensures* { do ⌜ Keeps t_timestamp_date (← (⟦TTimestampDate::WIDTH⟧).entry) (← (⟦TTimestampDate::LARGEST⟧).entry) result ⌝ }
+        ensures { Keeps t_timestamp_date Self.WIDTH Self.LARGEST result }
     {
         up_to(Self::WIDTH, Self::LARGEST)
     }
@@ -107,7 +107,7 @@ impl TTimestampSeconds {
     pub const LARGEST: u32 = 86399;
 
     pub fn rule() -> Rule
-        ensures* { do ⌜ Keeps t_timestamp_seconds (← (⟦TTimestampSeconds::WIDTH⟧).entry) (← (⟦TTimestampSeconds::LARGEST⟧).entry) result ⌝ }
+        ensures { Keeps t_timestamp_seconds Self.WIDTH Self.LARGEST result }
     {
         up_to(Self::WIDTH, Self::LARGEST)
     }
@@ -123,7 +123,7 @@ impl NPacketCounter {
     pub const LARGEST: u32 = 255;
 
     pub fn rule() -> Rule
-        ensures* { do ⌜ Keeps n_packet_counter (← (⟦NPacketCounter::WIDTH⟧).entry) (← (⟦NPacketCounter::LARGEST⟧).entry) result ⌝ }
+        ensures { Keeps n_packet_counter Self.WIDTH Self.LARGEST result }
     {
         up_to(Self::WIDTH, Self::LARGEST)
     }

@@ -17,7 +17,7 @@ impl QJpStatus {
     pub const LARGEST: u32 = 4;
 
     pub fn rule() -> Rule
-        ensures* { do ⌜ Keeps kind.q_jp_status (← (⟦QJpStatus::WIDTH⟧).entry) (← (⟦QJpStatus::LARGEST⟧).entry) result ⌝ }
+        ensures { Keeps kind.q_jp_status Self.WIDTH Self.LARGEST result }
     {
         up_to(Self::WIDTH, Self::LARGEST)
     }
@@ -33,7 +33,7 @@ impl NIterSp {
     pub const LARGEST: u32 = 255;
 
     pub fn rule() -> Rule
-        ensures* { do ⌜ Keeps kind.n_iter_sp (← (⟦NIterSp::WIDTH⟧).entry) (← (⟦NIterSp::LARGEST⟧).entry) result ⌝ }
+        ensures { Keeps kind.n_iter_sp Self.WIDTH Self.LARGEST result }
     {
         up_to(Self::WIDTH, Self::LARGEST)
     }
@@ -49,7 +49,7 @@ impl QSpDir {
     pub const LARGEST: u32 = 1;
 
     pub fn rule() -> Rule
-        ensures* { do ⌜ Keeps kind.q_sp_dir (← (⟦QSpDir::WIDTH⟧).entry) (← (⟦QSpDir::LARGEST⟧).entry) result ⌝ }
+        ensures { Keeps kind.q_sp_dir Self.WIDTH Self.LARGEST result }
     {
         up_to(Self::WIDTH, Self::LARGEST)
     }
@@ -65,7 +65,7 @@ impl NidTp {
     pub const LARGEST: u32 = 4294967295;
 
     pub fn rule() -> Rule
-        ensures* { do ⌜ Keeps kind.nid_tp (← (⟦NidTp::WIDTH⟧).entry) (← (⟦NidTp::LARGEST⟧).entry) result ⌝ }
+        ensures { Keeps kind.nid_tp Self.WIDTH Self.LARGEST result }
     {
         up_to(Self::WIDTH, Self::LARGEST)
     }
@@ -81,7 +81,7 @@ impl TLatestArrivalDate {
     pub const LARGEST: u32 = 32767;
 
     pub fn rule() -> Rule
-        ensures* { do ⌜ Keeps kind.t_latest_arrival_date (← (⟦TLatestArrivalDate::WIDTH⟧).entry) (← (⟦TLatestArrivalDate::LARGEST⟧).entry) result ⌝ }
+        ensures { Keeps kind.t_latest_arrival_date Self.WIDTH Self.LARGEST result }
     {
         up_to(Self::WIDTH, Self::LARGEST)
     }
@@ -97,7 +97,7 @@ impl TLatestArrivalSeconds {
     pub const LARGEST: u32 = 86400;
 
     pub fn rule() -> Rule
-        ensures* { do ⌜ Keeps kind.t_latest_arrival_seconds (← (⟦TLatestArrivalSeconds::WIDTH⟧).entry) (← (⟦TLatestArrivalSeconds::LARGEST⟧).entry) result ⌝ }
+        ensures { Keeps kind.t_latest_arrival_seconds Self.WIDTH Self.LARGEST result }
     {
         up_to(Self::WIDTH, Self::LARGEST)
     }
@@ -113,7 +113,7 @@ impl TArrivalWindow {
     pub const LARGEST: u32 = 1023;
 
     pub fn rule() -> Rule
-        ensures* { do ⌜ Keeps kind.t_arrival_window (← (⟦TArrivalWindow::WIDTH⟧).entry) (← (⟦TArrivalWindow::LARGEST⟧).entry) result ⌝ }
+        ensures { Keeps kind.t_arrival_window Self.WIDTH Self.LARGEST result }
     {
         up_to(Self::WIDTH, Self::LARGEST)
     }
@@ -129,7 +129,7 @@ impl QTpAlignment {
     pub const LARGEST: u32 = 2;
 
     pub fn rule() -> Rule
-        ensures* { do ⌜ Keeps kind.q_tp_alignment (← (⟦QTpAlignment::WIDTH⟧).entry) (← (⟦QTpAlignment::LARGEST⟧).entry) result ⌝ }
+        ensures { Keeps kind.q_tp_alignment Self.WIDTH Self.LARGEST result }
     {
         up_to(Self::WIDTH, Self::LARGEST)
     }
@@ -147,7 +147,7 @@ impl QStopSkipPasses {
     pub const PASSING: u32 = 2;
 
     pub fn rule() -> Rule
-        ensures* { do ⌜ Keeps kind.q_stop_skip_passes (← (⟦QStopSkipPasses::WIDTH⟧).entry) (← (⟦QStopSkipPasses::LARGEST⟧).entry) result ⌝ }
+        ensures { Keeps kind.q_stop_skip_passes Self.WIDTH Self.LARGEST result }
     {
         up_to(Self::WIDTH, Self::LARGEST)
     }
@@ -163,7 +163,7 @@ impl QTpInformation {
     pub const LARGEST: u32 = 1;
 
     pub fn rule() -> Rule
-        ensures* { do ⌜ Keeps kind.q_tp_information (← (⟦QTpInformation::WIDTH⟧).entry) (← (⟦QTpInformation::LARGEST⟧).entry) result ⌝ }
+        ensures { Keeps kind.q_tp_information Self.WIDTH Self.LARGEST result }
     {
         up_to(Self::WIDTH, Self::LARGEST)
     }
@@ -179,7 +179,7 @@ impl QDayLightSaving {
     pub const LARGEST: u32 = 1;
 
     pub fn rule() -> Rule
-        ensures* { do ⌜ Keeps kind.q_day_light_saving (← (⟦QDayLightSaving::WIDTH⟧).entry) (← (⟦QDayLightSaving::LARGEST⟧).entry) result ⌝ }
+        ensures { Keeps kind.q_day_light_saving Self.WIDTH Self.LARGEST result }
     {
         up_to(Self::WIDTH, Self::LARGEST)
     }
@@ -348,7 +348,7 @@ impl QTcType {
     pub const ADHESION: u32 = 1;
 
     pub fn rule() -> Rule
-        ensures* { do ⌜ Keeps kind.q_tc_type (← (⟦QTcType::WIDTH⟧).entry) (← (⟦QTcType::LARGEST⟧).entry) result ⌝ }
+        ensures { Keeps kind.q_tc_type Self.WIDTH Self.LARGEST result }
     {
         up_to(Self::WIDTH, Self::LARGEST)
     }
@@ -370,7 +370,7 @@ impl QTcRange {
     pub const BOTH: u32 = 2;
 
     pub fn rule() -> Rule
-        ensures* { do ⌜ Keeps kind.q_tc_range (← (⟦QTcRange::WIDTH⟧).entry) (← (⟦QTcRange::LARGEST⟧).entry) result ⌝ }
+        ensures { Keeps kind.q_tc_range Self.WIDTH Self.LARGEST result }
     {
         up_to(Self::WIDTH, Self::LARGEST)
     }

@@ -1,6 +1,6 @@
 -- The answers of the operations, from what the judgement of a store has found.
 use mathlib.Core.Path.{◌≡◌, refl, sym, ap, ap₂, ◌∙◌}
-use mathlib.Core.Bool.{Bool, true, false, cond, ◌&&◌, and_false}
+use mathlib.Core.Bool.{Bool, true, false, cond, ◌&&◌, and-false}
 use mathlib.Core.List.{List, [], ◌∷◌, ◌++◌}
 use mathlib.Core.Option.{Option, none, some}
 use Prim.Native.Nat.{ℕ, ◌+◌, ◌-◌, ◌≤◌, ◌<◌}
@@ -37,7 +37,7 @@ module _ (s : List ℕ) (used : ℕ) (k : Key) where
   long_judged h = rw (lt-leb (length s) 65536 h)
 
   pub past_judged : length s < used → NoShelf ≡ scanned k (book_of s used)
-  past_judged h = rw (lt-leb used (length s) h, and_false (leb (length s) 65536))
+  past_judged h = rw (lt-leb used (length s) h, and-false (leb (length s) 65536))
 
   pub run_judged_lem : length s ≤ 65536 → used ≤ length s → {r : Scan} → r ≡ scanned k (distinct (sheets_in (length (take used s)) (take used s))) → r ≡ scanned k (book_of s used)
   run_judged_lem h i e =

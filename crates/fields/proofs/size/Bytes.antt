@@ -1,6 +1,6 @@
 -- The bytes of a value in the sheet: 0 exactly where it is refused.
 use Rattle.std.proofs.Common.{◌≡◌, ℕ, zero, suc, ◌+◌, ◌*◌, ◌/◌, ◌<◌, ◌≤◌, Bool, true, false, cond, ◌&&◌, eqb, ltb, leb, List, length, get_or, sym, refl, ap, ◌∙◌, arith, lit<, lit≤, le-ltb, lt-ltb, ne_eqb, eqb-true, le-leb, leb-false, leb-true}
-use mathlib.Core.Bool.{and_false}
+use mathlib.Core.Bool.{and-false}
 use borrow.Author.Tests.{lt-leb}
 use mir.Val.{bool_byte}
 use Rattle.bits.proofs.Tests.{by_cases, each_at}
@@ -26,7 +26,7 @@ pub low_out : (least largest v : ℕ) → v < least → (leb least v && leb v la
 low_out least largest v h = rw (lt-leb least v h)
 
 pub high_out : (least largest v : ℕ) → largest < v → (leb least v && leb v largest) ≡ false
-high_out least largest v h = rw (lt-leb v largest h) (and_false (leb least v))
+high_out least largest v h = rw (lt-leb v largest h) (and-false (leb least v))
 
 pub both_in : (least largest v : ℕ) → least ≤ v → v ≤ largest → (leb least v && leb v largest) ≡ true
 both_in least largest v h l = rw (le-leb least v h, le-leb v largest l)
@@ -60,7 +60,7 @@ module _ (last lsp v : ℕ) where
   location_low h = rw (le-ltb last v h)
 
   pub location_high_lem : lsp ≤ v → (ltb last v && ltb v lsp) ≡ false
-  location_high_lem h = rw (le-ltb v lsp h) (and_false (ltb last v))
+  location_high_lem h = rw (le-ltb v lsp h) (and-false (ltb last v))
 
   pub location_in : last < v → v < lsp → (ltb last v && ltb v lsp) ≡ true
   location_in h l = rw (lt-ltb last v h, lt-ltb v lsp l)
@@ -71,7 +71,7 @@ module _ (start most v : ℕ) where
   after_low h = rw (le-ltb start v h)
 
   pub after_high : most < v → (ltb start v && leb v most) ≡ false
-  after_high h = rw (lt-leb v most h) (and_false (ltb start v))
+  after_high h = rw (lt-leb v most h) (and-false (ltb start v))
 
   pub after_in : start < v → v ≤ most → (ltb start v && leb v most) ≡ true
   after_in h l = rw (lt-ltb start v h, le-leb v most l)

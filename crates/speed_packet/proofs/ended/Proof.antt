@@ -5,7 +5,7 @@ use Rattle.speed_packet.proofs.Fields.{entry_whole}
 use Rattle.speed_element.proofs.Reading.{Entered, entered_all, entered_next, entry_readable, ended_read, ended_not}
 use Rattle.speed_packet.specs.internal.Asking.{Reads}
 use borrow.Author.Rules.{rules}
-use borrow.Author.Tests.{not_true, not_false}
+use borrow.Author.Tests.{not-true, not-false}
 use Rattle.speed_packet.proofs.ended.Statement.{statement}
 use Rattle.speed_packet.proofs.ended.Tie as tie
 
@@ -16,7 +16,7 @@ abbrev decreases-loop : tie.decreases-loop
 decreases-loop s «open» train held end x figures lows₀ to₀ left₀ lows to left = left
 
 returns : tie.Need-returns invariant-loop decreases-loop
-returns c = ended_not (Reads c.before.before.before.args.s.now) (sym c.before.holds.ensures ∙ not_true _ c.if1.true)
+returns c = ended_not (Reads c.before.before.before.args.s.now) (sym c.before.holds.ensures ∙ not-true _ c.if1.true)
 
 no-lows-requires : tie.Need-no-lows-requires invariant-loop decreases-loop
 no-lows-requires c κs = tt
@@ -42,7 +42,7 @@ lowered-requires c κs = c.before.before.before.before.before.before.requires.be
 returns-2 : tie.Need-returns-2 invariant-loop decreases-loop
 returns-2 c =
     let b = c.before.before.before.before.before.before.before in
-    ended_read (Reads b.args.s.now) (sym c.before.before.before.before.before.holds.ensures ∙ not_false _ c.before.before.before.before.if1.false) c.before.before.loop.invariant (omega (arith, c.before.loop-test.false)) c.lowered.ensures (omega arith)
+    ended_read (Reads b.args.s.now) (sym c.before.before.before.before.before.holds.ensures ∙ not-false _ c.before.before.before.before.if1.false) c.before.before.loop.invariant (omega (arith, c.before.loop-test.false)) c.lowered.ensures (omega arith)
 
 pub ended_spec : {M : Type 1} → statement M
 ended_spec =

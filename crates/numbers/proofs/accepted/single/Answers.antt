@@ -1,0 +1,16 @@
+-- `numbers::accepted::single` meets its contract.
+use Rattle.numbers.proofs.accepted.Groups.{there_inside, single_reads}
+use native.Mathlib.Omega.{arith}
+use borrow.Author.Rules.{rules}
+use Rattle.numbers.proofs.accepted.single.Goals as goal
+
+pub bounds-s-from : goal.bounds-s-from
+bounds-s-from c = there_inside c.requires.there
+
+pub overflow_add-result : goal.overflow_add-result
+overflow_add-result c = omega (arith, there_inside c.requires.there)
+
+pub returns : goal.returns
+returns c =
+    let b = c in
+    single_reads b.requires.there c.wide.ensures (c.type_inv.s b.args.from).fits b.requires.small
