@@ -1,0 +1,12 @@
+-- `fields::raise::class` meets its contract.
+use Rattle.std.proofs.Common.{◌∙◌, rules}
+use Rattle.fields.proofs.raise.Raised.{class_place, class_raised}
+use Rattle.fields.proofs.raise.class.Goals as goal
+
+pub bounds-figures-chosen : goal.bounds-figures-chosen
+bounds-figures-chosen c = rw c.chosen.ensures (class_place c.args.q_diff c.args.v c.requires.1)
+
+pub returns : goal.returns
+returns c =
+    let b = c in
+    c.chosen-2.ensures ∙ rw (c.chosen.ensures, b.requires.0) (class_raised b.args.q_diff b.args.v)

@@ -1,0 +1,6 @@
+-- `fields::width` meets its contract.
+use Rattle.std.proofs.Common.{rules}
+use Rattle.fields.proofs.width.Goals as goal
+
+pub returns-in-Range : goal.returns-in-Range
+returns-in-Range c = rw c.in-Range.is
