@@ -43,6 +43,7 @@ all_front (also g c) = past g (all_front c)
 -- what holds of every kind holds of the one after a front
 pub every_front : {Holds : Kind → Type 0} {Good : Kind → Item → Type 0} {f : Format} {l : List Item} {k : Kind} {next : ℕ → Format}
     → Every Holds f → Front Good f l (field k next) → Holds k
+every_front {Holds = Holds} {Good = Good} {l = l} {k = k} {next = next} at_end x = elim x [ ]
 every_front (each h e) here = h
 every_front (each h e) (past {i = i} g c) = every_front (e i.packet) c
 

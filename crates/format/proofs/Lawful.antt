@@ -41,7 +41,7 @@ lowered_bits end l = refl
 lowered_bits (field k next) [] = refl
 lowered_bits (field k next) (i ∷ l) = ap (λ (s : List Bool). bits_of k.width i.packet ++ s) (lowered_bits (next i.packet) l)
 
-pub lowered_values : {f : Format} {l : List Item} {Good : Kind → Item → Type 0} → Conforming Good f l → packet_values (given_back f l) ≡ packet_values l
+pub lowered_values : {Good : Kind → Item → Type 0} {f : Format} {l : List Item} → Conforming Good f l → packet_values (given_back f l) ≡ packet_values l
 lowered_values done = refl
 lowered_values (also {i = i} g c) = ap (λ (s : List ℕ). i.packet ∷ s) (lowered_values c)
 

@@ -1,4 +1,5 @@
 -- The ends of what is on the link: how long a packet and a sheet are, of a segment or a journey.
+use mathlib.Core.List.{[]}
 use mathlib.Core.Path.{◌≡◌, ap}
 use mathlib.Core.Bool.{◌||◌}
 use mathlib.Core.List.{List, ◌∷◌}
@@ -85,6 +86,7 @@ module _ {l : List Item} (v : EitherSheetValues l) where
   by_tree C f = go l v.good v.few
     where
       go : (k : List Item) → Conforming InSheet link_fields k → length (link_bits k) ≤ 96 + 65535 → C k
+      go [] c few = elim c [ ]
       go (i ∷ m) c few =
           tree_conforming {i = i} {l = m} c λ t e r w.
           let x : Conforming InSheet (tree_sheet_fields t) (number_item (tree_number t) ∷ m) = rw e at w in

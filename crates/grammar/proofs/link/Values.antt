@@ -1,4 +1,5 @@
 -- Packets and sheets of the link: what is accepted is written of good values, and what is written of good values is accepted.
+use mathlib.Core.List.{[]}
 use mathlib.Core.Path.{◌≡◌, refl, sym, ap, subst, ◌∙◌}
 use mathlib.Core.List.{List, ◌∷◌, ◌++◌}
 use Prim.Native.Nat.{ℕ, ◌+◌, ◌-◌, ◌≤◌}
@@ -61,6 +62,7 @@ number_is i r = λ j. record { sheet = r j; packet = i.packet }
 
 taken_of : (l : List Item) → Conforming InPacket link_fields l → length (link_bits l) ≤ 96 + 65535 → from_either_packet (to_either_packet l) ≡ accepted l
 unfolding from_either_packet to_either_packet link_fields
+taken_of [] x' few = elim x' [ ]
 taken_of (i ∷ l) (also g c) few =
     let t : Tree = tree_of i.packet in
     let s : List ℕ = to_either_packet (i ∷ l) in

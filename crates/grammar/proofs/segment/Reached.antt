@@ -214,6 +214,7 @@ module _ (limit : ℕ) (h : limit ≤ 31) where
   body_within : (l : List Item) → Conforming InSheet (sheet_fields limit) l
       → (96 + 185 ≤ length (write packet (fields limit) (after_number l))) × (length (write packet (fields limit) (after_number l)) ≤ 96 + most_bits limit)
   unfolding sheet_fields
+  body_within [] x' = elim x' [ ]
   body_within (i ∷ l) (also g c) = (size_least lowered_priced (fields_bits limit h) c, size_most lowered_priced (fields_bits limit h) c)
 
   sheet_within : (l : List Item) → Conforming InSheet (sheet_fields limit) l → (23 ≤ length (to_sheet limit l)) × (length (to_sheet limit l) ≤ most_sheet limit)
