@@ -120,12 +120,14 @@ module _ (from lsp : ℕ) (f : Format) where
   changes_within : (n last : ℕ) (l : List Item) → Conforming InSheet (changes profile lsp last n f) l → ElementsWithin (changes_from from n (sheet_numbers l))
   unfolding changes
   changes_within zero last l c = tt
+  changes_within (suc n) last [] c = elim c [ ]
   changes_within (suc n) last (x ∷ l) (also gx c) =
       let e = profile_within (from + x.sheet) (changes profile lsp x.packet n f) l c in
       (e.fine.0, e.fine.1, rw e.there (changes_within n x.packet e.rest e.good))
 
   counted_within : (l : List Item) → Conforming InSheet (field (n_iter 31) λ n. changes profile lsp 0 n f) l
       → ElementsWithin (changes_from from (get_or (sheet_numbers l) 0 0) (drop 1 (sheet_numbers l)))
+  counted_within [] x' = elim x' [ ]
   counted_within (n ∷ l) (also gn c) = rw (same_is n gn) at (changes_within n.packet 0 l c)
 
   elements_within : (l : List Item) → Conforming InSheet (part profile 31 lsp f) l → ElementsWithin (elements_from from (sheet_numbers l))

@@ -1,4 +1,5 @@
 -- A packet gives back a segment's L_SP as it was and its elements lowered: along the segment's tree, element by element.
+use mathlib.Core.List.{[]}
 use mathlib.Core.Path.{◌≡◌, refl, sym, ap, ap₂, ◌∙◌}
 use mathlib.Core.Bool.{Bool, true, false}
 use mathlib.Core.List.{List, ◌∷◌, map}
@@ -33,6 +34,7 @@ class_is (suc q) i g = same_is i g
 -- values that conform to a field: the field's value, and the values after it
 pub apart : {k : Kind} {next : ℕ → Format} (C : List Item → Type 0) (l : List Item) → Conforming InSheet (field k next) l
     → ((i : Item) (m : List Item) → InSheet k i → Conforming InSheet (next i.packet) m → C (i ∷ m)) → C l
+apart {k = k} {next = next} C [] x' f = elim x' [ ]
 apart C (i ∷ l) (also g c) f = f i l g c
 
 -- ---- entries
@@ -96,6 +98,7 @@ module _ (from lsp : ℕ) (f : Format) where
   changes_lowered : (n last : ℕ) (l : List Item) → Conforming InSheet (changes profile lsp last n f) l
       → changes_from from n (sheet_numbers (given_back (changes profile lsp last n f) l)) ≡ map element_in_fives (changes_from from n (sheet_numbers l))
   unfolding changes
+  changes_lowered (suc n) last [] c = elim c [ ]
   changes_lowered zero last l c = refl
   changes_lowered (suc n) last (x ∷ l) (also gx c) =
       let ex : x.packet ≡ x.sheet = same_is x gx in
@@ -108,6 +111,7 @@ module _ (from lsp : ℕ) (f : Format) where
       → let low : List ℕ = sheet_numbers (given_back (field (n_iter 31) λ n. changes profile lsp 0 n f) l) in
       let s : List ℕ = sheet_numbers l in
       changes_from from (get_or low 0 0) (drop 1 low) ≡ map element_in_fives (changes_from from (get_or s 0 0) (drop 1 s))
+  counted [] x' = elim x' [ ]
   counted (n ∷ l) (also gn c) =
       let en : n.packet ≡ n.sheet = same_is n gn in
       changes_lowered n.packet 0 l c ∙ ap (λ (z : ℕ). map element_in_fives (changes_from from z (sheet_numbers l))) en
@@ -139,6 +143,7 @@ module _ {whole : Format} {l : List Item} {n : ℕ} {k : Kind} where
     where
       go : (r : List Item) → Conforming InSheet (field k next) r → drop n (sheet_numbers l) ≡ sheet_numbers r
           → drop n (sheet_numbers (given_back whole l)) ≡ sheet_numbers (given_back (field k next) r) → C
+      go [] x3 here there = elim x3 [ ]
       go (i ∷ m) (also g c) here there =
           f i g (ap (λ (s : List ℕ). get_or s 0 0) here) (ap (λ (s : List ℕ). get_or s 0 0) there)
           (record {

@@ -25,6 +25,7 @@ use Rattle.speed.specs.Standing.{EntriesStand, ElementStands, ChangesStand, Prof
 module _ (Good : Kind → Item → Type 0) (count : (i : Item) → Good (n_iter 31) i → i.packet ≡ i.sheet) where
   apart : {k : Kind} {next : ℕ → Format} (C : List Item → Type 0) (l : List Item) → Conforming Good (field k next) l
       → ((i : Item) (m : List Item) → Good k i → Conforming Good (next i.packet) m → C (i ∷ m)) → C l
+  apart {k = k} {next = next} C [] x' f = elim x' [ ]
   apart C (i ∷ l) (also g c) f = f i l g c
 
   -- ---- they stand there
@@ -73,6 +74,7 @@ module _ (Good : Kind → Item → Type 0) (count : (i : Item) → Good (n_iter 
     changes_stand : (n last : ℕ) (l : List Item) → Conforming Good (changes profile lsp last n f) l → ChangesStood n last l
     unfolding changes
     changes_stand zero last l c = (l, ChangesStand.none, c)
+    changes_stand (suc n) last [] c = elim c [ ]
     changes_stand (suc n) last (x ∷ l) (also gx c) =
         let e = element_stands (from + x.sheet) (changes profile lsp x.packet n f) l c in
         let r = changes_stand n x.packet e.follow e.good in
@@ -86,6 +88,7 @@ module _ (Good : Kind → Item → Type 0) (count : (i : Item) → Good (n_iter 
       where
         go : (k : List Item) → Conforming Good (field (n_iter 31) λ n. changes profile lsp 0 n f) k → ElementStands Good k (from + 0) l (element_of (from + 0) (sheet_numbers l))
             → after_element (sheet_numbers l) ≡ sheet_numbers k → (m : List Item) × ProfileStands Good m from lsp l (elements_from from (sheet_numbers l)) × Conforming Good f m
+        go [] x3 e q = elim x3 [ ]
         go (n ∷ k) (also gn c) e q =
             let r = changes_stand n.packet 0 k c in
             let counted = subst (λ (z : ℕ). ChangesStand Good r.0 from lsp n.packet 0 k (changes_from from z (sheet_numbers k))) (count n gn) r.1 in (
