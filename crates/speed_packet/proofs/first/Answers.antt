@@ -11,27 +11,26 @@ use Rattle.speed_packet.proofs.Fields.{field_read, field_inside, field_asked}
 use Rattle.speed_element.proofs.Reading.{readable_passed}
 use Rattle.speed_packet.specs.internal.Asking.{Reads}
 use borrow.Author.Rules.{rules}
-use Rattle.speed_packet.proofs.first.Statement.{statement}
-use Rattle.speed_packet.proofs.first.Tie as tie
+use Rattle.speed_packet.proofs.first.Goals as goal
 
-read-window-requires : tie.Need-read-window-requires
-read-window-requires c κs =
-    let b = c.before.before.before in
+pub read_window-requires : goal.read_window-requires
+read_window-requires c =
+    let b = c in
     let s = b.args.s.now in
-    let h = readable_passed (Reads s) (λ f. field (n_iter 31) λ n. changes profile b.args.lsp 0 n f) c.before.element.ensures.0.passes b.requires in
+    let h = readable_passed (Reads s) (λ f. field (n_iter 31) λ n. changes profile b.args.lsp 0 n f) c.element-e.ensures.0.passes b.requires in
     field_asked s (n_iter 31) h 5 refl (lit< tt) (lit≤ tt)
 
-add-t8 : tie.Need-overflow-add-t8
-add-t8 c =
-    let b = c.before.before.before.before in
+pub overflow_add-result : goal.overflow_add-result
+overflow_add-result c =
+    let b = c in
     let s = b.args.s.now in
-    let h = readable_passed (Reads s) (λ f. field (n_iter 31) λ n. changes profile b.args.lsp 0 n f) c.before.before.element.ensures.0.passes b.requires in
+    let h = readable_passed (Reads s) (λ f. field (n_iter 31) λ n. changes profile b.args.lsp 0 n f) c.element-e.ensures.0.passes b.requires in
     omega (arith, field_inside s (n_iter 31) h, h.reads.few)
 
-returns : tie.Need-returns
+pub returns : goal.returns
 returns c =
-    let s = c.before.before.before.before.args.s.now in
-    let e = c.before.before.element in
+    let s = c.args.s.now in
+    let e = c.element-e in
     let next = e.result.next in
     record {
       between = next;
@@ -40,6 +39,3 @@ returns c =
       number = field_read s (n_iter 31) next 5 (next + 5) refl refl c.read_window.ensures;
       few = omega (arith, c.read_window.ensures, field_small s next 5 5 (lit≤ tt));
     }
-
-pub first_spec : {M : Type 1} → statement M
-first_spec = tie.close (tie.spec (λ c κs. search rules) read-window-requires add-t8 returns)
