@@ -7,22 +7,18 @@ use Rattle.speed_sheet.proofs.Parts.{same_read, number_most, count_lawful}
 use Rattle.speed_element.proofs.Reading.{readable_passed}
 use Rattle.speed_sheet.specs.internal.Asking.{Reads}
 use borrow.Author.Rules.{rules}
-use Rattle.speed_sheet.proofs.first.Statement.{statement}
-use Rattle.speed_sheet.proofs.first.Tie as tie
+use Rattle.speed_sheet.proofs.first.Goals as goal
 
-returns : tie.Need-returns
+pub returns : goal.returns
 returns c =
-    let b = c.before.before.before.before in
+    let b = c in
     let s = b.args.s.now in
-    let e = c.before.before.element in
+    let e = c.element-e in
     let h = readable_passed (Reads s) (λ f. field (n_iter 31) λ n. changes profile b.args.lsp 0 n f) e.ensures.0.passes b.requires in
     record {
       between = e.result.next;
       element = e.ensures.0;
       starts = e.ensures.1;
-      number = same_read s c.number.ensures (n_iter 31) (λ u. refl);
-      few = number_most s c.number.ensures count_lawful (λ n f. changes profile b.args.lsp 0 n f) h;
+      number = same_read s c.number-count.ensures (n_iter 31) (λ u. refl);
+      few = number_most s c.number-count.ensures count_lawful (λ n f. changes profile b.args.lsp 0 n f) h;
     }
-
-pub first_spec : {M : Type 1} → statement M
-first_spec = tie.close (tie.spec (λ c κs. search rules) (λ c κs. search rules) returns)
