@@ -11,7 +11,7 @@ use lib.ListN.{drop, get_or}
 use Rattle.bits.proofs.Tests.{and_right}
 use Rattle.kinds.specs.declared.Item.{Item}
 use Rattle.kinds.specs.Kind.{Kind, when}
-use Rattle.kinds.specs.Kinds.{l_sp, q_front, n_iter, q_diff, class, d_location}
+use Rattle.kinds.specs.Kinds.{l_sp, n_iter, d_location}
 use Rattle.format.specs.Format.{Format, field, sheet_numbers}
 use Rattle.format.specs.Conforming.{Conforming, also, InPacket, InSheet}
 use Rattle.format.specs.Grounds.{Front, here, past}

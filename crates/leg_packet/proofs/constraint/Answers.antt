@@ -2,7 +2,6 @@
 use native.Mathlib.Omega.{arith}
 use lib.Dec.{lit≤, lit<}
 use Rattle.leg_packet.proofs.Parts.{constraint_inside, constraint_windows}
-use borrow.Author.Rules.{rules}
 use Rattle.leg_packet.proofs.constraint.Goals as goal
 
 pub read_window-t-requires : goal.read_window-t-requires

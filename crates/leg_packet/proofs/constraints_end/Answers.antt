@@ -1,7 +1,6 @@
 -- `leg_packet::constraints_end` meets its contract.
 use native.Mathlib.Omega.{arith}
 use Rattle.leg_packet.proofs.Parts.{constraints_passed}
-use borrow.Author.Rules.{rules}
 use Rattle.leg_packet.proofs.constraints_end.Goals as goal
 
 pub returns : goal.returns

@@ -3,7 +3,6 @@ use Prim.Native.Nat.{◌+◌, ◌*◌, ◌%◌}
 use native.Mathlib.Omega.{arith}
 use lib.Dec.{lit≤, lit<}
 use Rattle.leg_packet.proofs.Parts.{head_inside, head_points, count_inside, leg_windows}
-use borrow.Author.Rules.{rules}
 use Rattle.leg_packet.proofs.head.Goals as goal
 
 pub read_window-nid_c-requires : goal.read_window-nid_c-requires

@@ -1,6 +1,5 @@
 -- `leg_sheet::constraint` meets its contract.
 use Rattle.leg_sheet.proofs.Parts.{constraint_here, adhesion_numbers}
-use borrow.Author.Rules.{rules}
 use Rattle.leg_sheet.proofs.constraint.Goals as goal
 
 pub numbers_end-requires : goal.numbers_end-requires

@@ -2,7 +2,6 @@
 use Prim.Native.Nat.{◌*◌}
 use native.Mathlib.Omega.{arith}
 use Rattle.leg_sheet.proofs.Walking.{constraint_walk, parts_numbers, constraints_passed}
-use borrow.Author.Rules.{rules}
 use Rattle.leg_sheet.proofs.constraints_end.Goals as goal
 
 pub numbers_end-requires : goal.numbers_end-requires

@@ -1,7 +1,6 @@
 -- `leg_sheet::head` meets its contract.
 use native.Mathlib.Omega.{arith}
 use Rattle.leg_sheet.proofs.Parts.{points_few, points_numbers, leg_here}
-use borrow.Author.Rules.{rules}
 use Rattle.leg_sheet.proofs.head.Goals as goal
 
 pub overflow_mul-points : goal.overflow_mul-points

@@ -1,7 +1,6 @@
 -- `leg_sheet::identity` meets its contract.
 use Rattle.bits.proofs.Padding.{bytes_of}
 use Rattle.leg_sheet.proofs.Parts.{identity_numbers, identity_read}
-use borrow.Author.Rules.{rules}
 use Rattle.leg_sheet.proofs.identity.Goals as goal
 
 pub numbers_end-at-requires : goal.numbers_end-at-requires

@@ -1,7 +1,6 @@
 -- `leg_sheet::legs` meets its contract.
 use Rattle.bits.proofs.Padding.{bytes_of}
 use Rattle.leg_sheet.proofs.Parts.{count_numbers, legs_read}
-use borrow.Author.Rules.{rules}
 use Rattle.leg_sheet.proofs.legs.Goals as goal
 
 pub numbers_end-at-requires : goal.numbers_end-at-requires

@@ -1,6 +1,5 @@
 -- `speed_element::by_cant` meets its contract.
 use Prim.Native.Nat.{◌/◌}
-use borrow.Author.Rules.{rules}
 use borrow.Author.Tests.{le-leb, lt-leb}
 use Rattle.speed_element.proofs.by_cant.Goals as goal
 

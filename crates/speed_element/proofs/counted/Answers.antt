@@ -1,7 +1,6 @@
 -- `speed_element::counted` meets its contract.
 use native.Mathlib.Omega.{arith}
 use Rattle.speed_element.proofs.Lowest.{both_most, counted_as}
-use borrow.Author.Rules.{rules}
 use Rattle.speed_element.proofs.counted.Goals as goal
 
 pub overflow_mul-result : goal.overflow_mul-result

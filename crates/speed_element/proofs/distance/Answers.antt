@@ -1,6 +1,5 @@
 -- `speed_element::distance` meets its contract.
 use native.Mathlib.Omega.{arith}
-use borrow.Author.Rules.{rules}
 use Rattle.speed_element.proofs.distance.Goals as goal
 
 pub returns : goal.returns

@@ -1,7 +1,6 @@
 use native.Mathlib.Omega.{arith}
-use Rattle.speed_element.proofs.Reading.{Ending, ending_all, ending_next}
+use Rattle.speed_element.proofs.Reading.{ending_all, ending_next}
 use Rattle.speed_packet.specs.internal.Asking.{Reads}
-use borrow.Author.Rules.{rules}
 use Rattle.speed_packet.proofs.changes.Goals as goal
 
 pub loop-left-init : goal.loop-left-init

@@ -1,8 +1,6 @@
 -- `speed_packet::changes` meets its contract.
-use native.Mathlib.Omega.{arith}
-use Rattle.speed_element.proofs.Reading.{Ending, ending_all, ending_next}
+use Rattle.speed_element.proofs.Reading.{Ending}
 use Rattle.speed_packet.specs.internal.Asking.{Reads}
-use borrow.Author.Rules.{rules}
 use Rattle.speed_packet.proofs.changes.Given as goal
 
 abbrev pub invariant-loop-left : goal.invariant-loop-left

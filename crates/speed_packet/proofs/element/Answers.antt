@@ -6,7 +6,6 @@ use Rattle.bits.proofs.Fields.{window_small}
 use Rattle.speed_packet.proofs.Fields.{element_inside, element_at, static_small, entries_passed}
 use Rattle.speed_element.proofs.Reading.{element_read}
 use Rattle.speed_packet.specs.internal.Asking.{Reads}
-use borrow.Author.Rules.{rules}
 use Rattle.speed_packet.proofs.element.Goals as goal
 
 pub read_window-t-requires : goal.read_window-t-requires

@@ -3,7 +3,6 @@ use lib.Dec.{lit≤, lit<}
 use Rattle.speed_packet.proofs.Fields.{entry_inside, entry_at, entry_kept}
 use Rattle.speed_element.proofs.Reading.{entry_read}
 use Rattle.speed_packet.specs.internal.Asking.{Reads}
-use borrow.Author.Rules.{rules}
 use Rattle.speed_packet.proofs.entry.Goals as goal
 
 pub read_window-t-requires : goal.read_window-t-requires

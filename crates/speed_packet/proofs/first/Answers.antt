@@ -10,7 +10,6 @@ use Rattle.grammar.specs.segment.Segment.{profile, changes}
 use Rattle.speed_packet.proofs.Fields.{field_read, field_inside, field_asked}
 use Rattle.speed_element.proofs.Reading.{readable_passed}
 use Rattle.speed_packet.specs.internal.Asking.{Reads}
-use borrow.Author.Rules.{rules}
 use Rattle.speed_packet.proofs.first.Goals as goal
 
 pub read_window-requires : goal.read_window-requires

@@ -1,8 +1,6 @@
 -- `speed_sheet::changes` meets its contract.
-use native.Mathlib.Omega.{arith}
-use Rattle.speed_element.proofs.Reading.{Ending, ending_all, ending_next}
+use Rattle.speed_element.proofs.Reading.{Ending}
 use Rattle.speed_sheet.specs.internal.Asking.{Reads}
-use borrow.Author.Rules.{rules}
 use Rattle.speed_sheet.proofs.changes.Given as goal
 
 abbrev pub invariant-loop-left : goal.invariant-loop-left

@@ -7,7 +7,6 @@ use Rattle.grammar.specs.segment.Segment.{entries}
 use Rattle.speed_sheet.proofs.Parts.{same_read, speed_read, speed_small, front_inside, front_at, count_inside, count_at}
 use Rattle.speed_element.proofs.Reading.{element_entries, element_read}
 use Rattle.speed_sheet.specs.internal.Asking.{Reads}
-use borrow.Author.Rules.{rules}
 use Rattle.speed_sheet.proofs.element.Goals as goal
 
 pub bounds-s-second : goal.bounds-s-second

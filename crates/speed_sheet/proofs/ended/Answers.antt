@@ -1,9 +1,7 @@
 use mathlib.Core.Path.{sym, ◌∙◌}
 use native.Mathlib.Omega.{arith}
-use Rattle.speed_element.proofs.Reading.{Entered, entered_all, entered_next, entry_readable, ended_read, ended_not}
+use Rattle.speed_element.proofs.Reading.{entered_all, entered_next, entry_readable, ended_read, ended_not}
 use Rattle.speed_sheet.specs.internal.Asking.{Reads}
-use borrow.Author.Rules.{rules}
-use borrow.Author.Tests.{not-true, not-false}
 use Rattle.speed_sheet.proofs.ended.Goals as goal
 
 pub returns-then-not-holds : goal.returns-then-not-holds

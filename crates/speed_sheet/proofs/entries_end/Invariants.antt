@@ -1,12 +1,9 @@
 -- `speed_sheet::entries_end` meets its contract.
-use mathlib.Core.Path.{◌≡◌, refl, ap, ◌∙◌}
-use native.Mathlib.Omega.{arith}
+use mathlib.Core.Path.{◌≡◌}
 use Rattle.grammar.specs.segment.Segment.{entries}
 use Rattle.speed_element.specs.internal.Reading.{Readable}
-use Rattle.speed_element.proofs.Reading.{entries_end, entries_pass, entries_end_next, entries_next, entry_readable}
-use Rattle.speed_sheet.specs.internal.Asking.{short_end, entry_end, Reads}
-use Rattle.speed_sheet.proofs.Parts.{entry_pass, class_inside, speed_inside}
-use borrow.Author.Rules.{rules}
+use Rattle.speed_element.proofs.Reading.{entries_end}
+use Rattle.speed_sheet.specs.internal.Asking.{entry_end, Reads}
 use Rattle.speed_sheet.proofs.entries_end.Given as goal
 
 abbrev pub invariant-loop-left : goal.invariant-loop-left

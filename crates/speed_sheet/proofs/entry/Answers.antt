@@ -4,7 +4,6 @@ use Rattle.kinds.specs.Kinds.{q_diff}
 use Rattle.speed_sheet.proofs.Parts.{same_read, class_read, speed_read, entry_kept}
 use Rattle.speed_element.proofs.Reading.{entry_read}
 use Rattle.speed_sheet.specs.internal.Asking.{Reads}
-use borrow.Author.Rules.{rules}
 use Rattle.speed_sheet.proofs.entry.Goals as goal
 
 pub with-lows-requires : goal.with-lows-requires

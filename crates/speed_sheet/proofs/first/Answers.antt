@@ -6,7 +6,6 @@ use Rattle.grammar.specs.segment.Segment.{profile, changes}
 use Rattle.speed_sheet.proofs.Parts.{same_read, number_most, count_lawful}
 use Rattle.speed_element.proofs.Reading.{readable_passed}
 use Rattle.speed_sheet.specs.internal.Asking.{Reads}
-use borrow.Author.Rules.{rules}
 use Rattle.speed_sheet.proofs.first.Goals as goal
 
 pub returns : goal.returns

@@ -1,7 +1,6 @@
 -- `speed_sheet::head` meets its contract.
 use Rattle.bits.proofs.Padding.{bytes_of}
 use Rattle.speed_sheet.proofs.Parts.{head_numbers, offset_numbers, head_read}
-use borrow.Author.Rules.{rules}
 use Rattle.speed_sheet.proofs.head.Goals as goal
 
 pub numbers_end-at-requires : goal.numbers_end-at-requires

@@ -5,7 +5,6 @@ use lib.Dec.{ltb}
 use lib.ListN.{length}
 use Rattle.bits.proofs.Tests.{by_cases}
 use Rattle.speed_sheet.proofs.Numbers.{found_is_counted, none_past}
-use borrow.Author.Rules.{rules}
 use Rattle.speed_sheet.proofs.number.Goals as goal
 
 pub overflow_add-result : goal.overflow_add-result

@@ -1,7 +1,5 @@
-use Prim.Native.Nat.{◌-◌}
 use native.Mathlib.Omega.{arith}
-use lib.ListN.{length}
-use Rattle.speed_sheet.proofs.Amid.{Amid, amid_start, amid_inside, amid_next, amid_end}
+use Rattle.speed_sheet.proofs.Amid.{amid_start, amid_inside, amid_next, amid_end}
 use Rattle.speed_sheet.proofs.numbers_end.Goals as goal
 
 pub loop-i-init : goal.loop-i-init

@@ -1,8 +1,7 @@
 -- `speed_sheet::numbers_end` meets its contract.
 use Prim.Native.Nat.{◌-◌}
-use native.Mathlib.Omega.{arith}
 use lib.ListN.{length}
-use Rattle.speed_sheet.proofs.Amid.{Amid, amid_start, amid_inside, amid_next, amid_end}
+use Rattle.speed_sheet.proofs.Amid.{Amid}
 use Rattle.speed_sheet.proofs.numbers_end.Given as goal
 
 abbrev pub invariant-loop-i : goal.invariant-loop-i

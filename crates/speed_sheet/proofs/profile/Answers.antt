@@ -1,7 +1,6 @@
 -- `speed_sheet::profile` meets its contract.
 use Rattle.speed_element.proofs.Reading.{first_changes, first_profile}
 use Rattle.speed_sheet.specs.internal.Asking.{Reads}
-use borrow.Author.Rules.{rules}
 use Rattle.speed_sheet.proofs.profile.Goals as goal
 
 pub changes-requires : goal.changes-requires

@@ -3,7 +3,6 @@ use mathlib.Core.Path.{sym, ap, ◌∙◌}
 use mathlib.Core.Bool.{Bool, ◌&&◌, ◌||◌}
 use borrow.Author.Tests.{eq-eqb, ne_eqb}
 use lib.Dec.{eqb, ltb}
-use borrow.Author.Rules.{rules}
 use Rattle.leg_parts.proofs.ConstraintAt.end_outside.Goals as goal
 
 pub returns-then-self-eq0 : goal.returns-then-self-eq0

@@ -2,7 +2,6 @@
 use mathlib.Core.Path.{ap}
 use Prim.Native.Nat.{ℕ, ◌+◌}
 use borrow.Author.Tests.{eq-eqb, ne_eqb}
-use borrow.Author.Rules.{rules}
 use Rattle.leg_parts.proofs.ConstraintAt.held_until.Goals as goal
 
 pub returns-then-self-eq0 : goal.returns-then-self-eq0

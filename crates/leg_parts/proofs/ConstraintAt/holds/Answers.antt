@@ -6,7 +6,6 @@ use lib.Dec.{ltb}
 use native.Mathlib.Omega.{arith}
 use Rattle.legs.specs.Restricted.{begins_at}
 use Rattle.leg_parts.specs.internal.Reading.{constraint_with}
-use borrow.Author.Rules.{rules}
 use Rattle.leg_parts.proofs.ConstraintAt.holds.Goals as goal
 
 pub returns-then-self-ne-SPEED : goal.returns-then-self-ne-SPEED

@@ -4,7 +4,6 @@ use mathlib.Core.Bool.{Bool, ◌&&◌}
 use borrow.Author.Tests.{eq-eqb, ne_eqb}
 use Rattle.legs.specs.Travelled.{outside}
 use Rattle.leg_parts.specs.internal.Reading.{constraint_with}
-use borrow.Author.Rules.{rules}
 use Rattle.leg_parts.proofs.ConstraintAt.misplaced.Goals as goal
 
 pub returns-then-self-ne-SPEED : goal.returns-then-self-ne-SPEED

@@ -2,7 +2,6 @@
 use mathlib.Core.Path.{sym, ap, ◌∙◌}
 use mathlib.Core.Bool.{Bool, ◌&&◌}
 use lib.Dec.{leb}
-use borrow.Author.Rules.{rules}
 use Rattle.leg_parts.proofs.ConstraintAt.start_outside.Goals as goal
 
 pub returns-then-uses : goal.returns-then-uses

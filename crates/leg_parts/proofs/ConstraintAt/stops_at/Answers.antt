@@ -2,7 +2,6 @@
 use mathlib.Core.Path.{sym, ap, ◌∙◌}
 use mathlib.Core.Bool.{Bool, cond}
 use Prim.Native.Nat.{ℕ}
-use borrow.Author.Rules.{rules}
 use Rattle.leg_parts.proofs.ConstraintAt.stops_at.Goals as goal
 
 pub returns-then-uses : goal.returns-then-uses

@@ -1,6 +1,5 @@
 -- `speed_element::Lows::lowered` meets its contract.
 use Rattle.speed_element.proofs.Lowest.{speed_worked}
-use borrow.Author.Rules.{rules}
 use Rattle.speed_element.proofs.Lows.lowered.Goals as goal
 
 pub returns : goal.returns

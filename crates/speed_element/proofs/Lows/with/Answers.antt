@@ -1,7 +1,6 @@
 -- `speed_element::Lows::with` meets its contract.
 use native.Mathlib.Omega.{arith}
 use Rattle.speed_element.proofs.Lowest.{entry_more, low_with}
-use borrow.Author.Rules.{rules}
 use Rattle.speed_element.proofs.Lows.with.Goals as goal
 
 pub returns : goal.returns

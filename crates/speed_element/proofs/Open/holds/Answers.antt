@@ -4,7 +4,6 @@ use Prim.Native.Nat.{ℕ}
 use native.Mathlib.Omega.{arith}
 use lib.Dec.{ltb}
 use Rattle.speed_element.proofs.Lowest.{too_early, not_early}
-use borrow.Author.Rules.{rules}
 use Rattle.speed_element.proofs.Open.holds.Goals as goal
 
 pub returns-then-x-self : goal.returns-then-x-self

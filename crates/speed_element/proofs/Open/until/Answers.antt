@@ -1,6 +1,5 @@
 -- `speed_element::Open::until` meets its contract.
 use Rattle.speed_element.proofs.Lowest.{until_delayed, until_end}
-use borrow.Author.Rules.{rules}
 use Rattle.speed_element.proofs.Open.until.Goals as goal
 
 pub returns-then-self-eq0 : goal.returns-then-self-eq0
