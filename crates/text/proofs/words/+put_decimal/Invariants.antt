@@ -1,0 +1,5 @@
+-- `v` is the number that falls.
+use Rattle.text.proofs.words.+put_decimal.Given as goal
+
+abbrev pub decreases-put_decimal : goal.decreases-put_decimal
+decreases-put_decimal l = l.v
