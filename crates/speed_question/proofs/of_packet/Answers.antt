@@ -7,20 +7,16 @@ use Rattle.speed_question.specs.internal.Run.{run_judged}
 use Rattle.speed_question.proofs.Asked.{lent_asked}
 use Rattle.speed_question.proofs.Questions.{question_accepted}
 use Rattle.speed_question.proofs.Runs.{run_accepted}
-use Rattle.speed_question.proofs.of_packet.Statement.{statement}
-use Rattle.speed_question.proofs.of_packet.Tie as tie
+use Rattle.speed_question.proofs.of_packet.Goals as goal
 
-of-run-requires : tie.Need-of-run-requires
-of-run-requires c κs = ((omega arith, omega arith), (c.before.requires, tt))
+pub of_run-requires : goal.of_run-requires
+of_run-requires c = ((omega arith, omega arith), (c.requires, tt))
 
-returns : tie.Need-returns
+pub returns : goal.returns
 returns c =
-    let a = c.before.before in
+    let a = c in
     let s = a.args.packet.now in
     let t = a.args.train in
     let x = a.args.x in
-    c.of_run_lem.ensures
+    c.of_run.ensures
     ∙ question_accepted no_speed (speed_of_run t x) 0 1 (lent 1 s s s s) (lent_asked 0 1 s s s s t x) (omega arith) (omega arith) (omega arith) (sym (ap run_judged (run_accepted (read_as Brought.packet) (s ∷ []) (a.requires, tt))))
-
-pub of_packet_spec : {M : Type 1} → statement M
-of_packet_spec = tie.close (tie.spec of-run-requires returns)
