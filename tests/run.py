@@ -7,7 +7,7 @@ import sys
 
 import documents
 import pages
-from sources import CRATES, OF_FUNCTION, ROOT, declares, edits, functions, modules, public_functions, quoted, replacements, sources
+from sources import CRATES, OF_FUNCTION, ROOT, declares, edits, functions, modules, of_function, public_functions, quoted, replacements, sources
 
 SECONDS = 120
 SENTENCE = 300
@@ -63,7 +63,7 @@ def headed():
     for crate in CRATES:
         for folder, suffix, mark in (("src", ".rt", "// "), ("specs", ".antt", "-- "), ("proofs", ".antt", "-- ")):
             for path in sources(crate, folder, suffix):
-                before = OF_FUNCTION[:OF_FUNCTION.index(path.name)] if path.name in OF_FUNCTION else ()
+                before = OF_FUNCTION[:OF_FUNCTION.index(path.name)] if of_function(path) else ()
                 if path.name != "Lib.antt" and not any((path.parent / name).is_file() for name in before) and not path.read_text().startswith(mark):
                     yield f"{path.relative_to(ROOT)} does not start with a sentence"
 

@@ -20,9 +20,14 @@ def sources(crate, folder, suffix):
     return sorted((ROOT / "crates" / crate / folder).glob("**/*" + suffix))
 
 
+def of_function(path):
+    """Whether a file is of a function's proof, which has a folder of its own, and no module of lemmas."""
+    return path.name in OF_FUNCTION and path.parent.name != "proofs"
+
+
 def modules(crate, folder):
     """The files of a crate's folder that declare or prove something: neither lists of modules nor proofs of functions."""
-    return [path for path in sources(crate, folder, ".antt") if path.stem[0].isupper() and path.name != "Lib.antt" and path.name not in OF_FUNCTION]
+    return [path for path in sources(crate, folder, ".antt") if path.stem[0].isupper() and path.name != "Lib.antt" and not of_function(path)]
 
 
 def indent(line):
