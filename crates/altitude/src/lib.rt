@@ -12,7 +12,7 @@ use verdict::PacketVerdict;
 
 // Answer to an altitude question: 0, 0 and the altitude in cm; or a refusal's number, its place (a bit of the packet) and 0.
 #[repr(C)]
-#[derive(Drop)]
+#[derive(Clone, Copy)]
 pub struct Altitude {
     pub refusal: u32,
     pub place: u32,

@@ -6,7 +6,7 @@ ghost use Rattle.std.specs.Prelude.{◌≡◌};
 
 // Answer of a conversion: 0, 0 and the length of the result in bytes; or a refusal's number, its place (a bit of a packet, a byte of a sheet) and 0.
 #[repr(C)]
-#[derive(Drop)]
+#[derive(Clone, Copy)]
 pub struct Converted {
     pub refusal: u32,
     pub place: u32,

@@ -1,5 +1,5 @@
 -- NID_OPERATIONAL's digits have their bits, and no more.
-use Rattle.std.proofs.Common.{◌≡◌, ℕ, zero, suc, ◌-◌, ◌/◌, ◌%◌, ◌^◌, ◌<◌, true, arith, eqb-true}
+use Rattle.std.proofs.Common.{◌≡◌, ℕ, zero, suc, ◌/◌, ◌%◌, ◌^◌, ◌<◌, true, arith, eqb-true}
 use native.Mathlib.Nat.{pow-succ'}
 use Rattle.bits.proofs.Tests.{and_right}
 use Rattle.kinds.specs.Kinds.{digit, digits}

@@ -15,7 +15,7 @@ use speed_question::run::Judged;
 
 // A train, and its location in cm from the start of the packet's segment.
 #[repr(C)]
-#[derive(Drop)]
+#[derive(Clone, Copy)]
 pub struct Card {
     pub train: Train,
     pub location: u32,
@@ -24,7 +24,7 @@ pub struct Card {
 // Answer of the board: 0, 0, the number of the first card with the lowest permitted speed, and that speed in km/h;
 // or a refusal's number, its place (a bit of the packet), 0 and 0.
 #[repr(C)]
-#[derive(Drop)]
+#[derive(Clone, Copy)]
 pub struct Board {
     pub refusal: u32,
     pub place: u32,

@@ -5,7 +5,7 @@ ghost use Rattle.grammar.specs.link.Link.{tree_number, tree_of};
 use kinds::header;
 
 // The tree of a packet or sheet, which the packet number chooses.
-#[derive(Drop)]
+#[derive(Clone, Copy)]
 pub enum Tree {
     Segment,
     Journey,

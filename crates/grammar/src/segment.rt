@@ -8,7 +8,7 @@ use kinds::body::{DEoAOffset, MSpAltitude, MSpVersion, NidC, NidSp, QUtcOffset};
 use kinds::header::{NPacketCounter, NidEngine, TTimestampDate, TTimestampSeconds};
 
 // A part with a list of changes: the speed profile, the rated voltage, or the current limitation.
-#[derive(Drop)]
+#[derive(Clone, Copy)]
 pub enum Part {
     Speeds,
     Volts,

@@ -12,7 +12,7 @@ use verdict::PacketVerdict;
 
 // State of an intake: its phase; how many bytes of a packet are in the room or were judged; the refusal of the verdict and its place, a bit of the packet.
 #[repr(C)]
-#[derive(Drop)]
+#[derive(Clone, Copy)]
 pub struct Intake {
     pub phase: u32,
     pub length: u32,

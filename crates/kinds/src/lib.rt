@@ -14,21 +14,21 @@ ghost use Rattle.kinds.specs.internal.Rules.{meaning};
 use crate::refusals::FIELD_VALUE;
 
 // A field's value: `sheet` is the sheet's number, `packet` the packet's value.
-#[derive(Drop)]
+#[derive(Clone, Copy)]
 pub struct Item {
     pub sheet: u32,
     pub packet: u32,
 }
 
 // A judged field: `Is(item)`, or `Refused(number)`.
-#[derive(Drop)]
+#[derive(Clone, Copy)]
 pub enum Field {
     Is(Item),
     Refused(u32),
 }
 
 // The rule of a field kind. Widths are in bits, locations in cm.
-#[derive(Drop)]
+#[derive(Clone, Copy)]
 pub enum Rule {
     // A sheet's number from `least` to `largest`, which is also the packet's value; `refusal` for any other number.
     Range {

@@ -20,14 +20,14 @@ const ENDS: u32 = 1;
 const BOTH: u32 = 2;
 
 // The segments of a journey: how many, and the place of the first.
-#[derive(Drop)]
+#[derive(Clone, Copy)]
 pub struct Legs {
     pub count: u32,
     pub first: usize,
 }
 
 // NID_C, NID_SP and version of a segment.
-#[derive(Drop)]
+#[derive(Clone, Copy)]
 pub struct Identity {
     pub nid_c: u32,
     pub nid_sp: u32,
@@ -36,7 +36,7 @@ pub struct Identity {
 }
 
 // A segment of a journey whose constraints are not read yet: its identity, Q_SP_DIR, the count of its constraints, and where they stand.
-#[derive(Drop)]
+#[derive(Clone, Copy)]
 pub struct LegHead {
     pub identity: Identity,
     pub direction: u32,
@@ -45,7 +45,7 @@ pub struct LegHead {
 }
 
 // A temporary constraint from Q_TC_Type, `of`, to V_Speed_Level, and the place after it.
-#[derive(Drop)]
+#[derive(Clone, Copy)]
 pub struct ConstraintAt {
     pub of: u32,
     pub range: u32,

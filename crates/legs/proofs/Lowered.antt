@@ -1,4 +1,5 @@
 -- The legs of a journey's values as its packet gives them back are its legs with the speeds lowered.
+use mathlib.Core.List.{[]}
 use mathlib.Core.Path.{◌≡◌, refl, sym, ap, ap₂, ◌∙◌}
 use mathlib.Core.List.{List, ◌∷◌, map}
 use Prim.Native.Nat.{ℕ, zero, suc}
@@ -100,6 +101,7 @@ pub record Counted (f : Format) (l : List Item) : Type 0 where
   pub low : pick_constraints (sheet_numbers (given_back (counted f) l)) ≡ map constraint_in_fives (pick_constraints (sheet_numbers l))
 
 counted_lowered : (f : Format) (l : List Item) → Conforming InSheet (counted f) l → Counted f l
+counted_lowered f [] x' = elim x' [ ]
 counted_lowered f (m ∷ l) (also gm c) =
     let w = constraints_lowered m.packet f l c in
     let p = w.passed in

@@ -159,11 +159,11 @@ module _ (Good : Kind → Item → Type 0) (count : (i : Item) → Good (n_iter 
 -- ---- and no others do
 
 module _ (Good : Kind → Item → Type 0) (count : (i : Item) → Good (n_iter 31) i → i.packet ≡ i.sheet) (legs : (i : Item) → Good n_iter_sp i → i.packet ≡ i.sheet) where
-  constraints_only : (n : ℕ) (follow l : List Item) (cs : List Constraint) → ConstraintsStand Good follow n l cs
+  constraints_only : (follow : List Item) (n : ℕ) (l : List Item) (cs : List Constraint) → ConstraintsStand Good follow n l cs
       → (cs ≡ constraints_of n (sheet_numbers l)) × (after_constraints n (sheet_numbers l) ≡ sheet_numbers follow)
-  constraints_only n follow l cs ConstraintsStand.none = (refl, refl)
-  constraints_only n follow l cs (ConstraintsStand.constraint {n = k} {l = m} {cs = ds} type range start stop front v adhesion current g1 g2 g3 g4 g5 g6 g7 g8 r) =
-      let p = constraints_only k follow m ds r in (
+  constraints_only follow n l cs ConstraintsStand.none = (refl, refl)
+  constraints_only follow n l cs (ConstraintsStand.constraint {n = k} {l = m} {cs = ds} type range start stop front v adhesion current g1 g2 g3 g4 g5 g6 g7 g8 r) =
+      let p = constraints_only follow k m ds r in (
         ap (λ (z : List Constraint). record { type = type.sheet; range = range.sheet; start = start.sheet; end = stop.sheet; q_front = front.sheet; speed = v.sheet } ∷ z) p.0,
         p.1,
       )
@@ -181,7 +181,7 @@ module _ (Good : Kind → Item → Type 0) (count : (i : Item) → Good (n_iter 
 
   leg_only : (follow l : List Item) (g : Leg) → LegStands Good follow l g → (g ≡ leg_of (sheet_numbers l)) × (after_leg (sheet_numbers l) ≡ sheet_numbers follow)
   leg_only follow l g (LegStands.leg {l = k} {cs = cs} country number major minor direction n points m g1 g2 g3 g4 g5 g6 c gm r) =
-      let p = constraints_only m.packet follow k cs r in
+      let p = constraints_only follow m.packet k cs r in
       let s = sheet_numbers (points ++ m ∷ k) in
       let at : after_points n.sheet s ≡ m.sheet ∷ sheet_numbers k = ap (λ (z : ℕ). after_points z s) (sym (count n g6)) ∙ points_only n.packet points (m ∷ k) c in
       let own : cs ≡ constraints_of m.sheet (sheet_numbers k) = p.0 ∙ ap (λ (z : ℕ). constraints_of z (sheet_numbers k)) (count m gm) in (

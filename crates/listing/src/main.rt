@@ -3,26 +3,49 @@
 
 #![tactic(auto)]
 
-use libc::{STDERR_FILENO, STDIN_FILENO, STDOUT_FILENO};
+ghost use Rattle.std.specs.Prelude.{◌≤◌, length};
 
-// Reads a packet from standard input and writes its listing to standard output.
-fn list() {
-    // The largest packet has 8,207 bytes: longer input is refused with 2 or 3 by its first 8,208 bytes, so the rest is not read.
-    let mut packet = [0u8; 8208];
-    let n = io::read_full(STDIN_FILENO, &mut packet);
-    let mut room = [0u8; text::ROOM];
-    let length = text::listing(&packet[..n], &mut room);
-    io::write_all(STDOUT_FILENO, &room[..length]);
+use std::env::{Env, FillError};
+use std::io;
+use std::io::{Input, Read};
+
+// Reads until the buffer is full, the input ends or a read fails. Returns how many bytes it has put at the start of the buffer.
+fn read_full(input: &mut impl Read, buffer: &mut [u8]) -> usize
+    ensures { result ≤ length buffer.new }
+{
+    let mut done = 0;
+    while done < buffer.len() {
+        match input.read(&mut buffer[done..]) {
+            Ok(n) if n > 0 => done += n,
+            _ => break,
+        }
+    }
+    done
 }
 
-// Lists the packet, unless the program was started with an argument: its own name is the first of the count.
-fn main() {
-    if os::arg_count() > 1 {
-        io::write_all(
-            STDERR_FILENO,
-            b"listing reads standard input and no file: listing <FILE\n",
-        );
-        return;
+// Reads a packet from standard input and writes its listing to standard output.
+fn list(rt: &(impl Input + Print)) -> io::Result<()> {
+    // The largest packet has 8,207 bytes: longer input is refused with 2 or 3 by its first 8,208 bytes, so the rest is not read.
+    let mut packet = [0u8; 8208];
+    let n = read_full(&mut rt.reader(), &mut packet);
+    let mut room = [0u8; text::ROOM];
+    let length = text::listing(&packet[..n], &mut room);
+    rt.write_all(&room[..length])
+}
+
+// Tells whether the program was started with an argument: its own name is the first of the count, and one that is too long for a byte is one all the same.
+fn has_argument(rt: &impl Env) -> bool {
+    let mut byte = [0u8; 1];
+    match rt.arg(1, &mut byte) {
+        Err(FillError::NotPresent) => false,
+        _ => true,
     }
-    list();
+}
+
+// Lists the packet, unless the program was started with an argument.
+fn main(rt: HostRuntime) -> io::Result<()> {
+    if has_argument(&rt) {
+        return rt.stderr().write_all(b"listing reads standard input and no file: listing <FILE\n");
+    }
+    list(&rt)
 }

@@ -4,7 +4,7 @@ ghost use Rattle.numbers.specs.internal.accepted.Accepted.{There, Single, Reads}
 use bits::wide;
 
 // A number, and the place of the byte after it.
-#[derive(Drop)]
+#[derive(Clone, Copy)]
 pub struct ReadNumber {
     pub value: u32,
     pub next: usize,

@@ -18,14 +18,14 @@ use kinds::refusals::{BODY_BITS, CHANGE_LOCATION, FIELD_VALUE};
 use kinds::{Rule, body};
 
 // `On(bit, bytes)`: next bit, sheet bytes so far. `Refused(number, bit)`.
-#[derive(Drop)]
+#[derive(Clone, Copy)]
 pub enum PacketStep {
     On(usize, usize),
     Refused(u32, u32),
 }
 
 // `Is(value, bit, bytes)`: value of the field, next bit, sheet bytes so far. `Refused(number, bit)`.
-#[derive(Drop)]
+#[derive(Clone, Copy)]
 pub enum PacketValue {
     Is(u32, usize, usize),
     Refused(u32, u32),

@@ -5,7 +5,6 @@ use Prim.Native.Nat.{ℕ, ◌*◌}
 use lib.ListN.{length, drop}
 use Rattle.bits.specs.Bits.{bits_of_bytes}
 use Rattle.verdict.specs.declared.frame.Frame.{Frame}
-use Rattle.verdict.specs.declared.frame.Frame.TheVariants as Frame
 use Rattle.verdict.specs.internal.frame.Framed.{frame_of, one_or_end}
 use Rattle.verdict.proofs.frame.Framing.{Whole, whole, packet_frame, packet_refused, packet_accepted, packet_padding}
 use Rattle.format.specs.Media.{sheet}

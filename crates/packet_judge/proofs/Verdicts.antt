@@ -16,7 +16,6 @@ use Rattle.format.proofs.Tasks.{made_count}
 use Rattle.grammar.specs.segment.Segment.{lists, body}
 use Rattle.grammar.specs.internal.rows.Rows.{row}
 use Rattle.verdict.specs.declared.PacketVerdict.{PacketVerdict}
-use Rattle.verdict.specs.declared.PacketVerdict.TheVariants as PacketVerdict
 use Rattle.verdict.specs.internal.Verdict.{fields_verdict}
 use Rattle.verdict.proofs.Sizes.{size_first}
 use Rattle.packet_fields.specs.declared.PacketStep.TheVariants.{On, Refused}

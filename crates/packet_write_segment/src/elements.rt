@@ -11,7 +11,7 @@ use grammar::segment::{Part, layout};
 use kinds::body;
 
 // `from`: the next byte of the sheet. `at`: the next bit of the packet. `wait`: the bits of the packet's unfinished byte.
-#[derive(Drop)]
+#[derive(Clone, Copy)]
 pub struct PacketSpot {
     pub from: usize,
     pub at: usize,

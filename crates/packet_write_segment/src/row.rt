@@ -10,7 +10,7 @@ ghost use Rattle.packet_write_segment.specs.internal.row.Pieces.{between, Puttab
 use crate::elements::PacketSpot;
 
 // The value of a field that was put, and the places after the field.
-#[derive(Drop)]
+#[derive(Clone, Copy)]
 pub struct Given {
     pub value: u32,
     pub next: PacketSpot,

@@ -10,7 +10,7 @@ use kinds::refusals::{CARD_LIST, FIELD_VALUE, SHEET_FORM};
 pub const NUMBERS: usize = 448;
 
 // `Cards(count)`, or `Refused(number, place)` with a byte of the file as the place.
-#[derive(Drop)]
+#[derive(Clone, Copy)]
 pub enum FileRead {
     Cards(usize),
     Refused(u32, u32),

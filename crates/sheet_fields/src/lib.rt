@@ -19,14 +19,14 @@ use kinds::journey::DTcEndLocation;
 use kinds::refusals::{CHANGE_LOCATION, FIELD_VALUE, SHEET_FORM};
 
 // `On(byte, bits)`: next byte, packet bits so far modulo 2^32. `Refused(number, byte)`.
-#[derive(Drop)]
+#[derive(Clone, Copy)]
 pub enum SheetStep {
     On(usize, u32),
     Refused(u32, usize),
 }
 
 // `Is(value, byte, bits)`: packet value of the field, next byte, packet bits so far modulo 2^32. `Refused(number, byte)`.
-#[derive(Drop)]
+#[derive(Clone, Copy)]
 pub enum SheetValue {
     Is(u32, usize, u32),
     Refused(u32, usize),

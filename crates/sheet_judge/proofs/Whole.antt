@@ -26,7 +26,6 @@ use Rattle.grammar.specs.declared.link.Tree.TheVariants.{Segment, Journey}
 use Rattle.grammar.specs.internal.link.Trees.{tree_sheet_fields, tree_sheet}
 use Rattle.grammar.proofs.link.Places.{sheet_place}
 use Rattle.verdict.specs.declared.SheetVerdict.{SheetVerdict}
-use Rattle.verdict.specs.declared.SheetVerdict.TheVariants as SheetVerdict
 use Rattle.verdict.specs.internal.Verdict.{size_from, sheet_verdict}
 use Rattle.verdict.proofs.Sizes.{sheet_sorts}
 use Rattle.verdict.proofs.Accepted.{verdict_refused}

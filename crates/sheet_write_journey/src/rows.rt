@@ -12,7 +12,7 @@ use sheet_write_segment::head::header;
 use sheet_write_segment::row::{four, moment, number, one, short};
 
 // `n` is the byte up to which the room is written; `count` is the value of the last field, which counts what follows.
-#[derive(Drop)]
+#[derive(Clone, Copy)]
 pub struct Listed {
     pub n: usize,
     pub count: u32,

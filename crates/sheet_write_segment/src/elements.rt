@@ -12,7 +12,7 @@ use grammar::segment::layout::ENTRY;
 use kinds::body;
 
 // A bit of the packet, and the byte of the room up to which the room is written.
-#[derive(Drop)]
+#[derive(Clone, Copy)]
 pub struct SheetSpot {
     pub at: usize,
     pub n: usize,

@@ -20,7 +20,7 @@ use verdict::SheetVerdict;
 
 // Key of a kept sheet. Any numbers can be asked for; those of a sheet have 10, 32, 8 and 8 bits.
 #[repr(C)]
-#[derive(Drop)]
+#[derive(Clone, Copy)]
 pub struct Key {
     pub nid_c: u32,
     pub nid_sp: u32,
@@ -30,7 +30,7 @@ pub struct Key {
 
 // Answer to a change: 0, 0 and the used bytes; or a refusal's number, its place (a byte of the sheet) and the used bytes as they were.
 #[repr(C)]
-#[derive(Drop)]
+#[derive(Clone, Copy)]
 pub struct Shelved {
     pub refusal: u32,
     pub place: u32,
@@ -38,7 +38,7 @@ pub struct Shelved {
 }
 
 // Where a lookup finds its sheet: 0, whether the default store has it, its first byte there and how many; or a refusal, `false`, 0 and 0.
-#[derive(Drop)]
+#[derive(Clone, Copy)]
 pub struct Found {
     pub refusal: u32,
     pub standard: bool,

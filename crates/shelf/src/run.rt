@@ -12,14 +12,14 @@ use verdict::SheetVerdict;
 
 // What the judgement of a run finds: `Place(start, size)`, the first byte of the key's entry and how many it has, both 0 if no entry has the key;
 // `NoShelf` if it is not a run of accepted sheets with different keys.
-#[derive(Drop)]
+#[derive(Clone, Copy)]
 pub enum Scan {
     NoShelf,
     Place(usize, usize),
 }
 
 // An entry that is read: the key of its sheet, and the byte after it.
-#[derive(Drop)]
+#[derive(Clone, Copy)]
 pub struct Entry {
     pub key: Key,
     pub next: usize,

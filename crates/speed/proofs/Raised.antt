@@ -70,11 +70,11 @@ element_raised {after = after} {start = start} (ElementStands.element v q n gv g
     let p = entries_raised es (subst (λ (k : ℕ). EntriesStand InSheet after k m fs) en more) d.1 in
     (λ l k rest. rw eq (ElementsRaised.more start q.sheet (a.0.speeds refl) p.0 rest), p.1)
 
-changes_raised : (f : Format) {follow after l m : List Item} {from lsp n last : ℕ} {es fs : List Element} → ChangesStand InSheet follow from lsp n last l es
+changes_raised : (f : Format) {from lsp : ℕ} {follow after l m : List Item} {n last : ℕ} {es fs : List Element} → ChangesStand InSheet follow from lsp n last l es
     → ChangesStand InSheet after from lsp n last m fs → Raising (changes profile lsp last n f) l m → ElementsRaised es fs
 unfolding changes
 changes_raised f ChangesStand.none ChangesStand.none r = ElementsRaised.none
-changes_raised f {after = after} {from = from} {lsp = lsp} {last = last} (ChangesStand.change x gx e rest) (ChangesStand.change {n = n} {l = a} {m = b} {e = g} {es = fs} y gy e' more) r =
+changes_raised f {from = from} {lsp = lsp} {after = after} {last = last} (ChangesStand.change x gx e rest) (ChangesStand.change {n = n} {l = a} {m = b} {e = g} {es = fs} y gy e' more) r =
     let ey : y.sheet ≡ x.sheet = (first r).0.others (other (d_location last lsp) 24 refl (omega arith)) in
     let ep = same_packets (d_location last lsp) x y gx gy ey in
     let q = element_raised e (subst (λ (k : ℕ). ElementStands InSheet b (from + k) a g) ey e') (later r) in

@@ -58,8 +58,8 @@ AsLong r s = EachTwo (λ (a b : List ℕ). segment_length a ≡ segment_length b
 pub start_same : (from : ℕ) {r s : List (List ℕ)} → AsLong r s → last_start from r ≡ last_start from s
 start_same from none = refl
 start_same from (another e none) = refl
-start_same from (another {a = a} {s = s} e (another f same)) =
-    start_same (from + segment_length a) (another f same) ∙ ap (λ (n : ℕ). last_start (from + n) s) e
+start_same from (another {a = a} {s = s} e (another {a = c} {b = d} f same)) =
+    start_same (from + segment_length a) (another {a = c} {b = d} f same) ∙ ap (λ (n : ℕ). last_start (from + n) s) e
 
 pub end_same : (from : ℕ) {r s : List (List ℕ)} → AsLong r s → run_end from r ≡ run_end from s
 end_same from none = refl

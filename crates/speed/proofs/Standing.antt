@@ -11,7 +11,7 @@ use lib.ListN.{drop, get_or}
 use Rattle.bits.proofs.Tests.{and_right}
 use Rattle.kinds.specs.declared.Item.{Item}
 use Rattle.kinds.specs.Kind.{Kind, when}
-use Rattle.kinds.specs.Kinds.{l_sp, q_front, n_iter, q_diff, class, d_location}
+use Rattle.kinds.specs.Kinds.{l_sp, n_iter, d_location}
 use Rattle.format.specs.Format.{Format, field, sheet_numbers}
 use Rattle.format.specs.Conforming.{Conforming, also, InPacket, InSheet}
 use Rattle.format.specs.Grounds.{Front, here, past}
@@ -100,43 +100,43 @@ module _ (Good : Kind → Item → Type 0) (count : (i : Item) → Good (n_iter 
 
   -- ---- and no others do
 
-  entries_only : (n : ℕ) (follow l : List Item) (es : List Entry) → EntriesStand Good follow n l es → (es ≡ entries_of n (sheet_numbers l)) × (after_entries n (sheet_numbers l) ≡ sheet_numbers follow)
-  entries_only n follow l es EntriesStand.none = (refl, refl)
-  entries_only n follow l es (EntriesStand.entry {n = k} {l = m} {es = fs} q c v gq gc gv r) =
-      let p = entries_only k follow m fs r in
+  entries_only : (follow : List Item) (n : ℕ) (l : List Item) (es : List Entry) → EntriesStand Good follow n l es → (es ≡ entries_of n (sheet_numbers l)) × (after_entries n (sheet_numbers l) ≡ sheet_numbers follow)
+  entries_only follow n l es EntriesStand.none = (refl, refl)
+  entries_only follow n l es (EntriesStand.entry {n = k} {l = m} {es = fs} q c v gq gc gv r) =
+      let p = entries_only follow k m fs r in
       (ap (λ (z : List Entry). record { q_diff = q.sheet; class = c.sheet; v_diff = v.sheet } ∷ z) p.0, p.1)
 
   element_only : (start : ℕ) (follow l : List Item) (e : Element) → ElementStands Good follow start l e
       → (e ≡ element_of start (sheet_numbers l)) × (after_element (sheet_numbers l) ≡ sheet_numbers follow)
   element_only start follow l e (ElementStands.element {l = m} {es = es} v f n gv gf gn r) =
-      let p = entries_only n.packet follow m es r in
+      let p = entries_only follow n.packet m es r in
       let q = count n gn in
       let s = sheet_numbers m in
       let i : es ≡ entries_of n.sheet s = p.0 ∙ ap (λ (k : ℕ). entries_of k s) q in
       (ap (λ (z : List Entry). record { start = start; v_static = v.sheet; q_front = f.sheet; entries = z }) i, ap (λ (k : ℕ). after_entries k s) (sym q) ∙ p.1)
 
-  changes_only : (from lsp n last : ℕ) (follow l : List Item) (es : List Element) → ChangesStand Good follow from lsp n last l es → es ≡ changes_from from n (sheet_numbers l)
-  changes_only from lsp n last follow l es ChangesStand.none = refl
-  changes_only from lsp n last follow l es (ChangesStand.change {n = k} {l = a} {m = b} {e = e} {es = fs} x gx r rest) =
+  changes_only : (from lsp : ℕ) (follow : List Item) (n last : ℕ) (l : List Item) (es : List Element) → ChangesStand Good follow from lsp n last l es → es ≡ changes_from from n (sheet_numbers l)
+  changes_only from lsp follow n last l es ChangesStand.none = refl
+  changes_only from lsp follow n last l es (ChangesStand.change {n = k} {l = a} {m = b} {e = e} {es = fs} x gx r rest) =
       let p = element_only (from + x.sheet) b a e r in
-      let q = changes_only from lsp k x.packet follow b fs rest in
+      let q = changes_only from lsp follow k x.packet b fs rest in
       ap₂ (λ (g : Element) (z : List Element). g ∷ z) p.0 (q ∙ ap (changes_from from k) (sym p.1))
 
   pub profile_only : (from lsp : ℕ) (follow l : List Item) (es : List Element) → ProfileStands Good follow from lsp l es → es ≡ elements_from from (sheet_numbers l)
   profile_only from lsp follow l es (ProfileStands.counted {l = a} {m = b} {e = e} {es = fs} n r gn rest) =
       let p = element_only (from + 0) (n ∷ b) a e r in
-      let q = changes_only from lsp n.packet 0 follow b fs rest in
+      let q = changes_only from lsp follow n.packet 0 b fs rest in
       let pick : List ℕ → List Element = λ s. changes_from from (get_or s 0 0) (drop 1 s) in
       ap₂ (λ (g : Element) (z : List Element). g ∷ z) p.0 (q ∙ ap (λ (k : ℕ). changes_from from k (sheet_numbers b)) (count n gn) ∙ ap pick (sym p.1))
 
   -- ---- and they are the values of the tree's fields: what stands conforms to the front of the tree
 
-  entries_front : (n : ℕ) (f : Format) (follow l : List Item) (es : List Entry) → EntriesStand Good follow n l es
+  entries_front : (follow : List Item) (n : ℕ) (f : Format) (l : List Item) (es : List Entry) → EntriesStand Good follow n l es
       → (m : List Item) × (l ≡ m ++ follow) × Front Good (entries n f) m f
   unfolding entries
-  entries_front n f follow l es EntriesStand.none = ([], refl, here)
-  entries_front n f follow l es (EntriesStand.entry {n = k} {l = m} {es = fs} q c v gq gc gv r) =
-      let p = entries_front k f follow m fs r in
+  entries_front follow n f l es EntriesStand.none = ([], refl, here)
+  entries_front follow n f l es (EntriesStand.entry {n = k} {l = m} {es = fs} q c v gq gc gv r) =
+      let p = entries_front follow k f m fs r in
       (q ∷ c ∷ v ∷ p.0, ap (λ (z : List Item). q ∷ c ∷ v ∷ z) p.1, past gq (past gc (past gv p.2)))
 
   front_on : {f g h : Format} {a b : List Item} → Front Good f a g → Front Good g b h → Front Good f (a ++ b) h
@@ -146,16 +146,16 @@ module _ (Good : Kind → Item → Type 0) (count : (i : Item) → Good (n_iter 
   element_front : (start : ℕ) (f : Format) (follow l : List Item) (e : Element) → ElementStands Good follow start l e
       → (m : List Item) × (l ≡ m ++ follow) × Front Good (profile f) m f
   element_front start f follow l e (ElementStands.element {l = m} {es = es} v q n gv gq gn r) =
-      let p = entries_front n.packet f follow m es r in
+      let p = entries_front follow n.packet f m es r in
       (v ∷ q ∷ n ∷ p.0, ap (λ (z : List Item). v ∷ q ∷ n ∷ z) p.1, past gv (past gq (past gn p.2)))
 
-  changes_front : (from lsp n last : ℕ) (f : Format) (follow l : List Item) (es : List Element) → ChangesStand Good follow from lsp n last l es
+  changes_front : (from lsp : ℕ) (follow : List Item) (n last : ℕ) (f : Format) (l : List Item) (es : List Element) → ChangesStand Good follow from lsp n last l es
       → (m : List Item) × (l ≡ m ++ follow) × Front Good (changes profile lsp last n f) m f
   unfolding changes
-  changes_front from lsp n last f follow l es ChangesStand.none = ([], refl, here)
-  changes_front from lsp n last f follow l es (ChangesStand.change {n = k} {l = a} {m = b} {e = e} {es = fs} x gx r rest) =
+  changes_front from lsp follow n last f l es ChangesStand.none = ([], refl, here)
+  changes_front from lsp follow n last f l es (ChangesStand.change {n = k} {l = a} {m = b} {e = e} {es = fs} x gx r rest) =
       let p = element_front (from + x.sheet) (changes profile lsp x.packet k f) b a e r in
-      let q = changes_front from lsp k x.packet f follow b fs rest in (
+      let q = changes_front from lsp follow k x.packet f b fs rest in (
         x ∷ (p.0 ++ q.0),
         ap (λ (z : List Item). x ∷ z) (p.1 ∙ ap (λ (z : List Item). p.0 ++ z) q.1 ∙ sym (append_assoc p.0 q.0 follow)),
         past gx (front_on p.2 q.2),
@@ -165,7 +165,7 @@ module _ (Good : Kind → Item → Type 0) (count : (i : Item) → Good (n_iter 
       → (m : List Item) × (l ≡ m ++ follow) × Front Good (part profile 31 lsp f) m f
   profile_front from lsp f follow l es (ProfileStands.counted {l = a} {m = b} {e = e} {es = fs} n r gn rest) =
       let p = element_front (from + 0) (field (n_iter 31) λ n. changes profile lsp 0 n f) (n ∷ b) a e r in
-      let q = changes_front from lsp n.packet 0 f follow b fs rest in (
+      let q = changes_front from lsp follow n.packet 0 f b fs rest in (
         p.0 ++ n ∷ q.0,
         p.1 ∙ ap (λ (z : List Item). p.0 ++ n ∷ z) q.1 ∙ sym (append_assoc p.0 (n ∷ q.0) follow),
         front_on p.2 (past gn q.2),
@@ -220,7 +220,7 @@ module _ (Good : Kind → Item → Type 0) (count : (i : Item) → Good (n_iter 
     element_start : {follow l : List Item} {start : ℕ} {e : Element} → ElementStands Good follow start l e → e.start ≡ start
     element_start (ElementStands.element v f n gv gf gn r) = refl
 
-    changes_start : {follow l : List Item} {lsp n last : ℕ} {es : List Element} → ChangesStand Good follow 0 lsp n last l es → StartsTo lsp es
+    changes_start : {lsp : ℕ} {follow l : List Item} {n last : ℕ} {es : List Element} → ChangesStand Good follow 0 lsp n last l es → StartsTo lsp es
     changes_start ChangesStand.none = tt
     changes_start {lsp = lsp} {last = last} (ChangesStand.change x gx e rest) = (omega (arith, element_start e, location last lsp x gx), changes_start rest)
 
@@ -232,7 +232,7 @@ module _ (Good : Kind → Item → Type 0) (count : (i : Item) → Good (n_iter 
     segment_starts whole l c =
         let w = segment_stands 0 l c in
         let o = segment_only 0 l _ w in
-        rw (whole w.length w.long ∙ o.0) at (profile_start w.elements)
+        subst (λ (n : ℕ). StartsTo n (elements_from 0 (profile_of (sheet_numbers l)))) (whole w.length w.long ∙ o.0) (profile_start w.elements)
 
 -- a count is one number in both media
 pub packet_count : (i : Item) → InPacket (n_iter 31) i → i.packet ≡ i.sheet

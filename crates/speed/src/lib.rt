@@ -10,7 +10,7 @@ use fields::tables;
 // A train: `length` in cm, 1 to 150,000; cant deficiency `cant` in mm, one of eleven figures; its own `maximum` speed in km/h, 1 to 600;
 // whether it is freight in P position, freight in G position, a passenger train.
 #[repr(C)]
-#[derive(Drop)]
+#[derive(Clone, Copy)]
 pub struct Train {
     pub length: u32,
     pub cant: u32,

@@ -1,5 +1,5 @@
 -- One speed more, and one element more: what stands for those before stands for it too.
-use mathlib.Core.Path.{◌≡◌, ap, ◌∙◌}
+use mathlib.Core.Path.{ap₂, sym, ◌≡◌, ap, ◌∙◌}
 use mathlib.Core.Bool.{Bool, true, false, cond, ◌&&◌}
 use mathlib.Core.List.{List, [], ◌∷◌}
 use Prim.Native.Nat.{ℕ, ◌+◌, ◌-◌, ◌*◌, ◌/◌, ◌%◌, ◌≤◌, ◌<◌, min, max}
@@ -11,7 +11,7 @@ use lib.ListN.{get_or}
 use Rattle.bits.proofs.Tests.{by_cases}
 use Rattle.speed.proofs.Laws.{belongs_listed}
 use Rattle.speed.specs.declared.Train.{Train}
-use Rattle.speed.specs.Speed.{Entry, Element, belongs, memberships, not_above, greatest_figure, greatest_speeds, named_speeds, instead, element_speed, held_to, holds}
+use Rattle.speed.specs.Speed.{lowest, figure_speeds, Entry, Element, belongs, memberships, not_above, greatest_figure, greatest_speeds, named_speeds, instead, element_speed, held_to, holds}
 use Rattle.speed_element.specs.declared.Lows.{Lows}
 use Rattle.speed_element.specs.declared.Open.{Open}
 use Rattle.speed_element.specs.internal.Elements.{none, instead_from, lowest_from, counted, Distant, folded, counts, no_figure, folded_entry, cant_from, cant_of, no_lows, Kept, speed_from, speed_of, Worked, OneMore, element_with}
@@ -81,16 +81,16 @@ module _ (v : ℕ) (a b c : Entry) (l : List Entry) (greater : c.class ≡ max a
       (λ p. let x : a.class ≡ f = eqb-true a.class f p in
       let z : eqb c.class f ≡ true = eq-eqb c.class f (omega arith) in
       by_cases (eqb b.class f)
-      (λ q. let y : b.class ≡ f = eqb-true b.class f q in rw (p, q, z, same (omega arith)))
-      (λ q. let y = eqb-false b.class f q in rw (p, q, z, first (omega arith))))
+      (λ q. let y : b.class ≡ f = eqb-true b.class f q in rw (p, q, z, same (omega arith)) (ap (λ (n : ℕ). lowest (min a.v_diff b.v_diff) (figure_speeds n l)) (sym e)))
+      (λ q. let y = eqb-false b.class f q in rw (p, q, z, first (omega arith)) (ap (λ (n : ℕ). lowest a.v_diff (figure_speeds n l)) (sym e))))
       (λ p. let x = eqb-false a.class f p in
       by_cases (eqb b.class f)
       (λ q. let y : b.class ≡ f = eqb-true b.class f q in
       let z : eqb c.class f ≡ true = eq-eqb c.class f (omega arith) in
-      rw (p, q, z, second (omega arith)))
+      rw (p, q, z, second (omega arith)) (ap (λ (n : ℕ). lowest b.v_diff (figure_speeds n l)) (sym e)))
       (λ q. let y = eqb-false b.class f q in
-      let z : eqb c.class f ≡ false = ne_eqb c.class f (λ e. omega arith) in
-      rw (p, q, z))))
+      let z : eqb c.class f ≡ false = ne_eqb c.class f (λ h. omega arith) in
+      rw (p, q, z) (ap (λ (n : ℕ). instead v (figure_speeds n l)) (sym e)))))
 
 module _ (t : Train) (best v q class w far : ℕ) (es : List Entry) (k : Kept q class w) (small : t.cant < 4294967296) (d : Distant t q class far) where
   abbrev here : Entry
@@ -114,7 +114,7 @@ module _ (t : Train) (best v q class w far : ℕ) (es : List Entry) (k : Kept q 
       (λ z. let g = leb-false (best / 1024) t.cant z in
       let a : t.cant - more / 1024 ≡ class = omega arith in
       let b : more % 1024 ≡ w = omega arith in
-      rw (z, some, a, b))
+      rw (z, some) (ap₂ (λ (k s : ℕ). instead v (greatest_speeds (record { q_diff = 0; class = k; v_diff = s } ∷ not_above t es))) a b))
 
   -- further than all that count, where it does not
   none_more : 4294967296 ≤ far → cant_from t more v es ≡ cant_from t best v es

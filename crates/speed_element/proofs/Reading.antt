@@ -17,7 +17,7 @@ use Rattle.grammar.specs.segment.Segment.{entries, profile, voltage, current, ch
 use Rattle.grammar.specs.internal.segment.Parts.{entry}
 use Rattle.grammar.proofs.segment.Parts.{entries_more, changes_more}
 use Rattle.speed.specs.declared.Train.{Train}
-use Rattle.speed.specs.Speed.{Element, element_speed, end_before, held_to, holds, held_speeds, entries_of, after_entries, element_of, after_element, changes_from, elements_from}
+use Rattle.speed.specs.Speed.{profile_of, Element, element_speed, end_before, held_to, holds, held_speeds, entries_of, after_entries, element_of, after_element, changes_from, elements_from}
 use Rattle.speed_element.specs.declared.Lows.{Lows}
 use Rattle.speed_element.specs.declared.First.{First}
 use Rattle.speed_element.specs.declared.Following.{Following}
@@ -390,4 +390,6 @@ module _ (Reads : Format → ℕ → List Item → Type 0) where
     pub head_passed : {t : Train} {x before r : ℕ} → ProfileRead Reads t lsp x before at r → Passed t ns x before r
     head_passed {t} {x} {before} {r} p =
         let q = p.said (part voltage wire_changes lsp (part current wire_changes lsp end)) h.past.values h.past.reads in
-        rw (h.past.numbers, h.length_is) at q
+        let here = rw h.past.numbers at q in
+        let P : ℕ → Type 0 = λ n. Holding before (held_speeds t n x (elements_from 0 (profile_of ns))) r in
+        subst P h.length_is here

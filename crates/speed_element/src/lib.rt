@@ -29,7 +29,7 @@ const REPLACING: u32 = 1;
 const LOWERING: u32 = 2;
 
 // The lowest speeds in km/h of the entries that name the train, for each Q_DIFF. `cant` is the lowest distance * SPEEDS + speed.
-#[derive(Drop)]
+#[derive(Clone, Copy)]
 pub struct Lows {
     pub cant: u64,
     pub replacing: u32,
@@ -37,7 +37,7 @@ pub struct Lows {
 }
 
 // An element whose entries are not read yet: its start in cm, V_STATIC in km/h, Q_FRONT, the count of its entries, and where they stand.
-#[derive(Drop)]
+#[derive(Clone, Copy)]
 pub struct Open {
     pub start: u32,
     pub v_static: u32,
@@ -47,21 +47,21 @@ pub struct Open {
 }
 
 // An element, and the place after it.
-#[derive(Drop)]
+#[derive(Clone, Copy)]
 pub struct ElementAt {
     pub open: Open,
     pub next: usize,
 }
 
 // The head of a segment: L_SP in cm, and the place where its speed profile starts.
-#[derive(Drop)]
+#[derive(Clone, Copy)]
 pub struct Head {
     pub lsp: u32,
     pub profile: usize,
 }
 
 // The first element of a speed profile, the count of changes that follow it, and the place of the first of them.
-#[derive(Drop)]
+#[derive(Clone, Copy)]
 pub struct First {
     pub open: Open,
     pub count: u32,
@@ -69,7 +69,7 @@ pub struct First {
 }
 
 // Where an element ends in cm, the element that follows, and the place after that one.
-#[derive(Drop)]
+#[derive(Clone, Copy)]
 pub struct Following {
     pub end: u32,
     pub open: Open,

@@ -17,7 +17,7 @@ use speed::Train;
 
 // Answer to a speed question: 0, 0 and the permitted speed in km/h; or a refusal's number, its place (a bit of the packet or a byte of the sheet) and 0.
 #[repr(C)]
-#[derive(Drop)]
+#[derive(Clone, Copy)]
 pub struct Speed {
     pub refusal: u32,
     pub place: u32,

@@ -22,14 +22,14 @@ pub const SHEET: u32 = 1;
 pub const MOST: u32 = 4;
 
 // The verdict on a segment or a run: `Refused(number, place)`, with the place in the segment that is refused.
-#[derive(Drop)]
+#[derive(Clone, Copy)]
 pub enum Judged {
     Accepted,
     Refused(u32, u32),
 }
 
 // The last segment of a run: where it starts, counted from the start of the run, and its head.
-#[derive(Drop)]
+#[derive(Clone, Copy)]
 pub struct LastSegment {
     pub start: u32,
     pub head: Head,

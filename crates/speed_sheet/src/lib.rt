@@ -25,7 +25,7 @@ const BEFORE_LENGTH: u32 = 9;
 const OFFSETS: u32 = 3;
 
 // The lowest speeds, with one entry more, and the byte after the entry.
-#[derive(Drop)]
+#[derive(Clone, Copy)]
 pub struct Entered {
     pub lows: Lows,
     pub next: usize,

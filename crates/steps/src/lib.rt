@@ -22,7 +22,7 @@ pub const MOST: usize = 128;
 
 // Answer to a check of steps: 0 and 0, or a refusal's number and its place; with 19 the place is the first wrong centimetre.
 #[repr(C)]
-#[derive(Drop)]
+#[derive(Clone, Copy)]
 pub struct Checked {
     pub refusal: u32,
     pub place: u32,

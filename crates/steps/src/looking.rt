@@ -10,14 +10,14 @@ use crate::spans::{MOST, Spans};
 use speed::Train;
 
 // A stretch: the lowest speed of the spans that hold in it, and the place, in cm from the start of the run, where it ends.
-#[derive(Drop)]
+#[derive(Clone, Copy)]
 pub struct Stretch {
     pub low: u32,
     pub until: u64,
 }
 
 // A place in cm from the start of the last segment, and the number of the last step at or before it.
-#[derive(Drop)]
+#[derive(Clone, Copy)]
 pub struct Reached {
     pub place: u32,
     pub step: usize,

@@ -19,7 +19,7 @@ use speed_question::run::LastSegment;
 pub const MOST: usize = 128;
 
 // The first `count` spans. The span `i` holds from `starts[i]` on and before `stops[i]`, with `speeds[i]`.
-#[derive(Drop)]
+#[derive(Clone, Copy)]
 pub struct Spans {
     pub count: usize,
     pub starts: [u64; MOST],

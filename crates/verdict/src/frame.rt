@@ -8,7 +8,7 @@ use kinds::header;
 use kinds::refusals::{PACKET_LENGTH, PACKET_NUMBER, SHORT_PACKET};
 
 // `End(bit)`: the bit where a packet's fields end. `Refused(number)`.
-#[derive(Drop)]
+#[derive(Clone, Copy)]
 pub enum Frame {
     End(usize),
     Refused(u32),

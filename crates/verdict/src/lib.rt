@@ -5,14 +5,14 @@
 pub mod frame;
 
 // `SheetBytes(bytes)`: the bytes of the packet's sheet. `Refused(number, bit)`.
-#[derive(Drop)]
+#[derive(Clone, Copy)]
 pub enum PacketVerdict {
     SheetBytes(usize),
     Refused(u32, u32),
 }
 
 // `PacketBits(bits)`: the bits of the sheet's packet, without L_PACKET_ATO and padding. `Refused(number, byte)`.
-#[derive(Drop)]
+#[derive(Clone, Copy)]
 pub enum SheetVerdict {
     PacketBits(usize),
     Refused(u32, u32),

@@ -4,29 +4,43 @@
 
 ghost use Rattle.std.specs.Prelude.{◌≤◌, length};
 
-use libc::STDOUT_FILENO;
+use std::fs::File;
+use std::io;
+use std::io::Read;
+use std::rt::Files;
 
-// Reads the file `path` of the folder in which the program was started into `buffer`. Returns how many bytes it has put there: 0 for a file that cannot be opened.
-fn read_file(path: &[u8], buffer: &mut [u8]) -> usize
+// Reads until the buffer is full, the input ends or a read fails. Returns how many bytes it has put at the start of the buffer.
+fn read_full(input: &mut impl Read, buffer: &mut [u8]) -> usize
     ensures { result ≤ length buffer.new }
 {
-    let fd = os::open_read(path);
-    if fd < 0 {
-        return 0;
+    let mut done = 0;
+    while done < buffer.len() {
+        match input.read(&mut buffer[done..]) {
+            Ok(n) if n > 0 => done += n,
+            _ => break,
+        }
     }
-    let n = io::read_full(fd, buffer);
-    libc::close(fd);
-    n
+    done
+}
+
+// Reads the file `path` of the folder in which the program was started into `buffer`. Returns how many bytes it has put there: 0 for a file that cannot be opened.
+fn read_file(rt: &impl Files, path: &str, buffer: &mut [u8]) -> usize
+    ensures { result ≤ length buffer.new }
+{
+    match File::open(rt, path) {
+        Ok(mut file) => read_full(&mut file, buffer),
+        Err(_) => 0,
+    }
 }
 
 // Reads the files `cards` and `packet` and writes the screen's text to standard output.
-fn main() {
+fn main(rt: HostRuntime) -> io::Result<()> {
     // 64 cards have at most 2,240 bytes, a packet at most 8,207: one byte more tells that a file is longer, so the rest is not read.
     let mut cards = [0u8; 2241];
-    let n = read_file(b"cards", &mut cards);
+    let n = read_file(&rt, "cards", &mut cards);
     let mut packet = [0u8; 8208];
-    let m = read_file(b"packet", &mut packet);
+    let m = read_file(&rt, "packet", &mut packet);
     let mut room = [0u8; screen::ROOM];
     let length = screen::screen(&cards[..n], &packet[..m], &mut room);
-    io::write_all(STDOUT_FILENO, &room[..length]);
+    rt.write_all(&room[..length])
 }

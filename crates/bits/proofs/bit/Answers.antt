@@ -1,5 +1,5 @@
 -- `bits::bit` meets its contract.
-use Rattle.std.proofs.Common.{◌-◌, ◌*◌, ◌/◌, ◌%◌, arith, rules}
+use Rattle.std.proofs.Common.{◌-◌, ◌*◌, ◌/◌, ◌%◌, arith}
 use Rattle.bits.proofs.Windows.{read_window}
 use Rattle.bits.proofs.bit.Goals as goal
 

@@ -1,5 +1,5 @@
 -- `bits::byte` meets its contract.
-use Rattle.std.proofs.Common.{sym, rules}
+use Rattle.std.proofs.Common.{sym}
 use Rattle.bits.proofs.Windows.{field_byte}
 use Rattle.bits.proofs.byte.Goals as goal
 

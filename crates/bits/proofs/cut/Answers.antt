@@ -1,5 +1,5 @@
 -- `bits::cut` meets its contract.
-use Rattle.std.proofs.Common.{lt_of_lt_of_le, mod-lt, arith, pow_pos, pow_mono, rules}
+use Rattle.std.proofs.Common.{lt_of_lt_of_le, mod-lt, arith, pow_pos, pow_mono}
 use Rattle.bits.proofs.cut.Goals as goal
 
 pub nonzero_rem-result : goal.nonzero_rem-result

@@ -1,5 +1,5 @@
 -- `bits::joined` meets its contract.
-use Rattle.std.proofs.Common.{arith, rules}
+use Rattle.std.proofs.Common.{arith}
 use Rattle.bits.proofs.Windows.{field_joined, joined_fits}
 use Rattle.bits.proofs.joined.Goals as goal
 

@@ -1,5 +1,5 @@
 -- `bits::power` meets its contract.
-use Rattle.std.proofs.Common.{mod-eq_of_lt, one-mul, arith, rules}
+use Rattle.std.proofs.Common.{mod-eq_of_lt, one-mul, arith}
 use lib.Pow.{pow-lt}
 use Rattle.bits.proofs.power.Goals as goal
 

@@ -1,5 +1,5 @@
 -- `bits::read_window` meets its contract.
-use Rattle.std.proofs.Common.{◌-◌, ◌*◌, arith, rules}
+use Rattle.std.proofs.Common.{◌-◌, ◌*◌, arith}
 use Rattle.bits.proofs.Windows.{read_window}
 use Rattle.bits.proofs.read_window.Goals as goal
 

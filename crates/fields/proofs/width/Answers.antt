@@ -1,5 +1,4 @@
 -- `fields::width` meets its contract.
-use Rattle.std.proofs.Common.{rules}
 use Rattle.fields.proofs.width.Goals as goal
 
 pub returns-in-Range : goal.returns-in-Range

@@ -10,7 +10,7 @@ use borrow.Author.Tests.{eqb-true, le-ltb, ltb-false, eq-eqb}
 use lib.Dec.{ltb, eqb}
 use lib.ListN.{length, take, drop, length-append, length-drop}
 use lib.Seq.{take_at, drop_at, length-take-le, take-add, drop-drop}
-use Rattle.bits.specs.Bits.{Bytes, bits_of, number, bits_of_bytes, bytes_of_bits, field_at, fill}
+use Rattle.bits.specs.Bits.{Bytes, bits_of, bits_of_bytes, bytes_of_bits, field_at, fill}
 use Rattle.bits.proofs.Tests.{by_cases}
 use Rattle.bits.proofs.Spelling.{length_bits, number_bits, bits_number}
 use Rattle.bits.proofs.Fields.{field_small}

@@ -6,7 +6,6 @@ use Rattle.format.specs.Conforming.{Conforming, InPacket, InSheet}
 use Rattle.format.specs.Grounds.{GroupsFault, Ground, Written}
 use Rattle.grammar.specs.segment.Frame.{packet_number}
 use Rattle.grammar.specs.segment.Grounds.{PacketGround}
-use Rattle.grammar.specs.declared.link.Tree.{Tree}
 use Rattle.grammar.specs.declared.link.Tree.TheVariants.{Segment, Journey}
 use Rattle.grammar.specs.link.Link.{tree_number, tree_fields, link_fields, link_bits}
 

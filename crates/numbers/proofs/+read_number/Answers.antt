@@ -1,5 +1,5 @@
 -- In the code's order: no group left; the slice's end; a last group; a group that another follows.
-use Rattle.std.proofs.Common.{ℕ, ◌+◌, ◌-◌, ap, ◌∙◌, arith, drop}
+use Rattle.std.proofs.Common.{◌+◌, ◌-◌, ap, ◌∙◌, arith, drop}
 use Rattle.bits.proofs.Cells.{whole_part}
 use Rattle.numbers.specs.Numbers.{number_of}
 use Rattle.numbers.specs.internal.Groups.{counted}

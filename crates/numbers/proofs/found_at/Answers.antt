@@ -7,7 +7,6 @@ use Rattle.numbers.specs.Numbers.{number_in}
 use Rattle.numbers.specs.internal.Groups.{counted, found}
 use Rattle.numbers.proofs.Reading.{number_end_lem, number_below, short_product, short_value, counted_short, found_is}
 use native.Mathlib.Omega.{arith}
-use borrow.Author.Rules.{rules}
 use Rattle.numbers.proofs.found_at.Goals as goal
 
 pub returns-then-s-at : goal.returns-then-s-at

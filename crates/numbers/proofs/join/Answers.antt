@@ -1,6 +1,5 @@
 -- `numbers::join` meets its contract.
 use Rattle.numbers.proofs.Reading.{joins_none, joins_large, joins_some}
-use borrow.Author.Rules.{rules}
 use Rattle.numbers.proofs.join.Goals as goal
 
 pub returns-then-value-eq0 : goal.returns-then-value-eq0

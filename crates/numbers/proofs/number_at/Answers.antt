@@ -2,7 +2,6 @@
 use mathlib.Core.Path.{sym}
 use lib.ListN.{drop}
 use Rattle.numbers.proofs.Reading.{found_none, found_value}
-use borrow.Author.Rules.{rules}
 use Rattle.numbers.proofs.number_at.Goals as goal
 
 pub returns-then-a-eq0 : goal.returns-then-a-eq0

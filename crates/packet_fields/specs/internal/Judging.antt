@@ -5,11 +5,9 @@ use Rattle.format.specs.Format.{Format}
 use Rattle.format.specs.Media.{packet, sheet}
 use Rattle.format.specs.internal.Places.{bits_between}
 use Rattle.verdict.specs.declared.PacketVerdict.{PacketVerdict}
-use Rattle.verdict.specs.declared.PacketVerdict.TheVariants as PacketVerdict
 use Rattle.packet_fields.specs.declared.PacketStep.{PacketStep}
 use Rattle.packet_fields.specs.declared.PacketStep.TheVariants.{On, Refused}
 use Rattle.packet_fields.specs.declared.PacketValue.{PacketValue}
-use Rattle.packet_fields.specs.declared.PacketValue.TheVariants as PacketValue
 use Rattle.format.specs.internal.Pass.{Task, pass}
 use Rattle.format.specs.internal.Tasks.{counting}
 use Rattle.format.specs.internal.Ways as ways

@@ -9,11 +9,9 @@ use Rattle.format.specs.internal.Tasks.{counting_within}
 use Rattle.format.specs.internal.Ways as ways
 use Rattle.format.specs.internal.Ways.{Way, passing, Went, Got}
 use Rattle.verdict.specs.declared.SheetVerdict.{SheetVerdict}
-use Rattle.verdict.specs.declared.SheetVerdict.TheVariants as SheetVerdict
 use Rattle.sheet_fields.specs.declared.SheetStep.{SheetStep}
 use Rattle.sheet_fields.specs.declared.SheetStep.TheVariants.{On, Refused}
 use Rattle.sheet_fields.specs.declared.SheetValue.{SheetValue}
-use Rattle.sheet_fields.specs.declared.SheetValue.TheVariants as SheetValue
 
 -- the task that counts the bits of the packet modulo 2^32: no sheet length bounds the count, and an accepted sheet's count is far below 2^32
 abbrev pub judging : Task ℕ SheetVerdict

@@ -1,7 +1,6 @@
 -- `speed::belongs_to` meets its contract.
 use Prim.Native.Nat.{◌%◌}
 use native.Mathlib.Omega.{arith}
-use borrow.Author.Rules.{rules}
 use Rattle.speed.proofs.Laws.{byte_most, belongs_bit}
 use Rattle.speed.proofs.belongs_to.Goals as goal
 

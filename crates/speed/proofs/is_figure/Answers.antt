@@ -1,5 +1,4 @@
 -- `speed::is_figure` meets its contract.
-use borrow.Author.Rules.{rules}
 use Rattle.speed.proofs.Laws.{figure_place}
 use Rattle.speed.proofs.is_figure.Goals as goal
 

@@ -2,7 +2,6 @@
 use mathlib.Core.Path.{◌∙◌}
 use native.Mathlib.Omega.{arith}
 use Rattle.speed.proofs.Laws.{valid_short, valid_long, valid_slow, valid_fast, valid_figure}
-use borrow.Author.Rules.{rules}
 use Rattle.speed.proofs.valid.Goals as goal
 
 pub returns-then-train-lt1 : goal.returns-then-train-lt1

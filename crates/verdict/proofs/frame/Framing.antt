@@ -22,7 +22,6 @@ use Rattle.format.specs.Media.{packet}
 use Rattle.grammar.specs.segment.Frame.{packet_number, body_bits, first_one, number_item, padded, unframed}
 use Rattle.format.specs.internal.Places.{bits_between, Placed}
 use Rattle.verdict.specs.declared.frame.Frame.{Frame}
-use Rattle.verdict.specs.declared.frame.Frame.TheVariants as Frame
 use Rattle.verdict.specs.internal.frame.Framed.{frame_of, one_or_end}
 
 module _ (n : ℕ) (s : List ℕ) where

@@ -9,9 +9,7 @@ use Rattle.grammar.specs.link.Link.{tree_number, tree_fields}
 use Rattle.grammar.specs.internal.link.Trees.{tree_sheet_fields, tree_packet, tree_sheet}
 use Rattle.format.specs.internal.Places.{bits_between}
 use Rattle.verdict.specs.declared.PacketVerdict.{PacketVerdict}
-use Rattle.verdict.specs.declared.PacketVerdict.TheVariants as PacketVerdict
 use Rattle.verdict.specs.declared.SheetVerdict.{SheetVerdict}
-use Rattle.verdict.specs.declared.SheetVerdict.TheVariants as SheetVerdict
 
 -- the size of what is made of the values that were read, or a refusal with its place
 abbrev pub verdict_of : {B : Type 0} → (ℕ → B) → (ℕ → ℕ → B) → (List Item → ℕ) → Read → B

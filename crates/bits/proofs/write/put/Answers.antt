@@ -1,6 +1,5 @@
 -- `bits::write::put` meets its contract.
 use Rattle.bits.proofs.write.Putting.{filling}
-use Rattle.std.proofs.Common.{rules}
 use Rattle.bits.proofs.write.put.Goals as goal
 
 pub returns : goal.returns

@@ -1,6 +1,5 @@
 -- `bits::write::store_eight` meets its contract.
 use Rattle.bits.proofs.write.Putting.{bytes_halves}
-use Rattle.std.proofs.Common.{rules}
 use Rattle.bits.proofs.write.store_eight.Goals as goal
 
 pub returns : goal.returns

@@ -1,5 +1,4 @@
-use Rattle.std.proofs.Common.{◌≡◌, ℕ, suc, ◌+◌, ◌-◌, ◌*◌, ◌/◌, ◌%◌, ◌^◌, ◌<◌, ◌≤◌, length, sym, refl, ◌∙◌, mod-eq_of_lt, mul-one, arith, length-set}
-use lib.Seq.{sets}
+use Rattle.std.proofs.Common.{◌≡◌, ℕ, suc, ◌+◌, ◌-◌, ◌*◌, ◌/◌, ◌%◌, ◌^◌, ◌<◌, sym, refl, ◌∙◌, mod-eq_of_lt, mul-one, arith, length-set}
 use Rattle.bits.proofs.Cells.{sets_past}
 use Rattle.bits.specs.internal.write.Filling.{bytes_in}
 use Rattle.bits.proofs.write.Putting.{bytes_more, top_byte, next_byte}

@@ -1,9 +1,7 @@
 -- `bits::write::store_some` meets its contract. The loop's invariant: what is left to set, from the byte j on, stands at the top of rest. The measure is what is left of the slice.
-use Rattle.std.proofs.Common.{◌≡◌, ℕ, suc, ◌+◌, ◌-◌, ◌*◌, ◌/◌, ◌%◌, ◌^◌, ◌<◌, ◌≤◌, length, sym, refl, ◌∙◌, mod-eq_of_lt, mul-one, arith, length-set}
+use Rattle.std.proofs.Common.{◌≡◌, ◌-◌, ◌*◌, ◌%◌, ◌^◌, ◌≤◌, length}
 use lib.Seq.{sets}
-use Rattle.bits.proofs.Cells.{sets_past}
 use Rattle.bits.specs.internal.write.Filling.{bytes_in}
-use Rattle.bits.proofs.write.Putting.{bytes_more, top_byte, next_byte}
 use Rattle.bits.proofs.write.store_some.Given as goal
 
 abbrev pub invariant-loop-j : goal.invariant-loop-j

@@ -1,5 +1,5 @@
 -- `bits::write::store_two` meets its contract.
-use Rattle.std.proofs.Common.{◌≡◌, suc, ◌+◌, div-one, arith, length-set, rules}
+use Rattle.std.proofs.Common.{◌≡◌, suc, ◌+◌, div-one, arith, length-set}
 use Rattle.bits.proofs.write.store_two.Goals as goal
 
 pub bounds-s-i-2 : goal.bounds-s-i-2

@@ -1,5 +1,5 @@
 -- `fields::lower::cant_place` meets its contract.
-use Rattle.std.proofs.Common.{ℕ, ◌<◌, List, get_or, sym, ap, ◌∙◌, arith, rules}
+use Rattle.std.proofs.Common.{ℕ, ◌<◌, List, get_or, sym, ap, ◌∙◌, arith}
 use Rattle.fields.proofs.lower.Lowering.{cant_at, cant_none}
 use Rattle.fields.proofs.lower.cant_place.Goals as goal
 use Rattle.fields.proofs.lower.cant_place.Goals.{then-near-le-LARGEST, else-near-le-LARGEST}

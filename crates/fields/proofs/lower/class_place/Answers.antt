@@ -1,5 +1,5 @@
 -- `fields::lower::class_place` meets its contract.
-use Rattle.std.proofs.Common.{◌∙◌, rules}
+use Rattle.std.proofs.Common.{◌∙◌}
 use Rattle.fields.proofs.lower.Lowering.{class_other}
 use Rattle.fields.proofs.lower.class_place.Goals as goal
 

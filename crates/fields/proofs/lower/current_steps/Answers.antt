@@ -1,6 +1,6 @@
 -- `fields::lower::current_steps` meets its contract.
 use Rattle.fields.proofs.lower.Lowering.{current_in, current_out}
-use Rattle.std.proofs.Common.{arith, rules}
+use Rattle.std.proofs.Common.{arith}
 use Rattle.fields.proofs.lower.current_steps.Goals as goal
 
 pub returns-then-a-eq0 : goal.returns-then-a-eq0

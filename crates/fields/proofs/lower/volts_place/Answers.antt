@@ -1,4 +1,4 @@
-use Rattle.std.proofs.Common.{◌≡◌, ◌-◌, ◌≤◌, drop, sym, refl, ◌∙◌, arith}
+use Rattle.std.proofs.Common.{◌≡◌, sym, refl, ◌∙◌, arith}
 use mathlib.Core.Option.{none, some}
 use Rattle.kinds.specs.Tables.{place, volts as table}
 use Rattle.fields.proofs.Lookup.{place_here, place_more, place_none}

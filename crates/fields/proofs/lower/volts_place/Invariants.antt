@@ -1,8 +1,6 @@
 -- `fields::lower::volts_place` meets its contract.
-use Rattle.std.proofs.Common.{◌≡◌, ◌-◌, ◌≤◌, drop, sym, refl, ◌∙◌, arith}
-use mathlib.Core.Option.{none, some}
+use Rattle.std.proofs.Common.{◌≡◌, ◌-◌, ◌≤◌, drop}
 use Rattle.kinds.specs.Tables.{place, volts as table}
-use Rattle.fields.proofs.Lookup.{place_here, place_more, place_none}
 use Rattle.fields.proofs.lower.volts_place.Given as goal
 
 abbrev pub invariant-loop-i : goal.invariant-loop-i

@@ -1,5 +1,5 @@
 -- `fields::raise::class` meets its contract.
-use Rattle.std.proofs.Common.{◌∙◌, rules}
+use Rattle.std.proofs.Common.{◌∙◌}
 use Rattle.fields.proofs.raise.Raised.{class_place, class_raised}
 use Rattle.fields.proofs.raise.class.Goals as goal
 

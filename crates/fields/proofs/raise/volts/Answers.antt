@@ -1,5 +1,5 @@
 -- `fields::raise::volts` meets its contract.
-use Rattle.std.proofs.Common.{refl, rules, ltb-true}
+use Rattle.std.proofs.Common.{refl, ltb-true}
 use Rattle.fields.proofs.raise.volts.Goals as goal
 
 pub bounds-figures-v : goal.bounds-figures-v

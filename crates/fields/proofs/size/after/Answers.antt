@@ -1,5 +1,5 @@
 -- `fields::size::after` meets its contract.
-use Rattle.std.proofs.Common.{arith, rules}
+use Rattle.std.proofs.Common.{arith}
 use Rattle.kinds.specs.Kinds.{d_end_after}
 use Rattle.fields.proofs.size.Bytes.{bytes_some, bytes_none, after_low, after_high, after_in}
 use Rattle.fields.proofs.size.after.Goals as goal

@@ -1,5 +1,4 @@
 -- `fields::size::by` meets its contract.
-use Rattle.std.proofs.Common.{rules}
 use Rattle.fields.proofs.size.by.Goals as goal
 
 pub returns-in-Range : goal.returns-in-Range

@@ -1,5 +1,5 @@
 -- `fields::size::class` meets its contract.
-use Rattle.std.proofs.Common.{eqb, leb, arith, rules}
+use Rattle.std.proofs.Common.{eqb, leb, arith}
 use Rattle.fields.proofs.size.Bytes.{both_small, class_out, class_in}
 use Rattle.fields.proofs.size.class.Goals as goal
 

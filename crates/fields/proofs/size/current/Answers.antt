@@ -1,5 +1,5 @@
 -- `fields::size::current` meets its contract.
-use Rattle.std.proofs.Common.{arith, rules}
+use Rattle.std.proofs.Common.{arith}
 use Rattle.kinds.specs.Kinds.{m_current}
 use Rattle.fields.proofs.size.Bytes.{bytes_some, current_none, current_out, current_allowed}
 use Rattle.fields.proofs.size.current.Goals as goal

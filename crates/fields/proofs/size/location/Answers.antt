@@ -1,5 +1,5 @@
 -- `fields::size::location` meets its contract.
-use Rattle.std.proofs.Common.{arith, rules}
+use Rattle.std.proofs.Common.{arith}
 use Rattle.kinds.specs.Kinds.{d_location}
 use Rattle.fields.proofs.size.Bytes.{bytes_some, bytes_none, location_low, location_high_lem, location_in}
 use Rattle.fields.proofs.size.location.Goals as goal

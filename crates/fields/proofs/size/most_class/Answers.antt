@@ -1,6 +1,5 @@
 -- `fields::size::most_class` meets its contract.
 use Rattle.fields.proofs.size.Bytes.{other_class}
-use Rattle.std.proofs.Common.{rules}
 use Rattle.fields.proofs.size.most_class.Goals as goal
 
 pub returns : goal.returns

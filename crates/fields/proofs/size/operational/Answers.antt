@@ -1,5 +1,5 @@
 -- `fields::size::operational` meets its contract.
-use Rattle.std.proofs.Common.{sym, ◌∙◌, rules}
+use Rattle.std.proofs.Common.{sym, ◌∙◌}
 use Rattle.kinds.specs.Kinds.{nid_operational}
 use Rattle.fields.proofs.size.Bytes.{bytes_some, bytes_none}
 use Rattle.fields.proofs.size.operational.Goals as goal

@@ -1,5 +1,4 @@
 -- `fields::size::refusal` meets its contract.
-use Rattle.std.proofs.Common.{rules}
 use Rattle.fields.proofs.size.refusal.Goals as goal
 
 pub returns-in-Range : goal.returns-in-Range

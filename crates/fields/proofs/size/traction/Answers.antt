@@ -1,5 +1,5 @@
 -- `fields::size::traction` meets its contract.
-use Rattle.std.proofs.Common.{arith, rules}
+use Rattle.std.proofs.Common.{arith}
 use Rattle.kinds.specs.Kinds.{most_traction, nid_c_traction}
 use Rattle.fields.proofs.size.Bytes.{bytes_some, bytes_none, high_out, both_in, traction_small}
 use Rattle.fields.proofs.size.traction.Goals as goal

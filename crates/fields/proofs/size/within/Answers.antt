@@ -1,5 +1,5 @@
 -- `fields::size::within` meets its contract.
-use Rattle.std.proofs.Common.{arith, rules}
+use Rattle.std.proofs.Common.{arith}
 use Rattle.kinds.specs.Kind.{range}
 use Rattle.fields.proofs.size.Bytes.{bytes_some, bytes_none, low_out, high_out, both_in}
 use Rattle.fields.proofs.size.within.Goals as goal

@@ -1,7 +1,6 @@
 -- `kinds::body::class_at` meets its contract.
 use Rattle.kinds.proofs.Choosing.{class_other}
 use mathlib.Core.Path.{◌∙◌}
-use borrow.Author.Rules.{rules}
 use Rattle.kinds.proofs.body.class_at.Goals as goal
 
 pub returns-then-q_diff-eq0 : goal.returns-then-q_diff-eq0

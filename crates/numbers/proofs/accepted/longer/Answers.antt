@@ -1,6 +1,5 @@
-use Prim.Native.Nat.{◌+◌, ◌-◌}
-use lib.ListN.{length}
-use Rattle.numbers.proofs.accepted.Groups.{Rest, there_inside, rest_start, rest_inside, rest_last, rest_value, rest_scale, rest_next, rest_more, rest_reads}
+use Prim.Native.Nat.{◌+◌}
+use Rattle.numbers.proofs.accepted.Groups.{there_inside, rest_start, rest_inside, rest_last, rest_value, rest_scale, rest_next, rest_more, rest_reads}
 use native.Mathlib.Omega.{arith}
 use Rattle.numbers.proofs.accepted.longer.Goals as goal
 

@@ -1,8 +1,7 @@
 -- `numbers::accepted::longer` meets its contract. The loop's invariant: the rest of the number, after the groups that are read.
-use Prim.Native.Nat.{◌+◌, ◌-◌}
+use Prim.Native.Nat.{◌-◌}
 use lib.ListN.{length}
-use Rattle.numbers.proofs.accepted.Groups.{Rest, there_inside, rest_start, rest_inside, rest_last, rest_value, rest_scale, rest_next, rest_more, rest_reads}
-use native.Mathlib.Omega.{arith}
+use Rattle.numbers.proofs.accepted.Groups.{Rest}
 use Rattle.numbers.proofs.accepted.longer.Given as goal
 
 abbrev pub invariant-loop-b : goal.invariant-loop-b

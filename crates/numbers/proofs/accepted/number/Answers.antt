@@ -1,7 +1,6 @@
 -- `numbers::accepted::number` meets its contract.
 use Rattle.numbers.proofs.accepted.Groups.{there_inside, short_inside, short_small, short_reads}
 use native.Mathlib.Omega.{arith}
-use borrow.Author.Rules.{rules}
 use Rattle.numbers.proofs.accepted.number.Goals as goal
 
 pub bounds-s-from : goal.bounds-s-from

@@ -1,7 +1,6 @@
 -- `numbers::accepted::single` meets its contract.
 use Rattle.numbers.proofs.accepted.Groups.{there_inside, single_reads}
 use native.Mathlib.Omega.{arith}
-use borrow.Author.Rules.{rules}
 use Rattle.numbers.proofs.accepted.single.Goals as goal
 
 pub bounds-s-from : goal.bounds-s-from

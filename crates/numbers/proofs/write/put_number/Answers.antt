@@ -1,4 +1,4 @@
-use Rattle.numbers.proofs.write.Writing.{Rest, rest_start, rest_more, rest_room, rest_last}
+use Rattle.numbers.proofs.write.Writing.{rest_start, rest_more, rest_room, rest_last}
 use lib.ListN.{length-set}
 use native.Mathlib.Omega.{arith}
 use Rattle.numbers.proofs.write.put_number.Goals as goal

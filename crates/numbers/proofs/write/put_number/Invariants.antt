@@ -1,7 +1,5 @@
 -- `numbers::write::put_number` meets its contract.
-use Rattle.numbers.proofs.write.Writing.{Rest, rest_start, rest_more, rest_room, rest_last}
-use lib.ListN.{length-set}
-use native.Mathlib.Omega.{arith}
+use Rattle.numbers.proofs.write.Writing.{Rest}
 use Rattle.numbers.proofs.write.put_number.Given as goal
 
 abbrev pub invariant-loop-x : goal.invariant-loop-x

@@ -3,7 +3,6 @@ use lib.Dec.{leb}
 use lib.ListN.{length-set}
 use Rattle.numbers.proofs.write.Writing.{short_put, short_next, bit_small}
 use native.Mathlib.Omega.{arith}
-use borrow.Author.Rules.{rules}
 use Rattle.numbers.proofs.write.put_short.Goals as goal
 
 pub overflow_cast-s-2 : goal.overflow_cast-s-2

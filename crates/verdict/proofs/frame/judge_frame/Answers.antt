@@ -3,7 +3,6 @@ use Rattle.grammar.specs.segment.Frame.{packet_number}
 use mathlib.Core.Path.{◌≡◌, sym, ◌∙◌}
 use Rattle.verdict.proofs.frame.Framing.{frame_short, frame_number, frame_end, frame_length}
 use native.Mathlib.Omega.{arith}
-use borrow.Author.Rules.{rules}
 use Rattle.verdict.proofs.frame.judge_frame.Goals as goal
 
 pub returns-then-s-lt-HEADER_BYTES : goal.returns-then-s-lt-HEADER_BYTES

@@ -2,7 +2,6 @@
 use Rattle.std.specs.Prelude.{Bool, true, false, cond, List, [], ◌∷◌, ℕ, ◌+◌, ◌/◌, eqb, ltb, length}
 use Rattle.grammar.specs.segment.Frame.{packet_number, body_bits}
 use Rattle.verdict.specs.declared.frame.Frame.{Frame}
-use Rattle.verdict.specs.declared.frame.Frame.TheVariants as Frame
 
 -- refusals 1, 2 and 3 of a packet whose number is to be n, or the bit where its fields end
 abbrev pub frame_of : ℕ → List ℕ → Frame

@@ -1,6 +1,5 @@
 -- `kinds::body::NidCTraction::most` meets its contract.
 use Rattle.kinds.proofs.Choosing.{traction_other}
-use borrow.Author.Rules.{rules}
 use Rattle.kinds.proofs.body.NidCTraction.most.Goals as goal
 
 pub returns : goal.returns

@@ -2,7 +2,6 @@
 use mathlib.Core.Path.{ap, ◌∙◌}
 use Rattle.kinds.specs.Kind.{up_to}
 use borrow.Author.Tests.{ne_eqb}
-use borrow.Author.Rules.{rules}
 use Rattle.kinds.proofs.journey.DTcEndLocation.rule.Goals as goal
 
 pub returns-then-range-eq-BOTH : goal.returns-then-range-eq-BOTH

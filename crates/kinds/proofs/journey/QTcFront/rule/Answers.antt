@@ -1,7 +1,6 @@
 -- `kinds::journey::QTcFront::rule` meets its contract.
 use mathlib.Core.Path.{ap, ◌∙◌}
 use Rattle.kinds.specs.Kind.{up_to}
-use borrow.Author.Rules.{rules}
 use Rattle.kinds.proofs.journey.QTcFront.rule.Goals as goal
 
 pub returns : goal.returns

@@ -1,6 +1,5 @@
 -- `kinds::journey::VSpeedLevel::rule` meets its contract.
 use borrow.Author.Tests.{ne_eqb}
-use borrow.Author.Rules.{rules}
 use Rattle.kinds.proofs.journey.VSpeedLevel.rule.Goals as goal
 
 pub returns-then-of-eq-SPEED : goal.returns-then-of-eq-SPEED

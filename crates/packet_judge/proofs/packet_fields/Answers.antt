@@ -1,0 +1,27 @@
+-- `packet_judge::packet_fields` meets its contract.
+use native.Mathlib.Omega.{arith}
+use Rattle.packet_judge.proofs.Verdicts.{first, refused_whole, accepted_whole, left_whole}
+use Rattle.packet_judge.proofs.packet_fields.Goals as goal
+
+pub fields-requires : goal.fields-requires
+fields-requires c = let a = c.args in first a.s.now a.stop c.requires.0 c.requires.1
+
+pub returns-then-at-stop : goal.returns-then-at-stop
+returns-then-at-stop c =
+    let a = c.args in
+    accepted_whole a.tree a.s.now a.stop (rw c.in-On.is at c.fields.ensures) c.if-at-stop.true
+
+pub overflow_cast-result : goal.overflow_cast-result
+overflow_cast-result c =
+    let o = (rw c.in-On.is at c.fields.ensures).stands in
+    omega (arith, o.before, o.few)
+
+pub returns-in-Refused : goal.returns-in-Refused
+returns-in-Refused c =
+    let a = c.args in
+    refused_whole a.tree a.s.now a.stop (rw c.in-Refused.is at c.fields.ensures)
+
+pub returns-else-at-stop : goal.returns-else-at-stop
+returns-else-at-stop c =
+    let a = c.args in
+    left_whole a.tree a.s.now a.stop (rw c.in-On.is at c.fields.ensures) c.if-at-stop.false

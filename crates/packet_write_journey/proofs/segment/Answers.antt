@@ -1,0 +1,32 @@
+-- `packet_write_journey::segment` meets its contract.
+use lib.Dec.{lit<, lit≤}
+use Rattle.packet_write_journey.proofs.Steps.{segment_names, segment_count, segment_points, segment_last, segment_constraints, segment_wrote}
+use Rattle.packet_write_journey.proofs.segment.Goals as goal
+
+pub names-next-requires : goal.names-next-requires
+names-next-requires c = segment_names c.requires
+
+pub number-count-requires : goal.number-count-requires
+number-count-requires c = (segment_count c.requires c.names-next.ensures, lit≤ tt, lit≤ tt, lit< tt)
+
+pub points-last-requires : goal.points-last-requires
+points-last-requires c = segment_points c.requires c.names-next.ensures c.number-count.ensures
+
+pub number-second-requires : goal.number-second-requires
+number-second-requires c =
+    let b = c in
+    (segment_last b.requires b.names-next.ensures b.number-count.ensures c.points-last.ensures, lit≤ tt, lit≤ tt, lit< tt)
+
+pub constraints-requires : goal.constraints-requires
+constraints-requires c =
+    let b = c in
+    segment_constraints b.requires b.names-next.ensures b.number-count.ensures c.points-last.ensures c.number-second.ensures
+
+pub returns : goal.returns
+returns c =
+    let b = c in
+    let e = b in
+    segment_wrote e.requires e.names-next.ensures e.number-count.ensures b.points-last.ensures c.number-second.ensures c.constraints.ensures
+
+pub shape_of-room : goal.shape_of-room
+shape_of-room c = (returns c).puts.long

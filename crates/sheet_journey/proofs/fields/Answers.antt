@@ -1,0 +1,15 @@
+-- `sheet_journey::fields` meets its contract.
+use Rattle.format.proofs.Ways.{over_on, over_off}
+use Rattle.grammar.specs.internal.rows.Rows.{row}
+use Rattle.sheet_journey.proofs.fields.Goals as goal
+
+pub body-requires : goal.body-requires
+body-requires c = (rw c.in-On.is at c.header.ensures).stands
+
+pub returns-in-Refused : goal.returns-in-Refused
+unfolding row
+returns-in-Refused c = over_off (rw c.in-Refused.is at c.header.ensures)
+
+pub returns-in-On : goal.returns-in-On
+unfolding row
+returns-in-On c = over_on (rw c.in-On.is at c.header.ensures) c.body.ensures

@@ -1,0 +1,24 @@
+-- `sheet_write_segment::row::four` meets its contract.
+use Rattle.sheet_write_segment.proofs.row.Rows.{all_one, one_fits, more_fit, all_more}
+use Rattle.sheet_write_segment.proofs.row.four.Goals as goal
+
+pub one-second-requires : goal.one-second-requires
+one-second-requires c = (c.requires.0, one_fits c.requires.4)
+
+pub one-third-requires : goal.one-third-requires
+one-third-requires c = (c.requires.1, one_fits (more_fit c.one-second.ensures c.requires.4))
+
+pub one-fourth-requires : goal.one-fourth-requires
+one-fourth-requires c =
+    let b = c in
+    (b.requires.2, one_fits (more_fit c.one-third.ensures (more_fit b.one-second.ensures b.requires.4)))
+
+pub one-requires : goal.one-requires
+one-requires c =
+    let b = c in
+    (b.requires.3, one_fits (more_fit c.one-fourth.ensures (more_fit c.one-third.ensures (more_fit b.one-second.ensures b.requires.4))))
+
+pub returns : goal.returns
+returns c =
+    let b = c in
+    all_more _ _ _ b.one-second.ensures (all_more _ _ _ b.one-third.ensures (all_more _ _ _ b.one-fourth.ensures (all_one _ _ c.one.ensures)))

@@ -1,0 +1,25 @@
+-- `speed_packet::element` meets its contract.
+use mathlib.Core.Path.{refl}
+use native.Mathlib.Omega.{arith}
+use lib.Dec.{lit≤, lit<}
+use Rattle.bits.proofs.Fields.{window_small}
+use Rattle.speed_packet.proofs.Fields.{element_inside, element_at, static_small, entries_passed}
+use Rattle.speed_element.proofs.Reading.{element_read}
+use Rattle.speed_packet.specs.internal.Asking.{Reads}
+use Rattle.speed_packet.proofs.element.Goals as goal
+
+pub read_window-t-requires : goal.read_window-t-requires
+read_window-t-requires c =
+    let h = c.requires in
+    (lit< tt, lit≤ tt, element_inside c.args.s.now h, h.reads.long)
+
+pub speed-requires : goal.speed-requires
+speed-requires c = omega (arith, window_small _ _ 13 c.read_window-t.ensures)
+
+pub returns : goal.returns
+returns c =
+    let b = c in
+    let s = b.args.s.now in
+    let w = c.read_window-t.ensures in
+    let e = element_at s b.requires w in
+    rw c.speed.ensures (element_read (Reads s) e.first e.second e.third (entries_passed s _ _ _ refl) (static_small s b.args.at w) b.args.start, refl)

@@ -1,0 +1,32 @@
+use mathlib.Core.Path.{refl, sym, ◌∙◌}
+use native.Mathlib.Omega.{arith}
+use Rattle.speed_packet.proofs.Fields.{entry_whole}
+use Rattle.speed_element.proofs.Reading.{entered_all, entered_next, entry_readable, ended_read, ended_not}
+use Rattle.speed_packet.specs.internal.Asking.{Reads}
+use Rattle.speed_packet.proofs.ended.Goals as goal
+
+pub returns-then-not-holds : goal.returns-then-not-holds
+returns-then-not-holds c = ended_not (Reads c.args.s.now) (sym c.holds.ensures ∙ c.if-not-holds.true)
+
+pub loop-left-init : goal.loop-left-init
+loop-left-init c = rw c.no_lows-lows.ensures (let b = c in entered_all (Reads b.args.s.now) b.requires.readable)
+
+pub entry-lows-requires : goal.entry-lows-requires
+entry-lows-requires c = (refl, entry_readable (Reads c.args.s.now) c.loop-left-test.true c.loop-left.invariant.readable)
+
+pub overflow_add-to : goal.overflow_add-to
+overflow_add-to c =
+    let s = c.args.s.now in
+    let g = entry_readable (Reads s) c.loop-left-test.true c.loop-left.invariant.readable in
+    omega (arith, entry_whole s g, g.reads.before, g.reads.few)
+
+pub loop-left-preserved : goal.loop-left-preserved
+loop-left-preserved c = entered_next (Reads c.args.s.now) c.loop-left-test.true c.loop-left.invariant c.entry-lows.ensures
+
+pub lowered-requires : goal.lowered-requires
+lowered-requires c = c.requires.below
+
+pub returns : goal.returns
+returns c =
+    let b = c in
+    ended_read (Reads b.args.s.now) (sym c.holds.ensures ∙ c.if-not-holds.false) c.loop-left.invariant (omega (arith, c.loop-left-test.false)) c.lowered.ensures (omega arith)

@@ -1,0 +1,27 @@
+-- `speed_packet::entry` meets its contract.
+use lib.Dec.{lit≤, lit<}
+use Rattle.speed_packet.proofs.Fields.{entry_inside, entry_at, entry_kept}
+use Rattle.speed_element.proofs.Reading.{entry_read}
+use Rattle.speed_packet.specs.internal.Asking.{Reads}
+use Rattle.speed_packet.proofs.entry.Goals as goal
+
+pub read_window-t-requires : goal.read_window-t-requires
+read_window-t-requires c =
+    let h = c.requires.1 in
+    (lit< tt, lit≤ tt, entry_inside c.args.s.now h, h.reads.long)
+
+pub class-class-requires : goal.class-class-requires
+class-class-requires c =
+    let b = c in
+    (b.requires.0, (entry_at b.args.s.now b.requires.1 c.read_window-t.ensures).allowed)
+
+pub with-requires : goal.with-requires
+with-requires c =
+    let b = c in
+    rw c.speed.ensures (entry_kept b.args.s.now b.requires.1 c.read_window-t.ensures c.class-class.ensures)
+
+pub returns : goal.returns
+returns c =
+    let b = c in
+    let e = entry_at b.args.s.now b.requires.1 c.read_window-t.ensures in
+    entry_read (Reads b.args.s.now) e.first e.second e.third (rw (c.class-class.ensures, c.speed.ensures) at c.with.ensures)

@@ -1,0 +1,11 @@
+-- `speed_packet::head` meets its contract.
+use lib.Dec.{lit≤, lit<}
+use Rattle.bits.proofs.Fields.{window_small}
+use Rattle.speed_packet.proofs.Headed.{headed, head_read}
+use Rattle.speed_packet.proofs.head.Goals as goal
+
+pub read_window-requires : goal.read_window-requires
+read_window-requires c = let h = headed c.args.packet.now c.requires in (lit< tt, lit≤ tt, h.inside, h.long)
+
+pub returns : goal.returns
+returns c = let a = c in head_read a.args.packet.now a.requires c.read_window.ensures (window_small _ _ 24 c.read_window.ensures)
