@@ -273,7 +273,7 @@ def placed():
 def used(name, text):
     """Whether a name that a file imports, an operator's by its signs, stands in its text."""
     name = name.split(" as ")[-1].strip()
-    if name[0].isalpha() or name[0] == "_":
+    if "◌" not in name:
         return re.search(r"(?<![\w'-])%s(?![\w'-])" % re.escape(name), text)
     return all(sign in text for sign in name.split("◌"))
 
