@@ -76,7 +76,7 @@ def commented():
             for line, _, name, head in functions(path):
                 first, indent = line + head.count("\n"), re.match(" *", lines[line - 1]).group()
                 # an attribute may have lines of its own
-                before = re.sub(r"(^[ ]*#\[[^\n]*(?:\n(?![ ]*#\[)[^\n]*)*?\]\n)+\Z", "", "".join(each + "\n" for each in lines[: line - 1]), flags=re.M)
+                before = re.sub(r"(^ *#\[[^\n]*(?:\n(?: {4,}[^\n/#]| *[)\]])[^\n]*)*?\]\n)+\Z", "", "".join(each + "\n" for each in lines[: line - 1]), flags=re.M)
                 above = before.splitlines()[-1]
                 if lines.index(indent + "}", first) - first > 1 and not above.strip().startswith("//"):
                     yield f"{path.relative_to(ROOT)}:{line}: {name} has no comment"
