@@ -4,7 +4,6 @@ use Rattle.speed.specs.Speed.{limited}
 use Rattle.speed_question.specs.internal.Run.{brought_of}
 use Rattle.speed_question.proofs.Answering.{no_speed_lem, some_speed, in_segment}
 use Rattle.speed_question.proofs.Runs.{lent_speed}
-use borrow.Author.Rules.{rules}
 use Rattle.speed_question.proofs.of_run.Goals as goal
 
 pub returns-then-refusal-ne0 : goal.returns-then-refusal-ne0

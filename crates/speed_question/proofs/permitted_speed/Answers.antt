@@ -6,7 +6,6 @@ use Rattle.speed_question.specs.internal.Run.{brought_of}
 use Rattle.speed_question.proofs.Asked.{lent_asked}
 use Rattle.speed_question.proofs.Questions.{question_neither, question_none, question_many, question_refused, question_accepted}
 use Rattle.speed_question.proofs.Runs.{run_each}
-use borrow.Author.Rules.{rules}
 use Rattle.speed_question.proofs.permitted_speed.Goals as goal
 
 pub returns-then-medium-gt-SHEET : goal.returns-then-medium-gt-SHEET

@@ -2,7 +2,6 @@
 use mathlib.Core.Path.{sym, ◌∙◌}
 use native.Mathlib.Omega.{arith}
 use Rattle.speed_question.proofs.Answering.{invalid, past_end_lem, in_place}
-use borrow.Author.Rules.{rules}
 use Rattle.speed_question.proofs.refusal_of.Goals as goal
 
 pub returns-then-x-lsp : goal.returns-then-x-lsp

@@ -4,7 +4,6 @@ use Rattle.speed_question.specs.Question.{Brought, read_as}
 use Rattle.speed_question.specs.internal.Run.{judged_of}
 use Rattle.speed_question.proofs.Answering.{packet_refused, packet_accepted, sheet_refused, sheet_accepted}
 use Rattle.speed_question.proofs.Runs.{as_packet, as_sheet}
-use borrow.Author.Rules.{rules}
 use Rattle.speed_question.proofs.run.judge.Goals as goal
 
 pub returns-in-Refused : goal.returns-in-Refused

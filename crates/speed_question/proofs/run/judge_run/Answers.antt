@@ -1,11 +1,10 @@
 use mathlib.Core.Path.{sym, ap, ◌∙◌}
 use mathlib.Core.List.{List}
-use Prim.Native.Nat.{ℕ, ◌-◌}
+use Prim.Native.Nat.{ℕ}
 use native.Mathlib.Omega.{arith}
 use Rattle.speed_question.specs.Question.{read_as}
 use Rattle.speed_question.specs.internal.Run.{brought_of, judged_of}
-use Rattle.speed_question.proofs.Runs.{Judging, judging_first, judging_refused, judging_next, judging_last}
-use borrow.Author.Rules.{rules}
+use Rattle.speed_question.proofs.Runs.{judging_first, judging_refused, judging_next, judging_last}
 use Rattle.speed_question.proofs.run.judge_run.Goals as goal
 
 pub loop-i-init : goal.loop-i-init

@@ -1,9 +1,9 @@
 use mathlib.Core.Path.{refl, sym, subst}
 use mathlib.Core.List.{List}
-use Prim.Native.Nat.{ℕ, ◌-◌}
+use Prim.Native.Nat.{ℕ}
 use native.Mathlib.Omega.{arith}
 use Rattle.speed_question.specs.internal.Run.{brought_of, AcceptedAs, HeadOf}
-use Rattle.speed_question.proofs.Runs.{Finding, finding_first, finding_next, finding_last, one_accepted}
+use Rattle.speed_question.proofs.Runs.{finding_first, finding_next, finding_last, one_accepted}
 use Rattle.speed_question.proofs.run.last_segment.Goals as goal
 
 pub loop-i-init : goal.loop-i-init

@@ -1,10 +1,7 @@
 -- `speed_question::run::last_segment` meets its contract.
-use mathlib.Core.Path.{refl, sym, subst}
-use mathlib.Core.List.{List}
-use Prim.Native.Nat.{ℕ, ◌-◌}
-use native.Mathlib.Omega.{arith}
-use Rattle.speed_question.specs.internal.Run.{brought_of, AcceptedAs, HeadOf}
-use Rattle.speed_question.proofs.Runs.{Finding, finding_first, finding_next, finding_last, one_accepted}
+use Prim.Native.Nat.{◌-◌}
+use Rattle.speed_question.specs.internal.Run.{brought_of}
+use Rattle.speed_question.proofs.Runs.{Finding}
 use Rattle.speed_question.proofs.run.last_segment.Given as goal
 
 abbrev pub invariant-loop-i : goal.invariant-loop-i

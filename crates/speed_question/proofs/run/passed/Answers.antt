@@ -8,7 +8,6 @@ use Rattle.speed_element.proofs.Passing.{left_behind}
 use Rattle.speed_question.specs.internal.Run.{brought_of, numbers_as}
 use Rattle.speed_question.proofs.Values.{starts_in}
 use Rattle.speed_question.proofs.Runs.{as_packet, as_sheet}
-use borrow.Author.Rules.{rules}
 use Rattle.speed_question.proofs.run.passed.Goals as goal
 
 -- the train has left the segment

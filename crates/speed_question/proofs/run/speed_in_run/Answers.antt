@@ -4,7 +4,7 @@ use Prim.Native.Nat.{ℕ, ◌+◌, ◌-◌}
 use native.Mathlib.Omega.{arith}
 use Rattle.speed_element.specs.internal.Passing.{Passed}
 use Rattle.speed_question.specs.internal.Run.{brought_of, AcceptedAs, HeadOf, numbers_as}
-use Rattle.speed_question.proofs.Runs.{Passing, passing_first, passing_next, passing_last, passing_before, one_accepted, last_head}
+use Rattle.speed_question.proofs.Runs.{passing_first, passing_next, passing_last, passing_before, one_accepted, last_head}
 use Rattle.speed_question.proofs.run.speed_in_run.Goals as goal
 
 pub overflow_add-y : goal.overflow_add-y
