@@ -1,5 +1,5 @@
 // The fleet board: a lent list of up to 64 train cards, each with a location on the segment of one packet.
-// `fleet_lowest` and `fleet_move`, which take the list, are proved by walks of their code, by hand. What they call takes plain data and bytes.
+// What `fleet_lowest` and `fleet_move`, which take the list, call takes plain data and bytes.
 
 #![tactic(auto)]
 

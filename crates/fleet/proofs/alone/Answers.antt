@@ -1,6 +1,5 @@
 -- `fleet::alone` meets its contract, by the test that led to each answer.
 use mathlib.Core.Path.{◌∙◌}
-use borrow.Author.Rules.{rules}
 use borrow.Author.Tests.{eq-eqb, ne_eqb}
 use Rattle.fleet.specs.Fleet.{alone}
 use Rattle.fleet.proofs.alone.Goals as goal

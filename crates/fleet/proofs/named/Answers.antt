@@ -1,6 +1,5 @@
 -- `fleet::named` meets its contract.
 use mathlib.Core.Path.{sym}
-use borrow.Author.Rules.{rules}
 use borrow.Author.Tests.{lt-ltb, le-ltb}
 use Rattle.fleet.specs.Fleet.{named_in}
 use Rattle.fleet.proofs.named.Goals as goal

@@ -4,7 +4,6 @@ use native.Mathlib.Omega.{arith}
 use Rattle.fleet.specs.internal.Turns.{turned}
 use Rattle.fleet.proofs.After.{turned_stays, turned_to, after_first, after_refused, after_keeps, after_takes}
 use Rattle.fleet.proofs.Facts.{answer_is}
-use borrow.Author.Rules.{rules}
 use Rattle.fleet.proofs.next.Goals as goal
 
 pub returns-then-best-ne0 : goal.returns-then-best-ne0

@@ -1,7 +1,6 @@
 -- `fleet::started` meets its contract.
 use mathlib.Core.Path.{sym, ◌∙◌}
 use Rattle.fleet.proofs.Facts.{started_none, started_refused, started_accepted}
-use borrow.Author.Rules.{rules}
 use Rattle.fleet.proofs.started.Goals as goal
 
 pub returns-then-n-eq0 : goal.returns-then-n-eq0
