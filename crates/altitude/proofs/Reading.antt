@@ -23,7 +23,6 @@ use Rattle.format.proofs.Places.{rest_length}
 use Rattle.format.specs.Media.{sheet}
 use Rattle.verdict.specs.declared.PacketVerdict.TheVariants.{SheetBytes, Refused}
 use Rattle.verdict.specs.declared.frame.Frame.{Frame}
-use Rattle.verdict.specs.declared.frame.Frame.TheVariants as Frame
 use Rattle.verdict.specs.internal.Verdict.{size_from, packet_verdict}
 use Rattle.grammar.specs.declared.link.Tree.TheVariants.{Segment}
 use Rattle.grammar.specs.internal.link.Trees.{tree_sheet_fields}
