@@ -23,7 +23,6 @@ use Rattle.grammar.proofs.link.Values.{tree_sheet_lem, tree_packet_values}
 use Rattle.grammar.proofs.link.Ends.{either_sheet_size}
 use Rattle.verdict.specs.declared.PacketVerdict.TheVariants.{SheetBytes, Refused}
 use Rattle.verdict.specs.declared.frame.Frame.{Frame}
-use Rattle.verdict.specs.declared.frame.Frame.TheVariants as Frame
 use Rattle.verdict.specs.internal.Verdict.{size_from, packet_verdict}
 use Rattle.verdict.specs.internal.frame.Framed.{frame_of}
 use Rattle.verdict.proofs.frame.Framing.{whole}

@@ -17,7 +17,6 @@ use Rattle.kinds.specs.declared.Item.{Item}
 use Rattle.kinds.specs.Kind.{when}
 use Rattle.format.specs.Format.{Format, Read, accepted, read, write, values_of}
 use Rattle.format.specs.Media.{packet, sheet}
-use Rattle.format.specs.internal.Place.{after}
 use Rattle.bits.proofs.Tests.{by_cases, and_left, and_right}
 use Rattle.format.specs.Conforming.{Conforming, also, InSheet}
 use Rattle.format.proofs.Media.{sheet_again, sheet_only}

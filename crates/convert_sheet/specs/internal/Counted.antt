@@ -8,7 +8,6 @@ use Rattle.grammar.specs.declared.link.Tree.{Tree}
 use Rattle.grammar.specs.declared.link.Tree.TheVariants.{Segment, Journey}
 use Rattle.grammar.specs.internal.link.Trees.{tree_sheet_fields}
 use Rattle.verdict.specs.declared.SheetVerdict.{SheetVerdict}
-use Rattle.verdict.specs.declared.SheetVerdict.TheVariants as SheetVerdict
 use Rattle.verdict.specs.internal.Verdict.{verdict_of, size_from}
 use Rattle.convert.specs.internal.Writers.{sheet_judged}
 
