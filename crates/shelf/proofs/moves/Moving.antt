@@ -1,12 +1,13 @@
 -- One turn of each move, and the entry that is written.
 use mathlib.Core.Path.{◌≡◌, sym, ap, ap₂, ◌∙◌}
-use mathlib.Core.List.{List, ◌∷◌, ◌++◌, append_assoc}
+use mathlib.Core.List.{List, [], ◌∷◌, ◌++◌, append_assoc, append-nil}
 use Prim.Native.Nat.{ℕ, suc, ◌+◌, ◌-◌, ◌/◌, ◌%◌, ◌≤◌, ◌<◌}
+use native.Mathlib.Nat.{le_refl, le_of_eq}
 use native.Mathlib.Numerals.{add-one}
 use native.Mathlib.Omega.{arith}
-use lib.ListN.{length, get_or, set, take, drop, length-append, length-drop, take-append-drop, get_or-append}
-use lib.Seq.{sets-eq, paste, paste-zero, paste-suc, length_paste_head, get_or-append-add, get_or-drop, get_or-take, length-take-le, take-suc, drop-cons, set_at, append_snoc, take_at, drop_at, drop-drop}
-use borrow.Rule.Slice.PartMut.{put_mid}
+use lib.ListN.{length, get_or, set, take, drop, length-append, length-drop, take-append-drop, get_or-append, drop_of_length-le}
+use lib.Seq.{sets-eq, paste, paste-zero, paste-suc, length_paste_head, get_or-append-add, get_or-drop, get_or-take, length-take-le, take-suc, drop-cons, set_at, append_snoc, take_at, drop_at, drop-drop, take_all}
+use borrow.Rule.Slice.PartMut.{put_mid, mid_of}
 use Rattle.shelf.specs.Shelf.{length_bytes}
 use Rattle.shelf.specs.internal.Changing.{written, moved}
 
@@ -99,9 +100,18 @@ module _ (s : List ℕ) (to from : ℕ) where
 
 -- ---- an entry
 
+-- bytes copied into the rest of a room, from the byte n on
+pub part_copied : (n : ℕ) (d room end : List ℕ) → n + length d ≤ length room → end ≡ take (length d) d ++ drop (length d) (mid_of n (length room - n) room)
+    → put_mid n (length room - n) room end ≡ written n d room
+part_copied n d room end h e =
+    let gone : drop (length room - n) (drop n room) ≡ [] = drop_of_length-le (drop n room) (le_of_eq (length-drop n room)) in
+    let rest : mid_of n (length room - n) room ≡ drop n room = take_all (length room - n) (drop n room) (le_of_eq (length-drop n room)) in
+    let all : take (length d) d ≡ d = take_all (length d) d (le_refl _) in
+    rw (e, gone, rest, all, drop-drop (length d) n room, append-nil (d ++ drop (n + length d) room))
+
 -- bytes copied over m bytes of a room, from the byte n on
-pub part_copied : (n m : ℕ) (d room end : List ℕ) → m ≡ length d → end ≡ d → put_mid n m room end ≡ written n d room
-part_copied n m d room end p e =
+pub part_filled : (n m : ℕ) (d room end : List ℕ) → m ≡ length d → end ≡ d → put_mid n m room end ≡ written n d room
+part_filled n m d room end p e =
     ap₂ (λ (x : List ℕ) (k : ℕ). take n room ++ (x ++ drop k (drop n room))) e p ∙ ap (λ (x : List ℕ). take n room ++ (d ++ x)) (drop-drop (length d) n room)
 
 module _ (s : List ℕ) (at n : ℕ) (h : at + 4 ≤ length s) (small : n ≤ 65536) where

@@ -6,7 +6,7 @@ use native.Mathlib.Omega.{arith}
 use lib.ListN.{length, length-set, length-take, length-drop}
 use Rattle.shelf.specs.Shelf.{length_bytes}
 use Rattle.shelf.specs.internal.Changing.{written}
-use Rattle.shelf.proofs.moves.Moving.{stored, part_copied, length_stored, written_after, written_length}
+use Rattle.shelf.proofs.moves.Moving.{stored, part_filled, length_stored, written_after, written_length}
 use Rattle.shelf.proofs.moves.put_entry.Goals as goal
 
 pub bounds-store-at-2 : goal.bounds-store-at-2
@@ -31,7 +31,7 @@ returns c =
     let sheet = a.sheet.now in
     let n = length sheet in
     let four : a.at + 4 ≡ a.at + length (length_bytes n) = omega arith in
-    part_copied (a.at + 4) _ sheet (stored s a.at n (omega arith) (omega arith)) _ (omega arith) c.copy_from_slice.ensures.after
+    part_filled (a.at + 4) _ sheet (stored s a.at n (omega arith) (omega arith)) _ (omega arith) c.copy_from_slice.ensures.after
     ∙ ap (written (a.at + 4) sheet) (length_stored s a.at n (omega arith) (omega arith)) ∙ written_after a.at (length_bytes n) sheet s (omega arith) four
 
 pub shape_of-store : goal.shape_of-store
