@@ -98,7 +98,7 @@ fn put(n: u32, delivery: &[u8], room: &mut [u8]) -> Intake
     if MOST < to {
         return pass();
     }
-    bytes::copy(delivery, &mut room[from..]);
+    room[from..to].copy_from_slice(delivery);
     gather(to as u32)
 }
 
