@@ -1,4 +1,4 @@
-// The fleet board, for C99 and C++98 and what came after them: link with libfleet.a, which `rt staticlib fleet` writes for x86-64. It needs no other archive.
+// The fleet board, for C99 and C++98 and what came after them: link with libfleet.a, which `tests/proved target/staticlib/libfleet.a` writes for x86-64. It needs no other archive.
 // This is the interface number 1 of the board: it links with an archive of that number and with no other. seglink.h has a number of its own.
 // The caller keeps a list of up to 64 train cards, each with a location on the segment of one packet, and lends it at each call.
 // This header may be included together with seglink.h, in either order, and both archives may be linked into one program.

@@ -1,4 +1,4 @@
-// The operations of the segment link, for C99 and C++98 and what came after them: link with libseglink.a, which `rt staticlib seglink` writes for x86-64.
+// The operations of the segment link, for C99 and C++98 and what came after them: link with libseglink.a, which `tests/proved target/staticlib/libseglink.a` writes for x86-64.
 // C++17 has seglink.hpp beside it.
 // This is the interface number 10: it links with an archive of that number and with no other.
 // A packet or a sheet is of a segment (packet number 6) or of a journey (packet number 4). The conversions and the intake take both; the questions

@@ -21,7 +21,7 @@ The files of `proofs/` have {all:,} public theorems, records and types. {listed}
 - each that nothing cites and that is an end in itself, such as a case of the document;
 - in a crate with definitions that a promise can name, each theorem that a comment explains.
 
-Left out are {promised} that `docs/PROMISES.md` names, {steps} that are steps within their own crate, what is not public, and the proofs of functions (`proofs/FUNCTION/Proof.antt`).
+Left out are {promised} that `docs/PROMISES.md` names, {steps} that are steps within their own crate, what is not public, and the proofs of functions (`proofs/FUNCTION/`).
 
 After a name stands the comment above it, or else its statement in code. A statement is without plain variables and the parameters of its module; of more than some {cut} characters its end is shown.
 "For any tree" and "for any medium" mean what they say: such a law is proved once, and a packet and a sheet are two cases of it.
@@ -45,11 +45,14 @@ def cited():
     """Who cites a name of a crate's proofs, by the crate, the file's path in its proofs, and the name: the crates whose files import it."""
     names = collections.defaultdict(set)
     for crate in CRATES:
-        for path in sources(crate, "", ".antt") + sources(crate, "src", ".rt"):
+        for path in sources(crate, "specs", ".antt") + sources(crate, "proofs", ".antt") + sources(crate, "src", ".rt"):
             text = path.read_text()
-            for other, module, listed, alias in re.findall(r"^(?:ghost )?use Rattle·(\w+)(?:·\w+)?\.proofs\.([\w.]+?)(?:\.\{([^}]*)\}| as (\w+));?$", text, re.M):
-                for name in listed.split(",") if listed else re.findall(r"(?<![\w.])%s\.([\w'-]+)" % alias, text):
+            for other, module, listed, alias in re.findall(r"^(?:ghost )?use Rattle\.(\w+)\.proofs\.([\w.]+?)(?:\.\{([^}]*)\}| as ([\w'-]+));?$", text, re.M):
+                for name in listed.split(",") if listed else re.findall(r"(?<![\w.'-])%s\.([\w'-]+)" % re.escape(alias), text):
                     names[other, module.replace(".", "/"), name.split(" as ")[0].strip()].add(crate)
+            # an attribute of a function names lemmas by their paths
+            for other, module, name in re.findall(r"\b(\w+)::proofs::([\w:]+)::([\w'-]+)", text):
+                names[crate if other == "crate" else other, module.replace("::", "/"), name].add(crate)
     return names
 
 
@@ -87,7 +90,7 @@ def arrows(text):
 
 def unbound(part):
     """A part of a statement without the plain variables in front: a type that names no variable is no hypothesis."""
-    while group := re.match(r"[({][\w′' ]+ : ((?:[^(){}]|\([^(){}]*\))*)[)}]\s*", part):
+    while group := re.match(r"[({][\w' ]+ : ((?:[^(){}]|\([^(){}]*\))*)[)}]\s*", part):
         if re.search(r"\b[a-z]\w*", group.group(1)):
             break
         part = part[group.end():]

@@ -1,20 +1,46 @@
 #!/usr/bin/env python3
-"""The tests beside the proofs: what rt does not look at. 'sources' runs those that read the sources alone, 'logs' those that read what rt ci
-left in target/ too, no word all of them."""
+"""The tests beside the proofs: what rt does not look at. 'sources' runs those that read the sources alone, 'logs' those that read what rt said:
+what the gate kept of rt ci in target/ci.log, and what tests/proved kept of each program and archive in target/log. No word runs all of them."""
+import functools
 import re
 import sys
 
 import documents
 import pages
-from sources import CRATES, ROOT, declares, edits, functions, modules, public_functions, quoted, replacements, sources
+from sources import CRATES, OF_FUNCTION, ROOT, declares, edits, functions, modules, of_function, public_functions, quoted, replacements, sources
 
 SECONDS = 120
 SENTENCE = 300
-# what each program assumes
-ASSUMED = {"listing": ["libc: libc::read, libc::write", "os: os::c::rattle_arg_count"],
-           "wall_screen": ["libc: libc::close, libc::read, libc::write", "os: os::c::rattle_open_to_read, os::c::rattle_set_errno"]}
+# the functions of the C library and of the kit's own C code on which each program's proof rests, and the archives', which rest on none: those that
+# std's read, write and arguments reach, and its files
+ASSUMED = {
+    "seglink": "",
+    "fleet_c": "",
+    "listing": """
+        libc::chdir libc::getcwd libc::lseek libc::read libc::write
+        os::c::__xpg_strerror_r os::c::rattle_arg os::c::rattle_env os::c::rattle_env_at os::c::rattle_errno os::c::rattle_set_errno""",
+    "wall_screen": """
+        libc::chmod libc::chown libc::close libc::fchmod libc::fdatasync libc::flock libc::fsync libc::ftruncate libc::futimens libc::lchown libc::link
+        libc::lseek libc::mkdir libc::net::bind libc::pipe2 libc::read libc::readlink libc::realpath libc::rename libc::rmdir libc::statx libc::symlink
+        libc::unlink libc::write
+        os::c::__xpg_strerror_r os::c::fcntl os::c::getdents64 os::c::open os::c::rattle_errno os::c::rattle_open_dir_at os::c::rattle_set_errno
+        os::c::unlinkat""",
+}
 # what an error says that is of the edit's shape, or of another declaration, and not of a fact
-SHAPES = ("can be named from here", "has no field", "was not admitted")
+SHAPES = ("can be named from here", "has no field", "was not admitted", "is not in scope")
+# what rt ci says of a crate that it proved, of its proof and of an edit
+PROVED = re.compile(r"^rt: (\w+) (proved|is kept: an earlier run on this machine proved the same files over the same libraries)$", re.M)
+SECTION = re.compile(r"^== (\w+)\n(.*?)^rt: \1 proved$", re.M | re.S)
+REFUSED = re.compile(r"^rt: must-fail (\w+)/(\w+)\.edit: refused, as it must be: (.*)$", re.M)
+
+
+@functools.lru_cache(maxsize=None)
+def said_by_ci():
+    """What the last rt ci of the gate said."""
+    log = ROOT / "target" / "ci.log"
+    if not log.is_file():
+        raise NotRun("there is no target/ci.log: .ci/run writes it")
+    return log.read_text(errors="replace")
 
 
 class NotRun(Exception):
@@ -33,11 +59,12 @@ def contracts():
 
 
 def headed():
-    """Every file starts with a sentence that says what it is."""
+    """Every file starts with a sentence that says what it is; of the files in which a function's proof stands, the first does."""
     for crate in CRATES:
         for folder, suffix, mark in (("src", ".rt", "// "), ("specs", ".antt", "-- "), ("proofs", ".antt", "-- ")):
             for path in sources(crate, folder, suffix):
-                if path.name != "Lib.antt" and not path.read_text().startswith(mark):
+                before = OF_FUNCTION[:OF_FUNCTION.index(path.name)] if of_function(path) else ()
+                if path.name != "Lib.antt" and not any((path.parent / name).is_file() for name in before) and not path.read_text().startswith(mark):
                     yield f"{path.relative_to(ROOT)} does not start with a sentence"
 
 
@@ -48,7 +75,9 @@ def commented():
             lines = path.read_text().splitlines()
             for line, _, name, head in functions(path):
                 first, indent = line + head.count("\n"), re.match(" *", lines[line - 1]).group()
-                above = next(above for above in reversed(lines[: line - 1]) if not above.strip().startswith("#["))
+                # an attribute may have lines of its own
+                before = re.sub(r"(^ *#\[[^\n]*(?:\n(?: {4,}[^\n/#]| *[)\]])[^\n]*)*?\]\n)+\Z", "", "".join(each + "\n" for each in lines[: line - 1]), flags=re.M)
+                above = before.splitlines()[-1]
                 if lines.index(indent + "}", first) - first > 1 and not above.strip().startswith("//"):
                     yield f"{path.relative_to(ROOT)}:{line}: {name} has no comment"
 
@@ -75,41 +104,60 @@ def quotations():
 
 
 def no_axioms():
-    """No axiom stands in the repository, and no crate's proof reports one; a program reports that the C library reads and writes, the listing
-    also that its arguments are counted, the wall screen that files are opened and closed, and no other."""
+    """No axiom stands in the repository, and no archive's proof rests on one; a program's rests on what std reads, writes and opens by, and on no other.
+    What rt ci says of each crate that it proved is that it is proved."""
     for crate in CRATES:
         for path in sources(crate, "specs", ".antt") + sources(crate, "proofs", ".antt"):
             if re.search(r"^\s*axiom |Prim\.Axiom", path.read_text(), re.M):
                 yield f"{path.relative_to(ROOT)} names an axiom"
-        said = (ROOT / "target" / "log" / f"{crate}.out").read_text()
-        verdict = [line for line in said.splitlines() if line.startswith("logic=")]
-        named = re.findall(r"^axioms (.*) \(", said, re.M)
+    proved, sections = dict(PROVED.findall(said_by_ci())), dict(SECTION.findall(said_by_ci()))
+    for crate in CRATES:
+        verdict = [line for line in sections.get(crate, "").splitlines() if line.startswith("logic=")]
         program = (ROOT / "crates" / crate / "src" / "main.rt").exists()
-        assumed = ASSUMED[crate] if program else []
-        if len(verdict) != 1 or not verdict[0].startswith("logic=proved ") or named != assumed or ("axioms=" in verdict[0]) != program:
-            yield f"{crate}: its verdict is {verdict}, with {named}"
+        if crate not in proved:
+            yield f"{crate}: rt ci has not proved it"
+        elif crate in sections and (len(verdict) != 1 or not verdict[0].startswith("logic=proved ") or ("axioms=" in verdict[0]) != program):
+            yield f"{crate}: its verdict is {verdict}"
+    for crate, wanted in ASSUMED.items():
+        log = ROOT / "target" / "log" / f"{crate}.out"
+        said = log.read_text(errors="replace") if log.is_file() else ""
+        verdict = "".join([line for line in said.splitlines() if line.startswith("logic=")][-1:])
+        reached = re.findall(r"^  (\S+) +reached$", said, re.M)
+        counted = int((re.findall(r" axioms=(\d+) ", verdict) or [0])[0])
+        if not verdict.startswith("logic=proved ") or sorted(reached) != sorted(wanted.split()) or counted != len(reached):
+            yield f"{crate}: its verdict is '{verdict}', and its proof rests on {' '.join(reached) or 'no function of C'}"
 
 
 def quick():
-    """Every crate is checked in less than two minutes, however busy the machine is."""
-    for crate in CRATES:
-        said = (ROOT / "target" / "log" / f"{crate}.out").read_text()
-        took = re.search(r"proved \((\d+) s\)", said)
-        if not took or int(took.group(1)) >= SECONDS:
-            yield f"{crate}: {took.group(0) if took else 'not proved'}"
+    """Every crate that rt ci proved in this run is checked in less than two minutes, however busy the machine is."""
+    kept = ROOT / "target" / "ci.times"
+    if not kept.is_file():
+        raise NotRun("there is no target/ci.times: .ci/run writes it")
+    took = dict(line.split() for line in kept.read_text().splitlines())
+    for crate in SECTION.findall(said_by_ci()):
+        if int(took.get(crate[0], 0)) >= SECONDS:
+            yield f"{crate[0]}: {took[crate[0]]} s"
 
 
 def refused():
     """A crate with public functions has must-fail edits, and each is refused because a fact fails, and not for its shape."""
+    why = {(crate, label): reason for crate, label, reason in REFUSED.findall(said_by_ci())}
     for crate in CRATES:
         labels = edits(crate)
         if list(public_functions(crate)) and len(labels) < 2:
             yield f"{crate} has public functions and {len(labels)} must-fail edits"
         for label in labels:
-            log = (ROOT / "target" / "must-fail" / crate / label.stem / ".log").read_text()
-            errors = [line for line in log.splitlines() if ": error: " in line or "it is not proved that" in line]
-            if not errors or any(shape in errors[0] for shape in SHAPES):
-                yield f"{crate}/{label.stem}: {errors[0][:200] if errors else 'no error'}"
+            reason = why.get((crate, label.stem))
+            if reason is None or any(shape in reason for shape in SHAPES):
+                said = re.findall(rf"^rt: must-fail {crate}/{label.stem}\.edit: (.*)$", said_by_ci(), re.M)
+                yield f"{crate}/{label.stem}: {said[0][:200] if said else 'not tried'}"
+
+
+def none_bad():
+    """Every must-fail edit can be applied, compiled and read: rt ci counts no bad one, and as many refused as there are."""
+    counted = re.findall(r"^rt: ok; .*?; must-fail edits: (\d+) refused(.*?);", said_by_ci(), re.M)
+    if counted != [(str(sum(len(edits(crate)) for crate in CRATES)), "")]:
+        yield f"rt ci counts {counted} of {sum(len(edits(crate)) for crate in CRATES)}"
 
 
 def appliable():
@@ -223,11 +271,11 @@ def placed():
 
 
 def used(name, text):
-    """Whether a name that a file imports, an operator's by its sign, stands in its text."""
+    """Whether a name that a file imports, an operator's by its signs, stands in its text."""
     name = name.split(" as ")[-1].strip()
-    if name[0].isalpha():
-        return re.search(r"(?<![\w'·-])%s(?![\w'-])" % re.escape(name), text)
-    return name.replace("_", "") in text
+    if "◌" not in name:
+        return re.search(r"(?<![\w'-])%s(?![\w'-])" % re.escape(name), text)
+    return all(sign in text for sign in name.split("◌"))
 
 
 def imports():
@@ -244,7 +292,7 @@ def imports():
 
 TESTS = {
     "sources": (contracts, headed, commented, plain, quotations, imports, appliable, up_to_date, contracted, cited, promised_files, promised_names, short_sentences, placed),
-    "logs": (no_axioms, quick, refused),
+    "logs": (no_axioms, quick, refused, none_bad),
 }
 
 

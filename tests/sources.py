@@ -4,8 +4,11 @@ import pathlib
 import re
 
 ROOT = pathlib.Path(__file__).resolve().parent.parent
-CRATES = [line.split(":")[0].strip() for line in (ROOT / "crates.txt").read_text().splitlines() if ":" in line.split("#")[0]]
+# a line of crates.txt has a crate's name, 'staticlib' after it where it is an archive, and behind the colon the crates that it names
+CRATES = [line.split()[0].rstrip(":") for line in (ROOT / "crates.txt").read_text().splitlines() if ":" in line.split("#")[0]]
 FUNCTION = re.compile(r'^(\s*)(pub )?(extern "C" )?fn (\w+)')
+# the files in which the proof of a function stands, in the order in which they are read
+OF_FUNCTION = ("Invariants.antt", "Answers.antt", "Proof.antt")
 # what a line of definitions or proofs has after "--", outside strings and without the marks of a heading
 COMMENT = re.compile(r'(?:[^"-]|"[^"]*"|-(?!-))*--[-= ]*(.*)')
 # a quotation mark with which a quotation begins, also inside another one
@@ -17,9 +20,14 @@ def sources(crate, folder, suffix):
     return sorted((ROOT / "crates" / crate / folder).glob("**/*" + suffix))
 
 
+def of_function(path):
+    """Whether a file is of a function's proof, which has a folder of its own, and no module of lemmas."""
+    return path.name in OF_FUNCTION and path.parent.name != "proofs"
+
+
 def modules(crate, folder):
     """The files of a crate's folder that declare or prove something: neither lists of modules nor proofs of functions."""
-    return [path for path in sources(crate, folder, ".antt") if path.stem[0].isupper() and path.name not in ("Lib.antt", "Proof.antt")]
+    return [path for path in sources(crate, folder, ".antt") if path.stem[0].isupper() and path.name != "Lib.antt" and not of_function(path)]
 
 
 def indent(line):
@@ -39,7 +47,7 @@ def functions(path):
         head = []
         for j in range(i, len(lines)):
             head.append(lines[j])
-            if lines[j] == m.group(1) + "{" or lines[j].endswith(") {"):
+            if lines[j].endswith("{") and indent(lines[j]) == len(m.group(1)):
                 break
         yield i + 1, bool(m.group(2)), (owner if m.group(1) else "") + m.group(4), "\n".join(head)
 

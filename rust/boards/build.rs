@@ -1,4 +1,4 @@
-//! Links the archive that `rt staticlib fleet` writes, beside the one that the crate `compare` links.
+//! Links the archive that `tests/proved target/staticlib/libfleet.a` writes, beside the one that the crate `compare` links.
 
 use std::path::Path;
 

@@ -1,4 +1,4 @@
-//! Links the archive that `rt staticlib seglink` writes.
+//! Links the archive that `tests/archive` writes.
 
 use std::path::Path;
 

@@ -16,7 +16,7 @@ pub fn link(name: &str, number: u32) {
     let folder = library_folder(&variable);
     let library = folder.join(format!("lib{name}.a"));
     println!("cargo:rerun-if-changed={}", library.display());
-    let otherwise = format!("run `rt staticlib {name}`, or set {variable} to another folder");
+    let otherwise = format!("run `tests/proved target/staticlib/lib{name}.a`, or set {variable} to another folder");
     match missing(&library, &otherwise) {
         Some(said) => println!("cargo:warning=nothing will link: {} {said}", library.display()),
         None => {

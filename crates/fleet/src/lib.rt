@@ -1,5 +1,5 @@
 // The fleet board: a lent list of up to 64 train cards, each with a location on the segment of one packet.
-// `fleet_lowest` and `fleet_move`, which take the list, are proved by walks of their code, by hand. What they call takes plain data and bytes.
+// What `fleet_lowest` and `fleet_move`, which take the list, call takes plain data and bytes.
 
 #![tactic(auto)]
 
@@ -129,8 +129,7 @@ fn named(n: usize, card: u32) -> u32
 }
 
 // Changes the location of the card with the number `card`; all else of the list stays as it was. Answers 0; or 20, and then changes nothing.
-#[unsafe(no_mangle)]
-pub extern "C" fn fleet_move(cards: &mut [Card], card: u32, location: u32) -> u32
+pub fn fleet_move(cards: &mut [Card], card: u32, location: u32) -> u32
     ensures { record { refusal = result; cards = cards.new } ≡ moved cards.old card location }
 {
     let refusal = named(cards.len(), card);
@@ -141,8 +140,7 @@ pub extern "C" fn fleet_move(cards: &mut [Card], card: u32, location: u32) -> u3
 }
 
 // Answers the number and the permitted speed of the first card with the lowest permitted speed on the packet's segment, or a refusal.
-#[unsafe(no_mangle)]
-pub extern "C" fn fleet_lowest(cards: &[Card], packet: &[u8]) -> Board
+pub fn fleet_lowest(cards: &[Card], packet: &[u8]) -> Board
     ensures { result ≡ board packet.now cards.now }
 {
     let n = asked(cards.len());
@@ -156,8 +154,7 @@ pub extern "C" fn fleet_lowest(cards: &[Card], packet: &[u8]) -> Board
 }
 
 // Answers the number of the board's interface. Its name carries the number: an object that was built with a header of another number does not link.
-#[unsafe(no_mangle)]
-pub extern "C" fn fleet_interface_1() -> u32
+pub fn fleet_interface_1() -> u32
     ensures { result ≡ 1 }
 {
     INTERFACE

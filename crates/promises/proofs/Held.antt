@@ -17,9 +17,9 @@ lowest_front : (v : ℕ) (l : List ℕ) → lowest v l ≤ v
 lowest_front v [] = omega arith
 lowest_front v (w ∷ l) = omega (arith, lowest_front (min v w) l)
 
-lowest_under : (v w : ℕ) {l : List ℕ} → Among w l → lowest v l ≤ w
-lowest_under v w (first {l = l}) = omega (arith, lowest_front (min v w) l)
-lowest_under v w (later {b = b} a) = lowest_under (min v b) w a
+lowest_under : (w v : ℕ) {l : List ℕ} → Among w l → lowest v l ≤ w
+lowest_under w v (first {l = l}) = omega (arith, lowest_front (min v w) l)
+lowest_under w v (later {b = b} a) = lowest_under w (min v b) a
 
 lowest_among : (v : ℕ) (l : List ℕ) → Among (lowest v l) (v ∷ l)
 lowest_among v [] = first
@@ -37,7 +37,7 @@ lowest_of v l = record { one = lowest_among v l; lowest = under }
   where
     under : (w : ℕ) → Among w (v ∷ l) → lowest v l ≤ w
     under w first = lowest_front w l
-    under w (later a) = lowest_under v w a
+    under w (later a) = lowest_under w v a
 
 pub lowest_held : (t : Train) (x : ℕ) (r : List (List ℕ)) → x < segment_length (last_of r) → LowestOf (speed_in_run t x r) (held_in_run t x r)
 lowest_held t x [] h = absurd (omega arith)

@@ -113,6 +113,7 @@ run_only b {stop = stop} (RunStands.further {from = from} {l = l} {es = es} {run
     go : (r : List (List Item)) → RunStands b (from + w.length.sheet) r more start stop → (let next = from + w.length.sheet in
         (more ≡ run_elements next (numbers_of r)) × (start ≡ last_start next (numbers_of r)) × (stop ≡ run_end next (numbers_of r))
         → (es ++ more ≡ run_elements from (numbers_of (l ∷ r))) × (start ≡ last_start from (numbers_of (l ∷ r))) × (stop ≡ run_end from (numbers_of (l ∷ r))))
+    go [] d q = elim d [ ]
     go (n ∷ r) d q =
         let p = stands_only b from l es w in
         let here : from + w.length.sheet ≡ from + segment_length (sheet_numbers l) = ap (λ (m : ℕ). from + m) p.0 in (

@@ -1,4 +1,5 @@
 -- The sizes that are promised of a segment alone, below a journey's: a caller that converts only segments sizes a room by them.
+use mathlib.Core.List.{[]}
 use mathlib.Core.Path.{◌≡◌, refl, sym, ap, ◌∙◌}
 use mathlib.Core.Bool.{true, false}
 use mathlib.Core.List.{List, ◌∷◌}
@@ -45,6 +46,7 @@ segment_sheet_size l c =
 -- "packet of 39 bytes", "2,073 bytes": the smallest and the largest packet of a segment
 own_size : (l : List Item) → SegmentValues Brought.packet l → (39 ≤ length (to_packet wire_changes l)) × (length (to_packet wire_changes l) ≤ 2073)
 unfolding to_packet sheet_fields
+own_size [] x' = elim x' [ ]
 own_size (i ∷ l) (also g c) = (packet_least wire_changes (lit≤ tt) c, packet_most wire_changes (lit≤ tt) c)
 
 pub segment_packet_size : (l : List Item) → SegmentValues Brought.sheet l → (39 ≤ length (to_either_packet l)) × (length (to_either_packet l) ≤ 2073)

@@ -290,8 +290,8 @@ module _ (count : ℕ) (first second third fourth : List ℕ) (t : Train) (x : �
             valid = q.valid;
             inside = rw n at h;
           } in
-          let own = run_not_above t x (sheet_numbers l) (numbers_of v) h in
-          rw (e, permitted_speed_value medium 1 (last_of (lent count first second third fourth)) a b c t x alone, ← n) (omega arith)
+          let own = subst (λ (s : List ℕ). speed_in_run t x (numbers_of (l ∷ v)) ≤ speed_in_run t x (s ∷ [])) n (run_not_above t x (sheet_numbers l) (numbers_of v) h) in
+          rw (e, permitted_speed_value medium 1 (last_of (lent count first second third fourth)) a b c t x alone) (omega arith)
 
   module _ (c : Answerable 0 count (lent count first second third fourth) t x) where
     -- "the packet's speeds times 5": the profile's speed from packets is a multiple of 5

@@ -43,6 +43,7 @@ module _ {Good : Kind → Item → Type 0} {whole : Format} {l : List Item} {n :
   at_field_lem {C} next a f = go a.rest a.good a.split
     where
       go : (r : List Item) → Conforming Good (field k next) r → l ≡ a.before ++ r → C
+      go [] x' e = elim x' [ ]
       go (i ∷ m) (also g c) e =
           f i (record { before = a.before; after = m; next = next; front = a.front; split = e }) g
           (λ value. rw (e, ← a.count) (value_at value a.before i m))

@@ -55,6 +55,7 @@ number_is i a r =
 
 pub packet_taken : (l : List Item) → SegmentValues Brought.packet l → from_packet wire_changes (to_packet wire_changes l) ≡ accepted l
 unfolding from_packet to_packet sheet_fields
+packet_taken [] x' = elim x' [ ]
 packet_taken (i ∷ l) (also g c) =
     let q : i ≡ number_item 6 = number_is i g.allowed g.raised in
     let low = bits_least wire_changes (lit≤ tt) c in
@@ -182,7 +183,7 @@ placed_result bytes room = take_at bytes (drop (length bytes) room) (length byte
 -- ---- the numbers of any tree's fields
 
 -- a sheet is the number of every field, and nothing else
-pub numbers_spelled : {f : Format} {l : List Item} {Good : Kind → Item → Type 0} → Conforming Good f l → write sheet f l ≡ spelled (sheet_numbers l)
+pub numbers_spelled : {Good : Kind → Item → Type 0} {f : Format} {l : List Item} → Conforming Good f l → write sheet f l ≡ spelled (sheet_numbers l)
 numbers_spelled done = refl
 numbers_spelled (also {i = i} g c) = ap (λ (s : List ℕ). groups_in i.sheet ++ s) (numbers_spelled c)
 

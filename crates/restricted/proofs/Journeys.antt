@@ -105,14 +105,14 @@ module _ (Reads : Format → ℕ → List Item → Type 0) (all : List Leg) {at 
   at_head = drop_first i all h λ g e. legs_readable Reads (subst (LegsAt Reads at) e a)
 
   module _ {leg : LegHead} (r : LegRead Reads at leg) where
-    pub at_constraints : Readable Reads (times temporary_constraint (leg .count)) (leg .constraints)
+    pub at_constraints : Readable Reads (times temporary_constraint leg.count) leg.constraints
     at_constraints = drop_first i all h λ g e. constraints_readable Reads (subst (LegsAt Reads at) e a) r
 
-    pub at_next : {to : ℕ} → Passes Reads (times temporary_constraint (leg .count)) (after_constraints (leg .count)) (leg .constraints) to → LegsAt Reads to (drop (i + 1) all)
+    pub at_next : {to : ℕ} → Passes Reads (times temporary_constraint leg.count) (after_constraints leg.count) leg.constraints to → LegsAt Reads to (drop (i + 1) all)
     at_next p = drop_first i all h λ g e. legs_next Reads (subst (LegsAt Reads at) e a) r p
 
     -- it is the leg of its head and its constraints
-    pub at_leg : {C : Type 0} → ((g : Leg) (l : List Constraint) → drop i all ≡ g ∷ drop (i + 1) all → g ≡ leg_with leg l → ConstraintsAt Reads (leg .constraints) (leg .count) l → C) → C
+    pub at_leg : {C : Type 0} → ((g : Leg) (l : List Constraint) → drop i all ≡ g ∷ drop (i + 1) all → g ≡ leg_with leg l → ConstraintsAt Reads leg.constraints leg.count l → C) → C
     at_leg f =
         drop_first i all h λ g e.
         let b = subst (LegsAt Reads at) e a in

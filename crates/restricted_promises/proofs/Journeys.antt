@@ -1,4 +1,5 @@
 -- Journeys of good values: what is accepted is written of them, what is written of them is accepted, and a journey is refused exactly on its grounds.
+use mathlib.Core.List.{[]}
 use mathlib.Core.Path.{◌≡◌, refl, sym, ap, ap₂, ◌∙◌, subst}
 use mathlib.Core.Bool.{Bool, true, ◌&&◌}
 use mathlib.Core.List.{List, ◌∷◌, ◌++◌}
@@ -165,6 +166,7 @@ journeys Brought.sheet = record {
 
 bits_lowered : (l : List Item) → Conforming InSheet (journey_sheet constraints) l → link_bits (given_back (journey_sheet constraints) l) ≡ link_bits l
 unfolding journey_sheet journey_fields
+bits_lowered [] x' = elim x' [ ]
 bits_lowered (i ∷ m) (also g c) =
     let e = four i g in
     ap (λ (n : ℕ). write packet (tree_fields (tree_of n)) (given_back (journey_fields constraints) m)) e ∙ lowered_bits (journey_fields constraints) m

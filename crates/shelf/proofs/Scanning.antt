@@ -15,7 +15,6 @@ use Rattle.format.specs.Format.{Read, accepted, refused, values_of}
 use Rattle.grammar.specs.segment.Segment.{wire_changes}
 use Rattle.grammar.specs.segment.Judgement.{from_sheet}
 use Rattle.shelf.specs.declared.Key.{Key}
-use Rattle.shelf.specs.declared.run.Scan.{Scan}
 use Rattle.shelf.specs.declared.run.Scan.TheVariants.{NoShelf, Place}
 use Rattle.shelf.specs.Book.{same_key, key_number, Kept, lookup, found, different, weight, Each}
 use Rattle.shelf.specs.Shelf.{length_bytes, kept_bytes, key_read, sheet_key, length_in, front_sheet, after_front, onto, sheets_in, distinct}

@@ -226,7 +226,7 @@ pub fn lookup<'a>(
     key: Key,
     refusal: &mut u32,
 ) -> &'a [u8]
-    ensures { record { refusal = refusal.exit.now; part = seen result } ≡ shelf_lookup (seen yard.entry) yard_used (seen standard.entry) standard_used key }
+    ensures { record { refusal = refusal.new; part = seen result } ≡ shelf_lookup (seen yard.entry) yard_used (seen standard.entry) standard_used key }
 {
     let found = find(yard, yard_used, standard, standard_used, key);
     let start = found.start;

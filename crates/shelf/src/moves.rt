@@ -41,5 +41,5 @@ pub(crate) fn put_entry(store: &mut [u8], at: usize, sheet: &[u8])
     store[at + 1] = (count / 65536 % 256) as u8;
     store[at + 2] = (count / 256 % 256) as u8;
     store[at + 3] = (count % 256) as u8;
-    bytes::copy(sheet, &mut store[at + LENGTH..]);
+    store[at + LENGTH..at + LENGTH + sheet.len()].copy_from_slice(sheet);
 }

@@ -217,8 +217,11 @@ module _ (b : Brought) (p q u v : List ℕ) (count : ℕ) where
           here : y ≡ last_start 0 (numbers_in b (left i)) + x
           here = omega (arith, e, g.place h)
 
+          from_here : Passed t (numbers_as b (nth i p q u v)) (last_start 0 (numbers_in b (nth i p q u v ∷ left (i + 1))) + x) held next
+          from_here = subst (λ (z : ℕ). Passed t (numbers_as b (nth i p q u v)) z held next) (here ∙ ap (λ (l : List (List ℕ)). last_start 0 (numbers_in b l) + x) split) c
+
           there : (out : ℕ) → RunPassed t x (numbers_in b (left (i + 1))) next out → RunPassed t x (numbers_in b (left i)) held out
-          there out r = rw split (one (rw (here, split) at c) r)
+          there out r = rw split (one from_here r)
 
     module _ (some : 1 ≤ count) where
       end_is : last_of all ≡ nth (count - 1) p q u v

@@ -142,7 +142,7 @@ step_before lsp v x b starts [] r h = refl
 step_before lsp v x b [] (w ∷ speeds) r h = rw (lt-leb b x h)
 step_before lsp v x b (c ∷ starts) (w ∷ speeds) r h =
     let rise = ltb-true b c (and_left (ltb b c) (rising_below lsp (c ∷ starts)) r) in
-    rw (lt-leb b x h) (step_before lsp v x c starts speeds (and_right (ltb b c) (rising_below lsp (c ∷ starts)) r) (omega arith))
+    ap (λ (z : Bool). step_speed (cond z w v) x (c ∷ starts) speeds) (lt-leb b x h) ∙ step_before lsp v x c starts speeds (and_right (ltb b c) (rising_below lsp (c ∷ starts)) r) (omega arith)
 
 -- where starts rise, the step i gives the speed from its start up to the next
 pub step_at_lem : (lsp v x i : ℕ) (starts speeds : List ℕ) → rising_below lsp starts ≡ true → length starts ≡ length speeds → i < length starts
@@ -151,7 +151,7 @@ step_at_lem lsp v x i [] speeds r e h low high = absurd (omega arith)
 step_at_lem lsp v x i (a ∷ starts) [] r e h low high = absurd (omega arith)
 step_at_lem lsp v x zero (a ∷ []) (w ∷ speeds) r e h low high = rw (le-leb a x low)
 step_at_lem lsp v x zero (a ∷ b ∷ starts) (w ∷ speeds) r e h low high =
-    rw (le-leb a x low) (step_before lsp w x b starts speeds (and_right (ltb a b) (rising_below lsp (b ∷ starts)) r) (high (omega arith)))
+    ap (λ (z : Bool). step_speed (cond z w v) x (b ∷ starts) speeds) (le-leb a x low) ∙ step_before lsp w x b starts speeds (and_right (ltb a b) (rising_below lsp (b ∷ starts)) r) (high (omega arith))
 step_at_lem lsp v x (suc i) (a ∷ []) (w ∷ speeds) r e h low high = absurd (omega arith)
 step_at_lem lsp v x (suc i) (a ∷ b ∷ starts) (w ∷ speeds) r e h low high =
     step_at_lem lsp (cond (leb a x) w v) x i (b ∷ starts) speeds (and_right (ltb a b) (rising_below lsp (b ∷ starts)) r) (omega arith) (omega arith) low (λ k. high (omega arith))

@@ -14,5 +14,4 @@ segments-requires c = body_segments c.requires c.number-status.ensures c.number-
 
 pub returns : goal.returns
 returns c =
-    let b = c in
-    body_wrote b.requires b.number-status.ensures b.number-count.ensures c.segments.ensures
+    body_wrote c.requires c.number-status.ensures c.number-count.ensures c.segments.ensures

@@ -14,19 +14,15 @@ points-last-requires c = segment_points c.requires c.names-next.ensures c.number
 
 pub number-second-requires : goal.number-second-requires
 number-second-requires c =
-    let b = c in
-    (segment_last b.requires b.names-next.ensures b.number-count.ensures c.points-last.ensures, lit≤ tt, lit≤ tt, lit< tt)
+    (segment_last c.requires c.names-next.ensures c.number-count.ensures c.points-last.ensures, lit≤ tt, lit≤ tt, lit< tt)
 
 pub constraints-requires : goal.constraints-requires
 constraints-requires c =
-    let b = c in
-    segment_constraints b.requires b.names-next.ensures b.number-count.ensures c.points-last.ensures c.number-second.ensures
+    segment_constraints c.requires c.names-next.ensures c.number-count.ensures c.points-last.ensures c.number-second.ensures
 
 pub returns : goal.returns
 returns c =
-    let b = c in
-    let e = b in
-    segment_wrote e.requires e.names-next.ensures e.number-count.ensures b.points-last.ensures c.number-second.ensures c.constraints.ensures
+    segment_wrote c.requires c.names-next.ensures c.number-count.ensures c.points-last.ensures c.number-second.ensures c.constraints.ensures
 
 pub shape_of-room : goal.shape_of-room
 shape_of-room c = (returns c).puts.long

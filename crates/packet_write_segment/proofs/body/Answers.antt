@@ -15,21 +15,18 @@ pub put-wait-requires : goal.put-wait-requires
 put-wait-requires c = (lit< tt, lit≤ tt, next_small (length_next c.requires c.identity-names.ensures) c.number-l.ensures)
 
 pub overflow_add-next : goal.overflow_add-next
-overflow_add-next c = let b = c in omega (arith, next_near (length_next b.requires b.identity-names.ensures))
+overflow_add-next c = omega (arith, next_near (length_next c.requires c.identity-names.ensures))
 
 pub offsets-first-requires : goal.offsets-first-requires
 offsets-first-requires c =
-    let b = c in
-    offsets_ready b.requires b.identity-names.ensures b.number-l.ensures c.put-wait.ensures
+    offsets_ready c.requires c.identity-names.ensures c.number-l.ensures c.put-wait.ensures
 
 pub lists-requires : goal.lists-requires
 lists-requires c =
-    let b = c in
-    let h = b.requires in
-    let a = b.identity-names.ensures in
-    (lists_ready h a b.number-l.ensures c.put-wait.ensures c.offsets-first.ensures, next_small (length_next h a) b.number-l.ensures)
+    let h = c.requires in
+    let a = c.identity-names.ensures in
+    (lists_ready h a c.number-l.ensures c.put-wait.ensures c.offsets-first.ensures, next_small (length_next h a) c.number-l.ensures)
 
 pub returns : goal.returns
 returns c =
-    let b = c in
-    body_wrote b.requires b.identity-names.ensures b.number-l.ensures c.put-wait.ensures c.offsets-first.ensures c.lists.ensures
+    body_wrote c.requires c.identity-names.ensures c.number-l.ensures c.put-wait.ensures c.offsets-first.ensures c.lists.ensures

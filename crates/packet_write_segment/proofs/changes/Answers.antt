@@ -11,35 +11,28 @@ loop-left-init c = along_all c.requires.0
 
 pub number-x-requires : goal.number-x-requires
 number-x-requires c =
-    let b = c in
     let l = c.loop-left in
-    next_there (location_next b.args.part b.args.lsp b.args.count l.last l.left b.requires.0 b.requires.1 l.invariant c.loop-left-test.true)
+    next_there (location_next c.args.part c.args.lsp c.args.count l.last l.left c.requires.0 c.requires.1 l.invariant c.loop-left-test.true)
 
 pub put-wait-requires : goal.put-wait-requires
 put-wait-requires c =
-    let b = c in
     let l = c.loop-left in
-    (lit< tt, lit≤ tt, next_small (location_next b.args.part b.args.lsp b.args.count l.last l.left b.requires.0 b.requires.1 l.invariant c.loop-left-test.true) c.number-x.ensures)
+    (lit< tt, lit≤ tt, next_small (location_next c.args.part c.args.lsp c.args.count l.last l.left c.requires.0 c.requires.1 l.invariant c.loop-left-test.true) c.number-x.ensures)
 
 pub overflow_add-next : goal.overflow_add-next
 overflow_add-next c =
-    let b = c in
     let l = c.loop-left in
-    omega (arith, next_near (location_next b.args.part b.args.lsp b.args.count l.last l.left b.requires.0 b.requires.1 l.invariant c.loop-left-test.true))
+    omega (arith, next_near (location_next c.args.part c.args.lsp c.args.count l.last l.left c.requires.0 c.requires.1 l.invariant c.loop-left-test.true))
 
 pub element-p-requires : goal.element-p-requires
 element-p-requires c =
-    let n = c in
-    let b = n in
-    let l = n.loop-left in
-    change_ready b.args.part b.args.lsp b.args.count l.last l.left b.requires.0 b.requires.1 l.invariant n.loop-left-test.true n.number-x.ensures c.put-wait.ensures
+    let l = c.loop-left in
+    change_ready c.args.part c.args.lsp c.args.count l.last l.left c.requires.0 c.requires.1 l.invariant c.loop-left-test.true c.number-x.ensures c.put-wait.ensures
 
 pub loop-left-preserved : goal.loop-left-preserved
 loop-left-preserved c =
-    let n = c in
-    let b = n in
-    let l = n.loop-left in
-    change_on b.args.part b.args.lsp b.args.count l.last l.left b.requires.0 b.requires.1 l.invariant n.loop-left-test.true n.number-x.ensures c.put-wait.ensures c.element-p.ensures
+    let l = c.loop-left in
+    change_on c.args.part c.args.lsp c.args.count l.last l.left c.requires.0 c.requires.1 l.invariant c.loop-left-test.true c.number-x.ensures c.put-wait.ensures c.element-p.ensures
 
 pub shape_of-room : goal.shape_of-room
 shape_of-room c = c.loop-left.invariant.puts.long

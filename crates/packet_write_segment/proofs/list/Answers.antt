@@ -6,30 +6,23 @@ use native.Mathlib.Omega.{arith}
 use Rattle.packet_write_segment.proofs.list.Goals as goal
 
 pub element-first-requires : goal.element-first-requires
-element-first-requires c = let b = c in element_ready b.args.part b.args.lsp b.args.limit b.requires.0
+element-first-requires c = element_ready c.args.part c.args.lsp c.args.limit c.requires.0
 
 pub number-n-requires : goal.number-n-requires
-number-n-requires c = let b = c in next_there (count_next b.args.part b.args.lsp b.args.limit b.requires.0 b.requires.2 c.element-first.ensures)
+number-n-requires c = next_there (count_next c.args.part c.args.lsp c.args.limit c.requires.0 c.requires.2 c.element-first.ensures)
 
 pub put-wait-requires : goal.put-wait-requires
 put-wait-requires c =
-    let b = c in
-    (lit< tt, lit≤ tt, next_small (count_next b.args.part b.args.lsp b.args.limit b.requires.0 b.requires.2 c.element-first.ensures) c.number-n.ensures)
+    (lit< tt, lit≤ tt, next_small (count_next c.args.part c.args.lsp c.args.limit c.requires.0 c.requires.2 c.element-first.ensures) c.number-n.ensures)
 
 pub overflow_add-next : goal.overflow_add-next
 overflow_add-next c =
-    let e = c in
-    let b = e in
-    omega (arith, next_near (count_next b.args.part b.args.lsp b.args.limit b.requires.0 b.requires.2 e.element-first.ensures))
+    omega (arith, next_near (count_next c.args.part c.args.lsp c.args.limit c.requires.0 c.requires.2 c.element-first.ensures))
 
 pub changes-requires : goal.changes-requires
 changes-requires c =
-    let n = c in
-    let b = n in
-    (changes_ready b.args.part b.args.lsp b.args.limit b.requires.0 b.requires.2 n.element-first.ensures n.number-n.ensures c.put-wait.ensures, b.requires.1)
+    (changes_ready c.args.part c.args.lsp c.args.limit c.requires.0 c.requires.2 c.element-first.ensures c.number-n.ensures c.put-wait.ensures, c.requires.1)
 
 pub returns : goal.returns
 returns c =
-    let n = c in
-    let b = n in
-    list_wrote b.args.part b.args.lsp b.args.limit b.requires.0 b.requires.2 n.element-first.ensures n.number-n.ensures c.put-wait.ensures c.changes.ensures
+    list_wrote c.args.part c.args.lsp c.args.limit c.requires.0 c.requires.2 c.element-first.ensures c.number-n.ensures c.put-wait.ensures c.changes.ensures

@@ -11,23 +11,20 @@ list-one-requires c =
 
 pub list-two-requires : goal.list-two-requires
 list-two-requires c =
-    let b = c in
-    let n = b.args.lsp in
-    let l = along_on (part profile 31 n) (λ f. part voltage wire_changes n (part current wire_changes n f)) (along_all b.requires.0) c.list-one.ensures in
-    (along_next (part voltage wire_changes n) (part current wire_changes n) l b.requires.0, b.requires.1, lit< tt)
+    let n = c.args.lsp in
+    let l = along_on (part profile 31 n) (λ f. part voltage wire_changes n (part current wire_changes n f)) (along_all c.requires.0) c.list-one.ensures in
+    (along_next (part voltage wire_changes n) (part current wire_changes n) l c.requires.0, c.requires.1, lit< tt)
 
 pub list-requires : goal.list-requires
 list-requires c =
-    let b = c in
-    let n = b.args.lsp in
-    let l = along_on (part profile 31 n) (λ f. part voltage wire_changes n (part current wire_changes n f)) (along_all b.requires.0) c.list-one.ensures in
+    let n = c.args.lsp in
+    let l = along_on (part profile 31 n) (λ f. part voltage wire_changes n (part current wire_changes n f)) (along_all c.requires.0) c.list-one.ensures in
     let m = along_on (part voltage wire_changes n) (part current wire_changes n) l c.list-two.ensures in
-    (along_next (part current wire_changes n) (λ f. f) m b.requires.0, b.requires.1, lit< tt)
+    (along_next (part current wire_changes n) (λ f. f) m c.requires.0, c.requires.1, lit< tt)
 
 pub returns : goal.returns
 returns c =
-    let b = c in
-    let n = b.args.lsp in
-    let l = along_on (part profile 31 n) (λ f. part voltage wire_changes n (part current wire_changes n f)) (along_all b.requires.0) b.list-one.ensures in
+    let n = c.args.lsp in
+    let l = along_on (part profile 31 n) (λ f. part voltage wire_changes n (part current wire_changes n f)) (along_all c.requires.0) c.list-one.ensures in
     let m = along_on (part voltage wire_changes n) (part current wire_changes n) l c.list-two.ensures in
     along_none (along_on (part current wire_changes n) (λ f. f) m c.list.ensures)

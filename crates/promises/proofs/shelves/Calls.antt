@@ -139,17 +139,17 @@ look_alike {y} {s} {b = b} {c = c} h i key =
 front : {a c : Answer} {l m : List Answer} → a ≡ c → l ≡ m → a ∷ l ≡ c ∷ m
 front e f = ap₂ (λ (a : Answer) (l : List Answer). a ∷ l) e f
 
-as_map : {y s : Store} {yr sr : ℕ} {b c : List Kept} → Held y yr b → Held s sr c → (l : List Call) → answers y s l ≡ map_answers yr sr b c l
-as_map h i [] = refl
-as_map h i (Call.add Side.yard sheet ∷ l) = let a = add_alike h sheet in front a.same (as_map a.held i l)
-as_map h i (Call.add Side.standard sheet ∷ l) = let a = add_alike i sheet in front a.same (as_map h a.held l)
-as_map h i (Call.remove Side.yard k ∷ l) = let a = remove_alike h k in front a.same (as_map a.held i l)
-as_map h i (Call.remove Side.standard k ∷ l) = let a = remove_alike i k in front a.same (as_map h a.held l)
-as_map h i (Call.look k ∷ l) = front (look_alike h i k) (as_map h i l)
+as_map : (l : List Call) {y s : Store} {yr sr : ℕ} {b c : List Kept} → Held y yr b → Held s sr c → answers y s l ≡ map_answers yr sr b c l
+as_map [] h i = refl
+as_map (Call.add Side.yard sheet ∷ l) h i = let a = add_alike h sheet in front a.same (as_map l a.held i)
+as_map (Call.add Side.standard sheet ∷ l) h i = let a = add_alike i sheet in front a.same (as_map l h a.held)
+as_map (Call.remove Side.yard k ∷ l) h i = let a = remove_alike h k in front a.same (as_map l a.held i)
+as_map (Call.remove Side.standard k ∷ l) h i = let a = remove_alike i k in front a.same (as_map l h a.held)
+as_map (Call.look k ∷ l) h i = front (look_alike h i k) (as_map l h i)
 
 pub plain_map : (yard standard : Seen) → length yard.bytes ≤ 65536 → length standard.bytes ≤ 65536 → (l : List Call)
     → answers (fresh yard) (fresh standard) l ≡ map_answers (length yard.bytes) (length standard.bytes) [] [] l
-plain_map yard standard a b l = as_map (fresh_held yard a) (fresh_held standard b) l
+plain_map yard standard a b l = as_map l (fresh_held yard a) (fresh_held standard b)
 
 -- ---- keys that rise
 
@@ -173,15 +173,15 @@ remove_ordered {b} o k =
 held_rises : {st : Store} {room : ℕ} {b : List Kept} → Held st room b → Ordered b → Rises st
 held_rises {b = b} h o = record { book = b; keeps = h.keeps; rises = o.rises }
 
-as_rising : {y s : Store} {yr sr : ℕ} {b c : List Kept} → Held y yr b → Held s sr c → Ordered b → Ordered c → (l : List Call) → BytesIn l → Rises (stores_after y s l).0 × Rises (stores_after y s l).1
-as_rising h i o p [] f = (held_rises h o, held_rises i p)
-as_rising {yr = yr} h i o p (Call.add Side.yard sheet ∷ l) f = as_rising (add_alike h sheet).held i (add_ordered o yr sheet f.0 (from_sheet wire_changes sheet) refl) p l f.1
-as_rising {sr = sr} h i o p (Call.add Side.standard sheet ∷ l) f = as_rising h (add_alike i sheet).held o (add_ordered p sr sheet f.0 (from_sheet wire_changes sheet) refl) l f.1
-as_rising h i o p (Call.remove Side.yard k ∷ l) f = as_rising (remove_alike h k).held i (remove_ordered o k) p l f
-as_rising h i o p (Call.remove Side.standard k ∷ l) f = as_rising h (remove_alike i k).held o (remove_ordered p k) l f
-as_rising h i o p (Call.look k ∷ l) f = as_rising h i o p l f
+as_rising : (l : List Call) {y s : Store} {yr sr : ℕ} {b c : List Kept} → Held y yr b → Held s sr c → Ordered b → Ordered c → BytesIn l → Rises (stores_after y s l).0 × Rises (stores_after y s l).1
+as_rising [] h i o p f = (held_rises h o, held_rises i p)
+as_rising (Call.add Side.yard sheet ∷ l) {yr = yr} h i o p f = as_rising l (add_alike h sheet).held i (add_ordered o yr sheet f.0 (from_sheet wire_changes sheet) refl) p f.1
+as_rising (Call.add Side.standard sheet ∷ l) {sr = sr} h i o p f = as_rising l h (add_alike i sheet).held o (add_ordered p sr sheet f.0 (from_sheet wire_changes sheet) refl) f.1
+as_rising (Call.remove Side.yard k ∷ l) h i o p f = as_rising l (remove_alike h k).held i (remove_ordered o k) p f
+as_rising (Call.remove Side.standard k ∷ l) h i o p f = as_rising l h (remove_alike i k).held o (remove_ordered p k) f
+as_rising (Call.look k ∷ l) h i o p f = as_rising l h i o p f
 
 -- in stores that only these calls changed keys rise, so that one comparison for each tells that they are different
 pub calls_rise : (yard standard : Seen) → length yard.bytes ≤ 65536 → length standard.bytes ≤ 65536 → (l : List Call) → BytesIn l
     → Rises (stores_after (fresh yard) (fresh standard) l).0 × Rises (stores_after (fresh yard) (fresh standard) l).1
-calls_rise yard standard a b l f = let o : Ordered [] = record { ranged = tt; rises = refl } in as_rising (fresh_held yard a) (fresh_held standard b) o o l f
+calls_rise yard standard a b l f = let o : Ordered [] = record { ranged = tt; rises = refl } in as_rising l (fresh_held yard a) (fresh_held standard b) o o f

@@ -12,19 +12,19 @@ returns-then-found-eq0 c =
 pub returns-then-v-least : goal.returns-then-v-least
 returns-then-v-least c =
     let a = c.args in
-    took_out a.s.now c.requires c.found_at-found.ensures (range a.width a.least a.largest a.refusal) a.n c.if-found-eq0.false
+    took_out a.s.now c.requires c.found_at-found.ensures (range a.width a.least a.largest a.refusal) a.n (omega arith)
     (range_low a.width a.least a.largest a.refusal c.found_at-found.result.value (omega arith))
 
 pub returns-then-largest-v : goal.returns-then-largest-v
 returns-then-largest-v c =
     let b = c in
     let a = b.args in
-    took_out a.s.now b.requires b.found_at-found.ensures (range a.width a.least a.largest a.refusal) a.n c.if-found-eq0.false
+    took_out a.s.now b.requires b.found_at-found.ensures (range a.width a.least a.largest a.refusal) a.n (omega arith)
     (range_high a.width a.least a.largest a.refusal b.found_at-found.result.value (omega arith))
 
 pub returns : goal.returns
 returns c =
     let b = c in
     let a = b.args in
-    took_in a.s.now b.requires b.found_at-found.ensures (range a.width a.least a.largest a.refusal) a.n c.if-found-eq0.false
+    took_in a.s.now b.requires b.found_at-found.ensures (range a.width a.least a.largest a.refusal) a.n (omega arith)
     (range_in a.width a.least a.largest a.refusal b.found_at-found.result.value (omega arith) (omega arith)) refl c.wrapping_add_u32.ensures.value

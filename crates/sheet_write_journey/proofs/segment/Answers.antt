@@ -23,21 +23,18 @@ overflow_add-to-2 c = let h = c.points-m.ensures.over.stands in omega (arith, h.
 
 pub read_window-v-requires : goal.read_window-v-requires
 read_window-v-requires c =
-    let b = c in
-    count_read _ _ _ b.requires b.start-first.ensures.0 b.start-first.ensures.1 c.points-m.ensures
+    count_read _ _ _ c.requires c.start-first.ensures.0 c.start-first.ensures.1 c.points-m.ensures
 
 pub one-next-requires : goal.one-next-requires
 one-next-requires c =
-    let b = c in
-    count_fits _ _ _ b.requires b.start-first.ensures.0 b.start-first.ensures.1 c.points-m.ensures c.read_window-v.ensures
+    count_fits _ _ _ c.requires c.start-first.ensures.0 c.start-first.ensures.1 c.points-m.ensures c.read_window-v.ensures
 
 pub overflow_add-to-3 : goal.overflow_add-to-3
 overflow_add-to-3 c = let h = c.points-m.ensures.over.stands in omega (arith, h.before, h.few)
 
 pub constraints-last-requires : goal.constraints-last-requires
 constraints-last-requires c =
-    let b = c in
-    constraints_writable _ _ _ b.requires b.start-first.ensures.0 b.start-first.ensures.1 b.points-m.ensures c.read_window-v.ensures c.one-next.ensures
+    constraints_writable _ _ _ c.requires c.start-first.ensures.0 c.start-first.ensures.1 c.points-m.ensures c.read_window-v.ensures c.one-next.ensures
 
 pub overflow_add-result : goal.overflow_add-result
 overflow_add-result c = let h = c.constraints-last.ensures.over.stands in omega (arith, h.before, h.few)
@@ -50,5 +47,4 @@ overflow_add-result-2 c = let h = c.constraints-last.ensures.over.stands in omeg
 
 pub returns : goal.returns
 returns c =
-    let b = c in
-    segment_wrote _ _ _ b.requires b.start-first.ensures.0 b.start-first.ensures.1 b.points-m.ensures c.read_window-v.ensures c.one-next.ensures c.constraints-last.ensures
+    segment_wrote _ _ _ c.requires c.start-first.ensures.0 c.start-first.ensures.1 c.points-m.ensures c.read_window-v.ensures c.one-next.ensures c.constraints-last.ensures

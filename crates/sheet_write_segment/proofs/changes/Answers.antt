@@ -44,24 +44,21 @@ overflow_add-to c = let g = c.loop-left.invariant.left.stands in omega (arith, g
 
 pub element-spot-requires : goal.element-spot-requires
 element-spot-requires c =
-    let b = c in
-    let e = b in
-    let a = e.args in
+    let a = c.args in
     let s = a.packet.now in
-    let l = b.loop-left in
+    let l = c.loop-left in
     let next = change_next s a.stop (start_of a.part) a.lsp l.last l.left (omega arith) l.invariant in
-    let there = along_put s a.stop (d_location l.last a.lsp) (changed (start_of a.part) a.lsp (l.left - 1)) 24 refl next e.requires _ b.read_window-x.ensures (l.to + 24) refl c.put_number-m2.ensures in
-    along_next s a.stop (start_of a.part) (changes (start_of a.part) a.lsp b.read_window-x.result (l.left - 1)) there e.requires
+    let there = along_put s a.stop (d_location l.last a.lsp) (changed (start_of a.part) a.lsp (l.left - 1)) 24 refl next c.requires _ c.read_window-x.ensures (l.to + 24) refl c.put_number-m2.ensures in
+    along_next s a.stop (start_of a.part) (changes (start_of a.part) a.lsp c.read_window-x.result (l.left - 1)) there c.requires
 
 pub loop-left-preserved : goal.loop-left-preserved
 loop-left-preserved c =
-    let b = c in
-    let a = b.args in
+    let a = c.args in
     let s = a.packet.now in
-    let l = b.loop-left in
+    let l = c.loop-left in
     let next = change_next s a.stop (start_of a.part) a.lsp l.last l.left (omega arith) l.invariant in
-    let there = along_put s a.stop (d_location l.last a.lsp) (changed (start_of a.part) a.lsp (l.left - 1)) 24 refl next b.requires _ b.read_window-x.ensures (l.to + 24) refl c.put_number-m2.ensures in
-    along_on s a.stop (start_of a.part) (changes (start_of a.part) a.lsp b.read_window-x.result (l.left - 1)) there c.element-spot.ensures
+    let there = along_put s a.stop (d_location l.last a.lsp) (changed (start_of a.part) a.lsp (l.left - 1)) 24 refl next c.requires _ c.read_window-x.ensures (l.to + 24) refl c.put_number-m2.ensures in
+    along_on s a.stop (start_of a.part) (changes (start_of a.part) a.lsp c.read_window-x.result (l.left - 1)) there c.element-spot.ensures
 
 pub shape_of-room : goal.shape_of-room
 shape_of-room c = c.loop-left.invariant.long

@@ -20,20 +20,18 @@ element-first-requires c =
 
 pub read_window-count-requires : goal.read_window-count-requires
 read_window-count-requires c =
-    let b = c in
-    let a = b.args in
+    let a = c.args in
     let s = a.packet.now in
-    let m = along_on s a.stop (start_of a.part) (λ f. field (n_iter a.limit) λ n. changes (start_of a.part) a.lsp 0 n f) (along_all s a.stop b.requires) c.element-first.ensures in
-    field_read s a.stop (n_iter a.limit) (changes (start_of a.part) a.lsp 0) 5 refl (along_here s a.stop m b.requires) (lit< tt) (lit≤ tt)
+    let m = along_on s a.stop (start_of a.part) (λ f. field (n_iter a.limit) λ n. changes (start_of a.part) a.lsp 0 n f) (along_all s a.stop c.requires) c.element-first.ensures in
+    field_read s a.stop (n_iter a.limit) (changes (start_of a.part) a.lsp 0) 5 refl (along_here s a.stop m c.requires) (lit< tt) (lit≤ tt)
 
 pub put_short-m-requires : goal.put_short-m-requires
 put_short-m-requires c =
-    let b = c in
-    let a = b.args in
+    let a = c.args in
     let s = a.packet.now in
-    let m = along_on s a.stop (start_of a.part) (λ f. field (n_iter a.limit) λ n. changes (start_of a.part) a.lsp 0 n f) (along_all s a.stop b.requires) b.element-first.ensures in (
-      omega (arith, c.read_window-count.ensures, field_small s b.element-first.result.at 5 5 (le_refl _)),
-      (field_here s a.stop (n_iter a.limit) (changes (start_of a.part) a.lsp 0) 5 refl (along_here s a.stop m b.requires) _ c.read_window-count.ensures).fits,
+    let m = along_on s a.stop (start_of a.part) (λ f. field (n_iter a.limit) λ n. changes (start_of a.part) a.lsp 0 n f) (along_all s a.stop c.requires) c.element-first.ensures in (
+      omega (arith, c.read_window-count.ensures, field_small s c.element-first.result.at 5 5 (le_refl _)),
+      (field_here s a.stop (n_iter a.limit) (changes (start_of a.part) a.lsp 0) 5 refl (along_here s a.stop m c.requires) _ c.read_window-count.ensures).fits,
     )
 
 pub overflow_add-to : goal.overflow_add-to
@@ -41,19 +39,15 @@ overflow_add-to c = let g = c.element-first.ensures.over.stands in omega (arith,
 
 pub changes-requires : goal.changes-requires
 changes-requires c =
-    let b = c in
-    let e = b in
-    let a = e.args in
+    let a = c.args in
     let s = a.packet.now in
-    let m = along_on s a.stop (start_of a.part) (λ f. field (n_iter a.limit) λ n. changes (start_of a.part) a.lsp 0 n f) (along_all s a.stop e.requires) b.element-first.ensures in
-    along_here s a.stop (along_put s a.stop (n_iter a.limit) (changes (start_of a.part) a.lsp 0) 5 refl m e.requires _ c.read_window-count.ensures (b.element-first.result.at + 5) refl c.put_short-m.ensures) e.requires
+    let m = along_on s a.stop (start_of a.part) (λ f. field (n_iter a.limit) λ n. changes (start_of a.part) a.lsp 0 n f) (along_all s a.stop c.requires) c.element-first.ensures in
+    along_here s a.stop (along_put s a.stop (n_iter a.limit) (changes (start_of a.part) a.lsp 0) 5 refl m c.requires _ c.read_window-count.ensures (c.element-first.result.at + 5) refl c.put_short-m.ensures) c.requires
 
 pub returns : goal.returns
 returns c =
-    let b = c in
-    let e = b in
-    let a = e.args in
+    let a = c.args in
     let s = a.packet.now in
-    let m = along_on s a.stop (start_of a.part) (λ f. field (n_iter a.limit) λ n. changes (start_of a.part) a.lsp 0 n f) (along_all s a.stop e.requires) b.element-first.ensures in
-    let o = along_put s a.stop (n_iter a.limit) (changes (start_of a.part) a.lsp 0) 5 refl m e.requires _ b.read_window-count.ensures (b.element-first.result.at + 5) refl c.put_short-m.ensures in
-    along_none s a.stop (along_on s a.stop (changes (start_of a.part) a.lsp 0 b.read_window-count.result) (λ f. f) o c.changes.ensures)
+    let m = along_on s a.stop (start_of a.part) (λ f. field (n_iter a.limit) λ n. changes (start_of a.part) a.lsp 0 n f) (along_all s a.stop c.requires) c.element-first.ensures in
+    let o = along_put s a.stop (n_iter a.limit) (changes (start_of a.part) a.lsp 0) 5 refl m c.requires _ c.read_window-count.ensures (c.element-first.result.at + 5) refl c.put_short-m.ensures in
+    along_none s a.stop (along_on s a.stop (changes (start_of a.part) a.lsp 0 c.read_window-count.result) (λ f. f) o c.changes.ensures)

@@ -11,24 +11,21 @@ list-one-requires c =
 
 pub list-two-requires : goal.list-two-requires
 list-two-requires c =
-    let b = c in
-    let a = b.args in
+    let a = c.args in
     let s = a.packet.now in
-    let m = along_on s a.stop (part profile 31 a.lsp) (λ f. part voltage wire_changes a.lsp (part current wire_changes a.lsp f)) (along_all s a.stop b.requires) c.list-one.ensures in
-    along_next s a.stop (part voltage wire_changes a.lsp) (part current wire_changes a.lsp) m b.requires
+    let m = along_on s a.stop (part profile 31 a.lsp) (λ f. part voltage wire_changes a.lsp (part current wire_changes a.lsp f)) (along_all s a.stop c.requires) c.list-one.ensures in
+    along_next s a.stop (part voltage wire_changes a.lsp) (part current wire_changes a.lsp) m c.requires
 
 pub list-requires : goal.list-requires
 list-requires c =
-    let b = c in
-    let a = b.args in
+    let a = c.args in
     let s = a.packet.now in
-    let m = along_on s a.stop (part profile 31 a.lsp) (λ f. part voltage wire_changes a.lsp (part current wire_changes a.lsp f)) (along_all s a.stop b.requires) c.list-one.ensures in
-    along_here s a.stop (along_on s a.stop (part voltage wire_changes a.lsp) (part current wire_changes a.lsp) m c.list-two.ensures) b.requires
+    let m = along_on s a.stop (part profile 31 a.lsp) (λ f. part voltage wire_changes a.lsp (part current wire_changes a.lsp f)) (along_all s a.stop c.requires) c.list-one.ensures in
+    along_here s a.stop (along_on s a.stop (part voltage wire_changes a.lsp) (part current wire_changes a.lsp) m c.list-two.ensures) c.requires
 
 pub returns : goal.returns
 returns c =
-    let b = c in
-    let a = b.args in
+    let a = c.args in
     let s = a.packet.now in
-    wrote_on s a.stop (part profile 31 a.lsp) (λ f. part voltage wire_changes a.lsp (part current wire_changes a.lsp f)) b.list-one.ensures
-    (wrote_on s a.stop (part voltage wire_changes a.lsp) (part current wire_changes a.lsp) b.list-two.ensures c.list.ensures)
+    wrote_on s a.stop (part profile 31 a.lsp) (λ f. part voltage wire_changes a.lsp (part current wire_changes a.lsp f)) c.list-one.ensures
+    (wrote_on s a.stop (part voltage wire_changes a.lsp) (part current wire_changes a.lsp) c.list-two.ensures c.list.ensures)

@@ -109,6 +109,11 @@ part_copied n d room end h e =
     let all : take (length d) d ≡ d = take_all (length d) d (le_refl _) in
     rw (e, gone, rest, all, drop-drop (length d) n room, append-nil (d ++ drop (n + length d) room))
 
+-- bytes copied over m bytes of a room, from the byte n on
+pub part_filled : (n m : ℕ) (d room end : List ℕ) → m ≡ length d → end ≡ d → put_mid n m room end ≡ written n d room
+part_filled n m d room end p e =
+    ap₂ (λ (x : List ℕ) (k : ℕ). take n room ++ (x ++ drop k (drop n room))) e p ∙ ap (λ (x : List ℕ). take n room ++ (d ++ x)) (drop-drop (length d) n room)
+
 module _ (s : List ℕ) (at n : ℕ) (h : at + 4 ≤ length s) (small : n ≤ 65536) where
   abbrev pub stored : List ℕ
   stored = set (set (set (set s at (n / 16777216)) (at + 1) (n / 65536 % 256)) (at + 2) (n / 256 % 256)) (at + 3) (n % 256)

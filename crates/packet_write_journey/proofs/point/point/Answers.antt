@@ -14,5 +14,4 @@ stopping-requires c = point_stopping c.requires c.arrival-first.ensures c.number
 
 pub returns : goal.returns
 returns c =
-    let b = c in
-    point_wrote b.requires b.arrival-first.ensures b.number-stop_skip_passes.ensures c.stopping.ensures
+    point_wrote c.requires c.arrival-first.ensures c.number-stop_skip_passes.ensures c.stopping.ensures

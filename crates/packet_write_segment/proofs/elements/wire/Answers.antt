@@ -22,8 +22,7 @@ overflow_add-bits c =
 
 pub put-wait-requires : goal.put-wait-requires
 put-wait-requires c =
-    let b = c in
-    (lit< tt, lit≤ tt, omega (arith, wire_volts b.requires b.number-u.ensures b.volts_place.ensures, wire_traction b.requires b.number-u.ensures b.volts_place.ensures b.number-n.ensures))
+    (lit< tt, lit≤ tt, omega (arith, wire_volts c.requires c.number-u.ensures c.volts_place.ensures, wire_traction c.requires c.number-u.ensures c.volts_place.ensures c.number-n.ensures))
 
 pub overflow_add-result : goal.overflow_add-result
 overflow_add-result c =
@@ -31,5 +30,4 @@ overflow_add-result c =
 
 pub returns : goal.returns
 returns c =
-    let b = c in
-    wire_wrote b.requires b.number-u.ensures b.volts_place.ensures b.number-n.ensures c.put-wait.ensures
+    wire_wrote c.requires c.number-u.ensures c.volts_place.ensures c.number-n.ensures c.put-wait.ensures

@@ -14,5 +14,4 @@ restriction-requires c = restriction_here _ _ c.requires c.start-end.ensures c.n
 
 pub returns : goal.returns
 returns c =
-    let b = c in
-    constraint_wrote _ _ b.requires b.start-end.ensures b.number-front.ensures c.restriction.ensures
+    constraint_wrote _ _ c.requires c.start-end.ensures c.number-front.ensures c.restriction.ensures

@@ -12,22 +12,17 @@ one-speed-requires c = (omega (arith, window_small _ _ 21 c.read_window-t.ensure
 
 pub put_short-adhesion-requires : goal.put_short-adhesion-requires
 put_short-adhesion-requires c =
-    let b = c in
-    rw c.speed.ensures (omega arith, one_fits (more_fit c.one-speed.ensures (restriction_fits _ _ _ b.requires c.read_window-t.ensures)))
+    rw c.speed.ensures (omega arith, one_fits (more_fit c.one-speed.ensures (restriction_fits _ _ _ c.requires c.read_window-t.ensures)))
 
 pub one-current-requires : goal.one-current-requires
 one-current-requires c =
-    let b = c in
-    (omega arith, one_fits (more_fit (c.put_short-adhesion.ensures ∙ rw c.speed.ensures) (more_fit b.one-speed.ensures (restriction_fits _ _ _ b.requires b.read_window-t.ensures))))
+    (omega arith, one_fits (more_fit (c.put_short-adhesion.ensures ∙ rw c.speed.ensures) (more_fit c.one-speed.ensures (restriction_fits _ _ _ c.requires c.read_window-t.ensures))))
 
 pub one-requires : goal.one-requires
 one-requires c =
-    let b = c in
-    (lit< tt, one_fits (more_fit c.one-current.ensures (more_fit (c.put_short-adhesion.ensures ∙ rw c.speed.ensures) (more_fit b.one-speed.ensures (restriction_fits _ _ _ b.requires b.read_window-t.ensures)))))
+    (lit< tt, one_fits (more_fit c.one-current.ensures (more_fit (c.put_short-adhesion.ensures ∙ rw c.speed.ensures) (more_fit c.one-speed.ensures (restriction_fits _ _ _ c.requires c.read_window-t.ensures)))))
 
 pub returns : goal.returns
 returns c =
-    let q = c in
-    let b = q in
-    restriction_put _ _ _ b.requires b.read_window-t.ensures
-    (all_more _ _ _ b.one-speed.ensures (all_more _ _ _ (q.put_short-adhesion.ensures ∙ rw q.speed.ensures) (all_more _ _ _ c.one-current.ensures (all_one _ _ c.one.ensures))))
+    restriction_put _ _ _ c.requires c.read_window-t.ensures
+    (all_more _ _ _ c.one-speed.ensures (all_more _ _ _ (c.put_short-adhesion.ensures ∙ rw c.speed.ensures) (all_more _ _ _ c.one-current.ensures (all_one _ _ c.one.ensures))))

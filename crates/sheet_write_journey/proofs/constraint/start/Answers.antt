@@ -13,11 +13,9 @@ one-third-requires c = (omega arith, one_fits (more_fit c.one-second.ensures (wi
 
 pub put_number-requires : goal.put_number-requires
 put_number-requires c =
-    let b = c in
-    one_fits (more_fit c.one-third.ensures (more_fit b.one-second.ensures (window_fits _ _ start_widths _ b.requires b.read_window-t.ensures)))
+    one_fits (more_fit c.one-third.ensures (more_fit c.one-second.ensures (window_fits _ _ start_widths _ c.requires c.read_window-t.ensures)))
 
 pub returns : goal.returns
 returns c =
-    let b = c in
-    window_copied _ _ start_widths _ b.requires b.read_window-t.ensures
-    (all_more _ _ _ b.one-second.ensures (all_more _ _ _ c.one-third.ensures (all_one _ _ c.put_number.ensures)))
+    window_copied _ _ start_widths _ c.requires c.read_window-t.ensures
+    (all_more _ _ _ c.one-second.ensures (all_more _ _ _ c.one-third.ensures (all_one _ _ c.put_number.ensures)))

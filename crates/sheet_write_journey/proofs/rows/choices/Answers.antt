@@ -14,11 +14,9 @@ four-doors-requires c =
 
 pub four-requires : goal.four-requires
 four-requires c =
-    let b = c in
-    (omega arith, omega arith, omega arith, omega arith, fit_after _ _ _ c.four-doors.ensures (more_fit b.put_short-stop.ensures (window_fits _ _ choice_widths _ b.requires b.read_window-t.ensures)))
+    (omega arith, omega arith, omega arith, omega arith, fit_after _ _ _ c.four-doors.ensures (more_fit c.put_short-stop.ensures (window_fits _ _ choice_widths _ c.requires c.read_window-t.ensures)))
 
 pub returns : goal.returns
 returns c =
-    let b = c in
-    window_copied _ _ choice_widths _ b.requires b.read_window-t.ensures
-    (all_more _ _ _ b.put_short-stop.ensures (all_both _ _ _ c.four-doors.ensures c.four.ensures))
+    window_copied _ _ choice_widths _ c.requires c.read_window-t.ensures
+    (all_more _ _ _ c.put_short-stop.ensures (all_both _ _ _ c.four-doors.ensures c.four.ensures))

@@ -13,6 +13,5 @@ one-requires c = (omega arith, one_fits (more_fit c.put_short-second.ensures (wi
 
 pub returns : goal.returns
 returns c =
-    let b = c in
-    window_copied _ _ closing_widths _ b.requires b.read_window-t.ensures
-    (all_more _ _ _ b.put_short-second.ensures (all_one _ _ c.one.ensures))
+    window_copied _ _ closing_widths _ c.requires c.read_window-t.ensures
+    (all_more _ _ _ c.put_short-second.ensures (all_one _ _ c.one.ensures))

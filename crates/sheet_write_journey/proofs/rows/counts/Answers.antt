@@ -13,7 +13,6 @@ put_short-last-requires c = (omega arith, one_fits (more_fit c.one-second.ensure
 
 pub returns : goal.returns
 returns c =
-    let b = c in
-    let h = b.requires in
-    let e = b.read_window-t.ensures in
-    (window_copied _ _ count_widths _ h e (all_more _ _ _ b.one-second.ensures (all_one _ _ c.put_short-last.ensures)), cut_last _ _ 3 8 e h.inside)
+    let h = c.requires in
+    let e = c.read_window-t.ensures in
+    (window_copied _ _ count_widths _ h e (all_more _ _ _ c.one-second.ensures (all_one _ _ c.put_short-last.ensures)), cut_last _ _ 3 8 e h.inside)

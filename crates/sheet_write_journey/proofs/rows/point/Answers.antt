@@ -18,31 +18,25 @@ moment-stop-requires c =
 
 pub choices-departure-requires : goal.choices-departure-requires
 choices-departure-requires c =
-    let b = c in
-    let r1 = row_after _ _ (32 ∷ []) _ _ (b.args.at + 32) refl c.number-arrival.ensures b.requires in
-    let r2 = row_after _ _ (15 ∷ 17 ∷ []) _ _ (b.args.at + 64) (omega arith) c.moment-stop.ensures r1 in
+    let r1 = row_after _ _ (32 ∷ []) _ _ (c.args.at + 32) refl c.number-arrival.ensures c.requires in
+    let r2 = row_after _ _ (15 ∷ 17 ∷ []) _ _ (c.args.at + 64) (omega arith) c.moment-stop.ensures r1 in
     row_first _ _ choice_widths _ _ r2
 
 pub moment-dwell-requires : goal.moment-dwell-requires
 moment-dwell-requires c =
-    let b = c in
-    let r1 = row_after _ _ (32 ∷ []) _ _ (b.args.at + 32) refl c.number-arrival.ensures b.requires in
-    let r2 = row_after _ _ (15 ∷ 17 ∷ []) _ _ (b.args.at + 64) (omega arith) c.moment-stop.ensures r1 in
-    let r3 = row_after _ _ choice_widths _ _ (b.args.at + 86) (omega arith) c.choices-departure.ensures r2 in
+    let r1 = row_after _ _ (32 ∷ []) _ _ (c.args.at + 32) refl c.number-arrival.ensures c.requires in
+    let r2 = row_after _ _ (15 ∷ 17 ∷ []) _ _ (c.args.at + 64) (omega arith) c.moment-stop.ensures r1 in
+    let r3 = row_after _ _ choice_widths _ _ (c.args.at + 86) (omega arith) c.choices-departure.ensures r2 in
     row_first _ _ (15 ∷ 17 ∷ []) _ _ r3
 
 pub closing-requires : goal.closing-requires
 closing-requires c =
-    let e = c in
-    let b = e in
-    let r1 = row_after _ _ (32 ∷ []) _ _ (b.args.at + 32) refl e.number-arrival.ensures b.requires in
-    let r2 = row_after _ _ (15 ∷ 17 ∷ []) _ _ (b.args.at + 64) (omega arith) e.moment-stop.ensures r1 in
-    let r3 = row_after _ _ choice_widths _ _ (b.args.at + 86) (omega arith) e.choices-departure.ensures r2 in
-    row_after _ _ (15 ∷ 17 ∷ []) _ _ (b.args.at + 118) (omega arith) c.moment-dwell.ensures r3
+    let r1 = row_after _ _ (32 ∷ []) _ _ (c.args.at + 32) refl c.number-arrival.ensures c.requires in
+    let r2 = row_after _ _ (15 ∷ 17 ∷ []) _ _ (c.args.at + 64) (omega arith) c.moment-stop.ensures r1 in
+    let r3 = row_after _ _ choice_widths _ _ (c.args.at + 86) (omega arith) c.choices-departure.ensures r2 in
+    row_after _ _ (15 ∷ 17 ∷ []) _ _ (c.args.at + 118) (omega arith) c.moment-dwell.ensures r3
 
 pub returns : goal.returns
 returns c =
-    let g = c in
-    let b = g in
-    let e = b.args.at in
-    row_both _ _ (32 ∷ []) _ _ (e + 32) refl b.number-arrival.ensures (row_both _ _ (15 ∷ 17 ∷ []) _ _ (e + 64) (omega arith) g.moment-stop.ensures (row_both _ _ choice_widths _ _ (e + 86) (omega arith) g.choices-departure.ensures (row_both _ _ (15 ∷ 17 ∷ []) _ _ (e + 118) (omega arith) g.moment-dwell.ensures c.closing.ensures)))
+    let e = c.args.at in
+    row_both _ _ (32 ∷ []) _ _ (e + 32) refl c.number-arrival.ensures (row_both _ _ (15 ∷ 17 ∷ []) _ _ (e + 64) (omega arith) c.moment-stop.ensures (row_both _ _ choice_widths _ _ (e + 86) (omega arith) c.choices-departure.ensures (row_both _ _ (15 ∷ 17 ∷ []) _ _ (e + 118) (omega arith) c.moment-dwell.ensures c.closing.ensures)))

@@ -17,9 +17,8 @@ number-version-requires c =
 
 pub versions-requires : goal.versions-requires
 versions-requires c =
-    let b = c in
-    let r1 = row_after _ _ (10 ∷ []) _ _ (b.args.at + 10) refl c.short-name.ensures b.requires in
-    row_after _ _ (32 ∷ []) _ _ (b.args.at + 42) (omega arith) c.number-version.ensures r1
+    let r1 = row_after _ _ (10 ∷ []) _ _ (c.args.at + 10) refl c.short-name.ensures c.requires in
+    row_after _ _ (32 ∷ []) _ _ (c.args.at + 42) (omega arith) c.number-version.ensures r1
 
 pub returns : goal.returns
 returns c =

@@ -13,17 +13,14 @@ put_short-third-requires c = (omega arith, one_fits (more_fit c.put_short-second
 
 pub one-fourth-requires : goal.one-fourth-requires
 one-fourth-requires c =
-    let b = c in
-    (omega arith, one_fits (more_fit c.put_short-third.ensures (more_fit b.put_short-second.ensures (window_fits _ _ version_widths _ b.requires b.read_window-t.ensures))))
+    (omega arith, one_fits (more_fit c.put_short-third.ensures (more_fit c.put_short-second.ensures (window_fits _ _ version_widths _ c.requires c.read_window-t.ensures))))
 
 pub one-last-requires : goal.one-last-requires
 one-last-requires c =
-    let b = c in
-    (omega arith, one_fits (more_fit c.one-fourth.ensures (more_fit c.put_short-third.ensures (more_fit b.put_short-second.ensures (window_fits _ _ version_widths _ b.requires b.read_window-t.ensures)))))
+    (omega arith, one_fits (more_fit c.one-fourth.ensures (more_fit c.put_short-third.ensures (more_fit c.put_short-second.ensures (window_fits _ _ version_widths _ c.requires c.read_window-t.ensures)))))
 
 pub returns : goal.returns
-returns c =
-    let b = c in (
-      window_copied _ _ version_widths _ b.requires b.read_window-t.ensures (all_more _ _ _ b.put_short-second.ensures (all_more _ _ _ c.put_short-third.ensures (all_more _ _ _ c.one-fourth.ensures (all_one _ _ c.one-last.ensures)))),
-      cut_last _ _ 17 5 b.read_window-t.ensures b.requires.inside,
-    )
+returns c = (
+  window_copied _ _ version_widths _ c.requires c.read_window-t.ensures (all_more _ _ _ c.put_short-second.ensures (all_more _ _ _ c.put_short-third.ensures (all_more _ _ _ c.one-fourth.ensures (all_one _ _ c.one-last.ensures)))),
+  cut_last _ _ 17 5 c.read_window-t.ensures c.requires.inside,
+)

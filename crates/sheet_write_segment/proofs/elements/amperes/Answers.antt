@@ -15,15 +15,13 @@ current-requires c = (field_here c.args.packet.now c.args.stop m_current (λ v f
 
 pub put_short-m-requires : goal.put_short-m-requires
 put_short-m-requires c =
-    let b = c in
-    let f = field_here b.args.packet.now b.args.stop m_current (λ v f. f) 10 refl b.requires _ c.read_window-v.ensures in
+    let f = field_here c.args.packet.now c.args.stop m_current (λ v f. f) 10 refl c.requires _ c.read_window-v.ensures in
     rw c.current.ensures (current_short c.read_window-v.result f.allowed, f.fits)
 
 pub returns : goal.returns
 returns c =
-    let b = c in
-    let a = b.args in
+    let a = c.args in
     let s = a.packet.now in
-    let h = b.requires in
+    let h = c.requires in
     along_none s a.stop
-    (along_put s a.stop m_current (λ v f. f) 10 refl (along_all s a.stop h) h _ b.read_window-v.ensures (a.at + 10) refl (c.put_short-m.ensures ∙ rw c.current.ensures))
+    (along_put s a.stop m_current (λ v f. f) 10 refl (along_all s a.stop h) h _ c.read_window-v.ensures (a.at + 10) refl (c.put_short-m.ensures ∙ rw c.current.ensures))

@@ -12,33 +12,27 @@ read_window-t-requires c = entry_read c.args.packet.now c.args.stop c.requires.1
 
 pub put_short-second-requires : goal.put_short-second-requires
 put_short-second-requires c =
-    let b = c in
-    let e = entry_puts b.args.packet.now b.args.stop b.requires.1 c.read_window-t.ensures in
+    let e = entry_puts c.args.packet.now c.args.stop c.requires.1 c.read_window-t.ensures in
     (omega (arith, e.small), e.first.fits)
 
 pub class-requires : goal.class-requires
 class-requires c =
-    let b = c in
-    let e = entry_puts b.args.packet.now b.args.stop b.requires.1 c.read_window-t.ensures in
-    (b.requires.0, (e.second c.put_short-second.ensures).allowed)
+    let e = entry_puts c.args.packet.now c.args.stop c.requires.1 c.read_window-t.ensures in
+    (c.requires.0, (e.second c.put_short-second.ensures).allowed)
 
 pub put_short-third-requires : goal.put_short-third-requires
 put_short-third-requires c =
-    let b = c in
     let w = c.read_window-t in
-    let f = (entry_puts b.args.packet.now b.args.stop b.requires.1 w.ensures).second c.put_short-second.ensures in
+    let f = (entry_puts c.args.packet.now c.args.stop c.requires.1 w.ensures).second c.put_short-second.ensures in
     rw c.class.ensures (class_short (w.result / 2048) (w.result / 128 % 16) f.allowed, f.fits)
 
 pub put_short-requires : goal.put_short-requires
 put_short-requires c =
-    let b = c in
-    let e = entry_puts b.args.packet.now b.args.stop b.requires.1 c.read_window-t.ensures in
+    let e = entry_puts c.args.packet.now c.args.stop c.requires.1 c.read_window-t.ensures in
     rw c.speed.ensures (omega arith, (e.third c.put_short-second.ensures (c.put_short-third.ensures ∙ rw c.class.ensures)).fits)
 
 pub returns : goal.returns
 returns c =
-    let p = c in
-    let b = c in
-    let e = entry_puts b.args.packet.now b.args.stop b.requires.1 c.read_window-t.ensures in
-    along_none b.args.packet.now b.args.stop
-    (e.put p.put_short-second.ensures (p.put_short-third.ensures ∙ rw p.class.ensures) (c.put_short.ensures ∙ rw c.speed.ensures))
+    let e = entry_puts c.args.packet.now c.args.stop c.requires.1 c.read_window-t.ensures in
+    along_none c.args.packet.now c.args.stop
+    (e.put c.put_short-second.ensures (c.put_short-third.ensures ∙ rw c.class.ensures) (c.put_short.ensures ∙ rw c.speed.ensures))

@@ -22,11 +22,10 @@ overflow_add-to c = let h = c.entry-m.ensures.over.stands in omega (arith, h.bef
 
 pub loop-left-preserved : goal.loop-left-preserved
 loop-left-preserved c =
-    let b = c in
-    let a = b.args in
-    let l = b.loop-left in
+    let a = c.args in
+    let l = c.loop-left in
     let more = along_as a.packet.now a.stop (λ f. entry (entries (l.left - 1) f)) (entries_more l.left (omega arith)) l.invariant.0 in
-    (along_on a.packet.now a.stop entry (entries (l.left - 1)) more c.entry-m.ensures, omega (arith, l.invariant.1, b.loop-left-test.true))
+    (along_on a.packet.now a.stop entry (entries (l.left - 1)) more c.entry-m.ensures, omega (arith, l.invariant.1, c.loop-left-test.true))
 
 pub shape_of-room : goal.shape_of-room
 shape_of-room c = c.loop-left.invariant.0.long

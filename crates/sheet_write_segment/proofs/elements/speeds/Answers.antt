@@ -12,41 +12,33 @@ read_window-t-requires c = profile_read c.args.packet.now c.args.stop c.requires
 
 pub speed-requires : goal.speed-requires
 speed-requires c =
-    let b = c in
-    omega (arith, (profile_puts b.args.packet.now b.args.stop b.requires c.read_window-t.ensures).small)
+    omega (arith, (profile_puts c.args.packet.now c.args.stop c.requires c.read_window-t.ensures).small)
 
 pub put_short-second-requires : goal.put_short-second-requires
 put_short-second-requires c =
-    let b = c in
-    let e = profile_puts b.args.packet.now b.args.stop b.requires c.read_window-t.ensures in
+    let e = profile_puts c.args.packet.now c.args.stop c.requires c.read_window-t.ensures in
     rw c.speed.ensures (omega (arith, e.small), e.first.fits)
 
 pub put_short-third-requires : goal.put_short-third-requires
 put_short-third-requires c =
-    let b = c in
-    let e = profile_puts b.args.packet.now b.args.stop b.requires c.read_window-t.ensures in
+    let e = profile_puts c.args.packet.now c.args.stop c.requires c.read_window-t.ensures in
     (omega arith, (e.second (c.put_short-second.ensures ∙ rw c.speed.ensures)).fits)
 
 pub put_short-first-requires : goal.put_short-first-requires
 put_short-first-requires c =
-    let b = c in
-    let e = profile_puts b.args.packet.now b.args.stop b.requires c.read_window-t.ensures in
+    let e = profile_puts c.args.packet.now c.args.stop c.requires c.read_window-t.ensures in
     (omega arith, (e.third (c.put_short-second.ensures ∙ rw c.speed.ensures) c.put_short-third.ensures).fits)
 
 pub specific-m-requires : goal.specific-m-requires
 specific-m-requires c =
-    let p = c in
-    let b = p in
-    let s = b.args.packet.now in
-    let e = profile_puts s b.args.stop b.requires p.read_window-t.ensures in
-    along_here s b.args.stop (e.put (p.put_short-second.ensures ∙ rw p.speed.ensures) c.put_short-third.ensures c.put_short-first.ensures) b.requires
+    let s = c.args.packet.now in
+    let e = profile_puts s c.args.stop c.requires c.read_window-t.ensures in
+    along_here s c.args.stop (e.put (c.put_short-second.ensures ∙ rw c.speed.ensures) c.put_short-third.ensures c.put_short-first.ensures) c.requires
 
 pub returns : goal.returns
 returns c =
-    let p = c in
-    let b = p in
-    let s = b.args.packet.now in
-    let w = p.read_window-t in
-    let e = profile_puts s b.args.stop b.requires w.ensures in
-    let l = e.put (p.put_short-second.ensures ∙ rw p.speed.ensures) c.put_short-third.ensures c.put_short-first.ensures in
-    along_none s b.args.stop (along_on s b.args.stop (entries (w.result % 32)) (λ f. f) l c.specific-m.ensures)
+    let s = c.args.packet.now in
+    let w = c.read_window-t in
+    let e = profile_puts s c.args.stop c.requires w.ensures in
+    let l = e.put (c.put_short-second.ensures ∙ rw c.speed.ensures) c.put_short-third.ensures c.put_short-first.ensures in
+    along_none s c.args.stop (along_on s c.args.stop (entries (w.result % 32)) (λ f. f) l c.specific-m.ensures)

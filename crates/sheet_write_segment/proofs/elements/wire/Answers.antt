@@ -18,32 +18,28 @@ volts-requires c = (field_here c.args.packet.now c.args.stop m_voltage (λ u f. 
 
 pub put_number-second-requires : goal.put_number-second-requires
 put_number-second-requires c =
-    let b = c in
-    rw c.volts.ensures (field_here b.args.packet.now b.args.stop m_voltage (λ u f. then (nid_c_traction u) f) 4 refl b.requires _ c.read_window-u.ensures).fits
+    rw c.volts.ensures (field_here c.args.packet.now c.args.stop m_voltage (λ u f. then (nid_c_traction u) f) 4 refl c.requires _ c.read_window-u.ensures).fits
 
 pub read_window-v-requires : goal.read_window-v-requires
 read_window-v-requires c =
-    let b = c in
-    let a = b.args in
+    let a = c.args in
     let s = a.packet.now in
-    let h = b.requires in
-    let m = along_put s a.stop m_voltage (λ u f. then (nid_c_traction u) f) 4 refl (along_all s a.stop h) h _ b.read_window-u.ensures (a.at + 4) refl (c.put_number-second.ensures ∙ rw c.volts.ensures) in
-    field_read s a.stop (nid_c_traction b.read_window-u.result) (λ v f. f) 10 refl (along_here s a.stop m h) (lit< tt) (lit≤ tt)
+    let h = c.requires in
+    let m = along_put s a.stop m_voltage (λ u f. then (nid_c_traction u) f) 4 refl (along_all s a.stop h) h _ c.read_window-u.ensures (a.at + 4) refl (c.put_number-second.ensures ∙ rw c.volts.ensures) in
+    field_read s a.stop (nid_c_traction c.read_window-u.result) (λ v f. f) 10 refl (along_here s a.stop m h) (lit< tt) (lit≤ tt)
 
 pub put_short-m-requires : goal.put_short-m-requires
 put_short-m-requires c =
-    let b = c in
-    let a = b.args in
+    let a = c.args in
     let s = a.packet.now in
-    let h = b.requires in
-    let m = along_put s a.stop m_voltage (λ u f. then (nid_c_traction u) f) 4 refl (along_all s a.stop h) h _ b.read_window-u.ensures (a.at + 4) refl (c.put_number-second.ensures ∙ rw c.volts.ensures) in
-    (omega (arith, c.read_window-v.ensures, field_small s (a.at + 4) 10 10 (le_refl _)), (field_here s a.stop (nid_c_traction b.read_window-u.result) (λ v f. f) 10 refl (along_here s a.stop m h) _ c.read_window-v.ensures).fits)
+    let h = c.requires in
+    let m = along_put s a.stop m_voltage (λ u f. then (nid_c_traction u) f) 4 refl (along_all s a.stop h) h _ c.read_window-u.ensures (a.at + 4) refl (c.put_number-second.ensures ∙ rw c.volts.ensures) in
+    (omega (arith, c.read_window-v.ensures, field_small s (a.at + 4) 10 10 (le_refl _)), (field_here s a.stop (nid_c_traction c.read_window-u.result) (λ v f. f) 10 refl (along_here s a.stop m h) _ c.read_window-v.ensures).fits)
 
 pub returns : goal.returns
 returns c =
-    let b = c in
-    let a = b.args in
+    let a = c.args in
     let s = a.packet.now in
-    let h = b.requires in
-    let m = along_put s a.stop m_voltage (λ u f. then (nid_c_traction u) f) 4 refl (along_all s a.stop h) h _ b.read_window-u.ensures (a.at + 4) refl (b.put_number-second.ensures ∙ rw b.volts.ensures) in
-    along_none s a.stop (along_put s a.stop (nid_c_traction b.read_window-u.result) (λ v f. f) 10 refl m h _ c.read_window-v.ensures (a.at + 14) (omega arith) c.put_short-m.ensures)
+    let h = c.requires in
+    let m = along_put s a.stop m_voltage (λ u f. then (nid_c_traction u) f) 4 refl (along_all s a.stop h) h _ c.read_window-u.ensures (a.at + 4) refl (c.put_number-second.ensures ∙ rw c.volts.ensures) in
+    along_none s a.stop (along_put s a.stop (nid_c_traction c.read_window-u.result) (λ v f. f) 10 refl m h _ c.read_window-v.ensures (a.at + 14) (omega arith) c.put_short-m.ensures)

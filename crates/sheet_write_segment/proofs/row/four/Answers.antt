@@ -10,15 +10,12 @@ one-third-requires c = (c.requires.1, one_fits (more_fit c.one-second.ensures c.
 
 pub one-fourth-requires : goal.one-fourth-requires
 one-fourth-requires c =
-    let b = c in
-    (b.requires.2, one_fits (more_fit c.one-third.ensures (more_fit b.one-second.ensures b.requires.4)))
+    (c.requires.2, one_fits (more_fit c.one-third.ensures (more_fit c.one-second.ensures c.requires.4)))
 
 pub one-requires : goal.one-requires
 one-requires c =
-    let b = c in
-    (b.requires.3, one_fits (more_fit c.one-fourth.ensures (more_fit c.one-third.ensures (more_fit b.one-second.ensures b.requires.4))))
+    (c.requires.3, one_fits (more_fit c.one-fourth.ensures (more_fit c.one-third.ensures (more_fit c.one-second.ensures c.requires.4))))
 
 pub returns : goal.returns
 returns c =
-    let b = c in
-    all_more _ _ _ b.one-second.ensures (all_more _ _ _ b.one-third.ensures (all_more _ _ _ b.one-fourth.ensures (all_one _ _ c.one.ensures)))
+    all_more _ _ _ c.one-second.ensures (all_more _ _ _ c.one-third.ensures (all_more _ _ _ c.one-fourth.ensures (all_one _ _ c.one.ensures)))

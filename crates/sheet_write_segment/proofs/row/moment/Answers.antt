@@ -11,6 +11,5 @@ put_number-requires c = one_fits (more_fit c.put_number-second.ensures (window_f
 
 pub returns : goal.returns
 returns c =
-    let b = c in
-    window_copied _ _ (15 ∷ 17 ∷ []) _ b.requires b.read_window-t.ensures
-    (all_more _ _ _ b.put_number-second.ensures (all_one _ _ c.put_number.ensures))
+    window_copied _ _ (15 ∷ 17 ∷ []) _ c.requires c.read_window-t.ensures
+    (all_more _ _ _ c.put_number-second.ensures (all_one _ _ c.put_number.ensures))

@@ -1,0 +1,12 @@
+-- `shelf::run::key_of` meets its contract.
+use Rattle.bits.proofs.Padding.{bytes_of}
+use Rattle.shelf.proofs.Verdicts.{header_numbers, key_read_lem}
+use Rattle.shelf.proofs.run.key_of.Goals as goal
+
+pub numbers_end-at-requires : goal.numbers_end-at-requires
+numbers_end-at-requires c = let s = c.args.sheet.now in header_numbers s c.requires (bytes_of s (λ i. (c.type_inv.sheet i).fits))
+
+pub returns : goal.returns
+returns c =
+    let s = c.args.sheet.now in
+    key_read_lem s c.requires (bytes_of s (λ i. (c.type_inv.sheet i).fits)) c.numbers_end-at.ensures c.number-nid_c.ensures c.number-nid_sp.ensures c.number-major.ensures c.number-minor.ensures

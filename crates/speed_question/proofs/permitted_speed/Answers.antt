@@ -1,0 +1,42 @@
+-- `speed_question::permitted_speed` meets its contract.
+use mathlib.Core.Path.{sym, ◌∙◌}
+use native.Mathlib.Omega.{arith}
+use Rattle.speed_question.specs.Question.{no_speed, read_as, lent, speed_of_run}
+use Rattle.speed_question.specs.internal.Run.{brought_of}
+use Rattle.speed_question.proofs.Asked.{lent_asked}
+use Rattle.speed_question.proofs.Questions.{question_neither, question_none, question_many, question_refused, question_accepted}
+use Rattle.speed_question.proofs.Runs.{run_each}
+use Rattle.speed_question.proofs.permitted_speed.Goals as goal
+
+pub returns-then-medium-gt-SHEET : goal.returns-then-medium-gt-SHEET
+returns-then-medium-gt-SHEET c = let a = c in c.answer.ensures ∙ question_neither no_speed (speed_of_run a.args.train a.args.x) a.args.medium a.args.count (lent a.args.count a.args.first.now a.args.second.now a.args.third.now a.args.fourth.now) (lent_asked a.args.medium a.args.count a.args.first.now a.args.second.now a.args.third.now a.args.fourth.now a.args.train a.args.x) c.if-medium-gt-SHEET.true
+
+pub returns-then-count-lt1 : goal.returns-then-count-lt1
+returns-then-count-lt1 c = let a = c in c.answer-then-count-lt1.ensures ∙ question_none no_speed (speed_of_run a.args.train a.args.x) a.args.medium a.args.count (lent a.args.count a.args.first.now a.args.second.now a.args.third.now a.args.fourth.now) (lent_asked a.args.medium a.args.count a.args.first.now a.args.second.now a.args.third.now a.args.fourth.now a.args.train a.args.x) (omega (arith, c.if-medium-gt-SHEET.false)) c.if-count-lt1.true
+
+pub returns-then-count-gt-MOST : goal.returns-then-count-gt-MOST
+returns-then-count-gt-MOST c =
+    let a = c in
+    c.answer-then-count-gt-MOST.ensures ∙ question_many no_speed (speed_of_run a.args.train a.args.x) a.args.medium a.args.count (lent a.args.count a.args.first.now a.args.second.now a.args.third.now a.args.fourth.now) (lent_asked a.args.medium a.args.count a.args.first.now a.args.second.now a.args.third.now a.args.fourth.now a.args.train a.args.x) (omega (arith, c.if-medium-gt-SHEET.false)) (omega (arith, c.if-count-lt1.false)) c.if-count-gt-MOST.true
+
+pub judge_run-requires : goal.judge_run-requires
+judge_run-requires c = (omega (arith, c.if-count-lt1.false), omega (arith, c.if-count-gt-MOST.false))
+
+pub of_run-requires : goal.of_run-requires
+of_run-requires c =
+    let a = c in
+    let e = sym c.in-Accepted.is ∙ c.judge_run.ensures in
+    let r = lent a.args.count a.args.first.now a.args.second.now a.args.third.now a.args.fourth.now in
+    ((omega (arith, c.if-count-lt1.false), omega (arith, c.if-count-gt-MOST.false)), run_each (read_as (brought_of a.args.medium)) r e)
+
+pub returns-in-Refused : goal.returns-in-Refused
+returns-in-Refused c =
+    let a = c in
+    let e = sym c.in-Refused.is ∙ c.judge_run.ensures in
+    c.answer-in-Refused.ensures ∙ question_refused no_speed (speed_of_run a.args.train a.args.x) a.args.medium a.args.count (lent a.args.count a.args.first.now a.args.second.now a.args.third.now a.args.fourth.now) (lent_asked a.args.medium a.args.count a.args.first.now a.args.second.now a.args.third.now a.args.fourth.now a.args.train a.args.x) (omega (arith, c.if-medium-gt-SHEET.false)) (omega (arith, c.if-count-lt1.false)) (omega (arith, c.if-count-gt-MOST.false)) e
+
+pub returns-in-Accepted : goal.returns-in-Accepted
+returns-in-Accepted c =
+    let a = c in
+    let e = sym c.in-Accepted.is ∙ c.judge_run.ensures in
+    c.of_run.ensures ∙ question_accepted no_speed (speed_of_run a.args.train a.args.x) a.args.medium a.args.count (lent a.args.count a.args.first.now a.args.second.now a.args.third.now a.args.fourth.now) (lent_asked a.args.medium a.args.count a.args.first.now a.args.second.now a.args.third.now a.args.fourth.now a.args.train a.args.x) (omega (arith, c.if-medium-gt-SHEET.false)) (omega (arith, c.if-count-lt1.false)) (omega (arith, c.if-count-gt-MOST.false)) e

@@ -1,0 +1,15 @@
+use native.Mathlib.Omega.{arith}
+use Rattle.steps.proofs.Starts.{rising_first, rising_next, rising_not, rising_last}
+use Rattle.steps.proofs.rising.Goals as goal
+
+pub loop-i-init : goal.loop-i-init
+loop-i-init c = let a = c in rising_first a.args.lsp a.args.starts.now a.requires
+
+pub returns-then-next-last : goal.returns-then-next-last
+returns-then-next-last c = rising_not c.args.lsp c.loop-i.invariant c.loop-i-test.true c.if-next-last.true
+
+pub loop-i-preserved : goal.loop-i-preserved
+loop-i-preserved c = rising_next c.args.lsp c.loop-i.invariant c.loop-i-test.true (omega (arith, c.if-next-last.false))
+
+pub returns : goal.returns
+returns c = rising_last c.args.lsp c.loop-i.invariant (omega (arith, c.loop-i-test.false))
