@@ -12,7 +12,6 @@ use Rattle.speed.specs.declared.Train.{Train}
 use Rattle.speed.specs.Speed.{Element, figure, valid_train, limited, instead, end_before, holds, held_speeds}
 use Rattle.speed.specs.Run.{run_elements, run_end, last_start, speed_in_run}
 use Rattle.speed.proofs.Faster.{speed_same}
-use Rattle.speed_question.specs.declared.Speed.{Speed}
 use Rattle.speed_question.specs.Question.{judged_speed}
 use Rattle.promises.specs.Promised.{with_maximum, answer_limited, LowestOf}
 use Rattle.promises.proofs.Held.{lowest_of}

@@ -23,7 +23,6 @@ use Rattle.speed.specs.Speed.{in_fives}
 use Rattle.speed.specs.Run.{Each, numbers_of, each_given_back, speed_in_run}
 use Rattle.speed.proofs.Runs.{run_in_fives}
 use Rattle.speed.proofs.Bounds.{speed_most}
-use Rattle.speed_question.specs.declared.Speed.{Speed}
 use Rattle.speed_question.specs.Question.{Brought}
 use Rattle.altitude.specs.Altitude.{altitude_field}
 use Rattle.promises.specs.Promised.{SegmentValues}

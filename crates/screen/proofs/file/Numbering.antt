@@ -9,7 +9,6 @@ use borrow.Author.Tests.{eq-eqb, ne_eqb, le-leb, lt-leb}
 use lib.Dec.{ltb}
 use lib.ListN.{length, take, drop, get_or, set, length-set, drop_of_length-le}
 use lib.Seq.{take-suc-set, append_snoc, drop-drop, drop-cons}
-use Rattle.numbers.specs.declared.Number.{Number}
 use Rattle.numbers.specs.declared.Number.TheVariants.{Value, Bad}
 use Rattle.numbers.specs.Numbers.{number_in, groups_in}
 use Rattle.numbers.proofs.Counting.{count_five}
