@@ -1,14 +1,15 @@
 -- The steps of the intake over plain values: a delivery, the completion, and the question for the sheet.
 use mathlib.Core.Path.{◌≡◌, refl}
 use mathlib.Core.Bool.{true, false, and-false}
-use mathlib.Core.List.{List, ◌++◌}
-use Prim.Native.Nat.{ℕ, ◌+◌, ◌≤◌, ◌<◌}
+use mathlib.Core.List.{List, [], ◌++◌, append-nil}
+use Prim.Native.Nat.{ℕ, ◌+◌, ◌-◌, ◌≤◌, ◌<◌}
+use native.Mathlib.Nat.{le_refl, le_of_eq}
 use native.Mathlib.Omega.{arith}
 use borrow.Author.Tests.{le-leb, lt-leb, ne_eqb}
 use lib.Dec.{eqb, leb}
-use lib.ListN.{length, take, drop}
-use lib.Seq.{drop-drop}
-use borrow.Rule.Slice.PartMut.{put_mid}
+use lib.ListN.{length, length-drop, take, drop, drop_of_length-le}
+use lib.Seq.{take_all, drop-drop}
+use borrow.Rule.Slice.PartMut.{put_mid, mid_of}
 use Rattle.format.specs.Format.{Read, accepted, refused}
 use Rattle.format.specs.Media.{sheet}
 use Rattle.grammar.specs.segment.Frame.{packet_number}
@@ -34,9 +35,18 @@ module _ (n : ℕ) (d room : List ℕ) {i : Intake} where
       → ◌≡◌ {A = Delivered} (record { intake = i; room = end }) (gathers_at n d room)
   put_held h l e q = rw (le-leb (n + length d) (length room) h, le-leb (n + length d) 4294967295 l, e, q)
 
--- the room after a delivery was copied into the part of it that begins at the byte n and has as many bytes
-pub copied_in : (n k : ℕ) (d room end : List ℕ) → k ≡ length d → end ≡ d → put_mid n k room end ≡ take n room ++ (d ++ drop (n + length d) room)
-copied_in n k d room end l e = rw (e, l, drop-drop (length d) n room)
+-- the room after a delivery was copied into its rest, from the byte n on
+pub copied_in : (n : ℕ) (d room end : List ℕ) → n + length d ≤ length room → end ≡ take (length d) d ++ drop (length d) (mid_of n (length room - n) room)
+    → put_mid n (length room - n) room end ≡ take n room ++ (d ++ drop (n + length d) room)
+copied_in n d room end h e =
+    let gone : drop (length room - n) (drop n room) ≡ [] = drop_of_length-le (drop n room) (le_of_eq (length-drop n room)) in
+    let rest : mid_of n (length room - n) room ≡ drop n room = take_all (length room - n) (drop n room) (le_of_eq (length-drop n room)) in
+    let all : take (length d) d ≡ d = take_all (length d) d (le_refl _) in
+    rw (e, gone, rest, all, drop-drop (length d) n room, append-nil (d ++ drop (n + length d) room))
+
+-- the room after a delivery filled the part of it that begins at the byte n and has as many bytes
+pub filled_in : (n k : ℕ) (d room end : List ℕ) → k ≡ length d → end ≡ d → put_mid n k room end ≡ take n room ++ (d ++ drop (n + length d) room)
+filled_in n k d room end l e = rw (e, l, drop-drop (length d) n room)
 
 -- ---- a delivery
 
