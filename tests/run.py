@@ -135,7 +135,9 @@ def quick():
         raise NotRun("there is no target/ci.times: .ci/run writes it")
     took = dict(line.split() for line in kept.read_text().splitlines())
     for crate in SECTION.findall(said_by_ci()):
-        if int(took.get(crate[0], 0)) >= SECONDS:
+        if crate[0] not in took:
+            yield f"{crate[0]}: no time"
+        elif int(took[crate[0]]) >= SECONDS:
             yield f"{crate[0]}: {took[crate[0]]} s"
 
 

@@ -1,4 +1,4 @@
--- What the walks share of a card as an element of a slice: its row, its machine value, its laws, and that its place fits.
+-- A card as an element of a slice: its row, its machine value, its laws, and that its place fits.
 use Prim.Native.Nat.{ℕ, ◌<◌, ◌*◌, ◌^◌}
 use native.Mathlib.Omega.{arith}
 use mathlib.Core.List.{List}

@@ -1,5 +1,5 @@
 // The fleet board: a lent list of up to 64 train cards, each with a location on the segment of one packet.
-// What `fleet_lowest` and `fleet_move`, which take the list, call takes plain data and bytes.
+// `fleet_lowest` and `fleet_move` take the list; the functions that they call take plain data and bytes.
 
 #![tactic(auto)]
 

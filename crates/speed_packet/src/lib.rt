@@ -19,7 +19,7 @@ use speed_element::{ElementAt, First, Following, Head, Lows, Open};
 
 // Returns `lows` with the specific entry at the bit `at` taken in. `figures` are the cant figures.
 fn entry(s: &[u8], at: usize, figures: &[u32; 11], train: Train, lows: Lows) -> Lows
-    requires { (figures.now ≡ cant_figures) × Readable (Reads s.now) (parts.entry) at }
+    requires { (figures.now ≡ cant_figures) × Readable (Reads s.now) parts.entry at }
     ensures { EntryRead (Reads s.now) train lows result at (at + 13) }
 {
     let t = bits::read_window(s, at, ENTRY as u32);
@@ -30,7 +30,7 @@ fn entry(s: &[u8], at: usize, figures: &[u32; 11], train: Train, lows: Lows) -> 
 
 // Reads the element at the bit `at`, which starts at the location `start`. Its entries are passed over.
 fn element(s: &[u8], at: usize, start: u32) -> ElementAt
-    requires { Readable (Reads s.now) (segment.profile) at }
+    requires { Readable (Reads s.now) segment.profile at }
     ensures { ElementRead (Reads s.now) at result.next result.open × (result.open.start ≡ start) }
 {
     let t = bits::read_window(s, at, ELEMENT as u32);

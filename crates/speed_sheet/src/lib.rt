@@ -44,7 +44,7 @@ pub fn number(s: &[u8], at: usize) -> ReadNumber
 
 // Reads the entry at the byte `at`, and returns the lowest speeds `lows` with that entry.
 fn entry(s: &[u8], at: usize, train: Train, lows: Lows) -> Entered
-    requires { Readable (Reads s.now) (parts.entry) at }
+    requires { Readable (Reads s.now) parts.entry at }
     ensures { EntryRead (Reads s.now) train lows result.lows at result.next }
 {
     let q_diff = number(s, at);
@@ -78,7 +78,7 @@ fn entries_end(s: &[u8], at: usize, count: u32) -> usize
 
 // Reads the element at the byte `at`, which starts at the location `start`, and skips its entries. Q_FRONT and N_ITER have one group.
 fn element(s: &[u8], at: usize, start: u32) -> ElementAt
-    requires { Readable (Reads s.now) (segment.profile) at }
+    requires { Readable (Reads s.now) segment.profile at }
     ensures { ElementRead (Reads s.now) at result.next result.open × (result.open.start ≡ start) }
 {
     let v_static = number(s, at);

@@ -1,4 +1,4 @@
--- `packet_write_segment::header_row_lem` meets its contract.
+-- `packet_write_segment::header_row` meets its contract.
 use Rattle.grammar.proofs.segment.Parts.{header_fits}
 use Rattle.packet_write_segment.proofs.header_row.Goals as goal
 

@@ -1,4 +1,4 @@
--- `packet_journey::constraint_bytes::both_bytes_lem` meets its contract.
+-- `packet_journey::constraint_bytes::both_bytes` meets its contract.
 use Rattle.numbers.proofs.Counting.{count_five}
 use Rattle.packet_journey.proofs.constraint_bytes.Values.{both_none, both_bytes_lem}
 use native.Mathlib.Omega.{arith}

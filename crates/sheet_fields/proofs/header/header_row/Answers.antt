@@ -1,4 +1,4 @@
--- `sheet_fields::header::header_row_lem` meets its contract.
+-- `sheet_fields::header::header_row` meets its contract.
 use Rattle.sheet_fields.proofs.header.header_row.Goals as goal
 
 pub returns : goal.returns
