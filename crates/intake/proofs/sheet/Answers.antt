@@ -11,20 +11,17 @@ returns-then-intake-ne-JUDGED c =
 
 pub returns-then-intake-eq0 : goal.returns-then-intake-eq0
 returns-then-intake-eq0 c =
-    let v = c in
-    let a = v.args in
-    sheet_asked a.intake a.taken.now a.room.now (omega arith) (sym v.is_verdict.ensures ∙ v.if-is_verdict.true) (omega arith)
+    let a = c.args in
+    sheet_asked a.intake a.taken.now a.room.now (omega arith) (sym c.is_verdict.ensures ∙ c.if-is_verdict.true) (omega arith)
     c.judged_sheet.ensures
 
 pub returns-then-is_verdict : goal.returns-then-is_verdict
 returns-then-is_verdict c =
-    let v = c in
-    let a = v.args in
-    refused_asked a.intake a.taken.now a.room.now (omega arith) (sym v.is_verdict.ensures ∙ v.if-is_verdict.true) c.if-intake-eq0.false
+    let a = c.args in
+    refused_asked a.intake a.taken.now a.room.now (omega arith) (sym c.is_verdict.ensures ∙ c.if-is_verdict.true) c.if-intake-eq0.false
     c.refused-then-is_verdict.ensures
 
 pub returns : goal.returns
 returns c =
-    let v = c in
-    let a = v.args in
-    unjudged_asked a.intake a.taken.now a.room.now (omega arith) (sym v.is_verdict.ensures ∙ v.if-is_verdict.false) c.refused-2.ensures
+    let a = c.args in
+    unjudged_asked a.intake a.taken.now a.room.now (omega arith) (sym c.is_verdict.ensures ∙ c.if-is_verdict.false) c.refused-2.ensures

@@ -6,27 +6,22 @@ use Rattle.leg_packet.proofs.constraint.Goals as goal
 
 pub read_window-t-requires : goal.read_window-t-requires
 read_window-t-requires c =
-    let b = c in
-    let h = b.requires in
-    (lit< tt, lit≤ tt, omega (arith, constraint_inside b.args.packet.now h, h.reads.inside), h.reads.long)
+    let h = c.requires in
+    (lit< tt, lit≤ tt, omega (arith, constraint_inside c.args.packet.now h, h.reads.inside), h.reads.long)
 
 pub read_window-end-requires : goal.read_window-end-requires
 read_window-end-requires c =
-    let b = c in
-    let h = b.requires in
-    (lit< tt, lit≤ tt, omega (arith, constraint_inside b.args.packet.now h, h.reads.inside), h.reads.long)
+    let h = c.requires in
+    (lit< tt, lit≤ tt, omega (arith, constraint_inside c.args.packet.now h, h.reads.inside), h.reads.long)
 
 pub read_window-u-requires : goal.read_window-u-requires
 read_window-u-requires c =
-    let b = c in
-    let h = b.requires in
-    (lit< tt, lit≤ tt, omega (arith, constraint_inside b.args.packet.now h, h.reads.inside), h.reads.long)
+    let h = c.requires in
+    (lit< tt, lit≤ tt, omega (arith, constraint_inside c.args.packet.now h, h.reads.inside), h.reads.long)
 
 pub returns : goal.returns
 returns c =
-    let d = c in
-    let b = d in
-    let s = b.args.packet.now in
-    let h = b.requires in
-    constraint_windows s b.args.at (omega (arith, constraint_inside s h, h.reads.inside)) d.read_window-t.ensures d.read_window-end.ensures
-    d.read_window-u.ensures c.speed.ensures
+    let s = c.args.packet.now in
+    let h = c.requires in
+    constraint_windows s c.args.at (omega (arith, constraint_inside s h, h.reads.inside)) c.read_window-t.ensures c.read_window-end.ensures
+    c.read_window-u.ensures c.speed.ensures

@@ -9,17 +9,14 @@ read_window-version-requires c = let h = identified c.args.packet.now c.requires
 
 pub read_window-requires : goal.read_window-requires
 read_window-requires c =
-    let b = c in
-    let h = identified b.args.packet.now b.requires in
+    let h = identified c.args.packet.now c.requires in
     (lit< tt, lit≤ tt, omega (arith, h.inside), h.long)
 
 pub read_window-requires-2 : goal.read_window-requires-2
 read_window-requires-2 c =
-    let b = c in
-    let h = identified b.args.packet.now b.requires in
+    let h = identified c.args.packet.now c.requires in
     (lit< tt, lit≤ tt, omega (arith, h.inside), h.long)
 
 pub returns : goal.returns
 returns c =
-    let b = c in
-    identity_read b.args.packet.now b.requires c.read_window.ensures c.read_window-2.ensures c.read_window-version.ensures
+    identity_read c.args.packet.now c.requires c.read_window.ensures c.read_window-2.ensures c.read_window-version.ensures

@@ -7,4 +7,4 @@ pub read_window-t-requires : goal.read_window-t-requires
 read_window-t-requires c = let h = counted c.args.packet.now c.requires in (lit< tt, lit≤ tt, h.inside, h.long)
 
 pub returns : goal.returns
-returns c = let b = c in legs_read b.args.packet.now b.requires c.read_window-t.ensures
+returns c = legs_read c.args.packet.now c.requires c.read_window-t.ensures

@@ -6,12 +6,10 @@ use Rattle.leg_sheet.proofs.constraints_end.Goals as goal
 
 pub numbers_end-requires : goal.numbers_end-requires
 numbers_end-requires c =
-    let b = c in
-    let s = b.args.sheet.now in
-    let h = b.requires.0 in
-    parts_numbers s 8 (constraint_walk s) b.args.count h.follows h.values h.reads _ (omega arith)
+    let s = c.args.sheet.now in
+    let h = c.requires.0 in
+    parts_numbers s 8 (constraint_walk s) c.args.count h.follows h.values h.reads _ (omega arith)
 
 pub returns : goal.returns
 returns c =
-    let b = c in
-    constraints_passed b.args.sheet.now b.args.count b.args.at (8 * b.args.count) _ (omega arith) c.numbers_end.ensures
+    constraints_passed c.args.sheet.now c.args.count c.args.at (8 * c.args.count) _ (omega arith) c.numbers_end.ensures

@@ -5,16 +5,13 @@ use Rattle.leg_sheet.proofs.head.Goals as goal
 
 pub overflow_mul-points : goal.overflow_mul-points
 overflow_mul-points c =
-    let b = c in
-    omega (arith, points_few b.args.sheet.now c.number-nid_c.ensures c.number-nid_sp.ensures c.number-major.ensures c.number-minor.ensures c.number-direction.ensures c.number-points.ensures b.requires)
+    omega (arith, points_few c.args.sheet.now c.number-nid_c.ensures c.number-nid_sp.ensures c.number-major.ensures c.number-minor.ensures c.number-direction.ensures c.number-points.ensures c.requires)
 
 pub numbers_end-to-requires : goal.numbers_end-to-requires
 numbers_end-to-requires c =
-    let b = c in
-    points_numbers b.args.sheet.now c.number-nid_c.ensures c.number-nid_sp.ensures c.number-major.ensures c.number-minor.ensures c.number-direction.ensures c.number-points.ensures b.requires
+    points_numbers c.args.sheet.now c.number-nid_c.ensures c.number-nid_sp.ensures c.number-major.ensures c.number-minor.ensures c.number-direction.ensures c.number-points.ensures c.requires
 
 pub returns : goal.returns
 returns c =
-    let b = c in
-    leg_here b.args.sheet.now c.number-nid_c.ensures c.number-nid_sp.ensures c.number-major.ensures c.number-minor.ensures c.number-direction.ensures c.number-points.ensures b.requires
+    leg_here c.args.sheet.now c.number-nid_c.ensures c.number-nid_sp.ensures c.number-major.ensures c.number-minor.ensures c.number-direction.ensures c.number-points.ensures c.requires
     c.numbers_end-to.ensures c.number-count.ensures

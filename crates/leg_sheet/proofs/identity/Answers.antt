@@ -8,7 +8,6 @@ numbers_end-at-requires c = let s = c.args.sheet.now in identity_numbers s c.req
 
 pub returns : goal.returns
 returns c =
-    let b = c in
-    let s = b.args.sheet.now in
-    identity_read s b.requires (bytes_of s (λ i. (c.type_inv.sheet i).fits)) c.numbers_end-at.ensures
+    let s = c.args.sheet.now in
+    identity_read s c.requires (bytes_of s (λ i. (c.type_inv.sheet i).fits)) c.numbers_end-at.ensures
     c.number-nid_c.ensures c.number-nid_sp.ensures c.number-major.ensures c.number-minor.ensures

@@ -8,6 +8,5 @@ numbers_end-at-requires c = let s = c.args.sheet.now in count_numbers s c.requir
 
 pub returns : goal.returns
 returns c =
-    let b = c in
-    let s = b.args.sheet.now in
-    legs_read s b.requires (bytes_of s (λ i. (c.type_inv.sheet i).fits)) c.numbers_end-at.ensures c.number-count.ensures
+    let s = c.args.sheet.now in
+    legs_read s c.requires (bytes_of s (λ i. (c.type_inv.sheet i).fits)) c.numbers_end-at.ensures c.number-count.ensures

@@ -33,13 +33,12 @@ overflow_cast-result-then-high-lt128 c =
 
 pub returns-then-high-lt128 : goal.returns-then-high-lt128
 returns-then-high-lt128 c =
-    let b = c in
-    let a = b.args in
-    let w = b.wider-b in
+    let a = c.args in
+    let w = c.wider-b in
     let high : ℕ = c.wider.result * (w.result / 128) in
     let few = c.if-high-lt128.true in
     found_is (number_in (drop a.at a.s.now)) (number_below 5 (drop a.at a.s.now)) (w.result % 128 + 128 * high) (1 + w.result / 128) (omega (arith, short_value w.result high few))
-    (counted_short a.s.now a.at b.if-at-s.true w.result (w.result / 128) high w.ensures (omega (arith, w.ensures, b.type_inv.s a.at))
+    (counted_short a.s.now a.at c.if-at-s.true w.result (w.result / 128) high w.ensures (omega (arith, w.ensures, c.type_inv.s a.at))
     refl (ap (λ (x : ℕ). x * (w.result / 128)) c.wider.ensures) c.if-more-high.true few)
 
 pub returns : goal.returns

@@ -7,16 +7,14 @@ use Rattle.packet_fields.proofs.Steps.{took_short, took_none, took_some}
 use Rattle.packet_fields.proofs.count.Goals as goal
 
 pub returns-then-stop-at-lt-COUNT : goal.returns-then-stop-at-lt-COUNT
-returns-then-stop-at-lt-COUNT c = let b = c in let a = b.args in took_short a.s.now a.stop (n_iter a.limit) 5 refl b.requires.0 (omega arith)
+returns-then-stop-at-lt-COUNT c = let a = c.args in took_short a.s.now a.stop (n_iter a.limit) 5 refl c.requires.0 (omega arith)
 
 pub returns-then-bytes-eq0 : goal.returns-then-bytes-eq0
 returns-then-bytes-eq0 c =
-    let b = c in
-    let a = b.args in
-    took_none a.s.now a.stop (n_iter a.limit) 5 refl b.requires.0 (lit≤ tt) (omega arith) c.read_window-v.ensures (c.one-bytes.ensures 5 4) c.if-bytes-eq0.true
+    let a = c.args in
+    took_none a.s.now a.stop (n_iter a.limit) 5 refl c.requires.0 (lit≤ tt) (omega arith) c.read_window-v.ensures (c.one-bytes.ensures 5 4) c.if-bytes-eq0.true
 
 pub returns : goal.returns
 returns c =
-    let b = c in
-    let a = b.args in
-    took_some a.s.now a.stop (n_iter a.limit) 5 refl b.requires.0 (lit≤ tt) (omega arith) c.read_window-v.ensures (c.one-bytes.ensures 5 4) c.if-bytes-eq0.false
+    let a = c.args in
+    took_some a.s.now a.stop (n_iter a.limit) 5 refl c.requires.0 (lit≤ tt) (omega arith) c.read_window-v.ensures (c.one-bytes.ensures 5 4) c.if-bytes-eq0.false

@@ -7,16 +7,14 @@ use Rattle.packet_fields.proofs.Steps.{took_short, took_none, took_some, past, p
 use Rattle.packet_fields.proofs.current.Goals as goal
 
 pub returns-then-stop-at-lt-CURRENT : goal.returns-then-stop-at-lt-CURRENT
-returns-then-stop-at-lt-CURRENT c = let b = c in let a = b.args in past_off a.s.now a.stop (took_short a.s.now a.stop m_current 10 refl b.requires (omega arith))
+returns-then-stop-at-lt-CURRENT c = let a = c.args in past_off a.s.now a.stop (took_short a.s.now a.stop m_current 10 refl c.requires (omega arith))
 
 pub returns-then-bytes-eq0 : goal.returns-then-bytes-eq0
 returns-then-bytes-eq0 c =
-    let b = c in
-    let a = b.args in
-    past_off a.s.now a.stop (took_none a.s.now a.stop m_current 10 refl b.requires (lit≤ tt) (omega arith) c.read_window.ensures c.current-bytes.ensures c.if-bytes-eq0.true)
+    let a = c.args in
+    past_off a.s.now a.stop (took_none a.s.now a.stop m_current 10 refl c.requires (lit≤ tt) (omega arith) c.read_window.ensures c.current-bytes.ensures c.if-bytes-eq0.true)
 
 pub returns : goal.returns
 returns c =
-    let b = c in
-    let a = b.args in
-    past a.s.now a.stop (took_some a.s.now a.stop m_current 10 refl b.requires (lit≤ tt) (omega arith) c.read_window.ensures c.current-bytes.ensures c.if-bytes-eq0.false)
+    let a = c.args in
+    past a.s.now a.stop (took_some a.s.now a.stop m_current 10 refl c.requires (lit≤ tt) (omega arith) c.read_window.ensures c.current-bytes.ensures c.if-bytes-eq0.false)

@@ -7,21 +7,18 @@ use Rattle.packet_fields.proofs.field.Goals as goal
 
 pub returns-then-stop-at : goal.returns-then-stop-at
 returns-then-stop-at c =
-    let b = c in
-    let a = b.args in
-    took_short a.s.now a.stop (meaning a.rule) _ refl b.requires.0 (omega (arith, c.width-width.ensures))
+    let a = c.args in
+    took_short a.s.now a.stop (meaning a.rule) _ refl c.requires.0 (omega (arith, c.width-width.ensures))
 
 pub returns-then-bytes-eq0 : goal.returns-then-bytes-eq0
 returns-then-bytes-eq0 c =
-    let b = c in
-    let a = b.args in
+    let a = c.args in
     let w = c.width-width.ensures in
     rw c.refusal.ensures
-    (took_none a.s.now a.stop (meaning a.rule) _ (sym w) b.requires.0 (omega (arith, w, b.requires.1.some)) (omega arith) c.read_window-v.ensures c.by-bytes.ensures c.if-bytes-eq0.true)
+    (took_none a.s.now a.stop (meaning a.rule) _ (sym w) c.requires.0 (omega (arith, w, c.requires.1.some)) (omega arith) c.read_window-v.ensures c.by-bytes.ensures c.if-bytes-eq0.true)
 
 pub returns : goal.returns
 returns c =
-    let b = c in
-    let a = b.args in
+    let a = c.args in
     let w = c.width-width.ensures in
-    took_some a.s.now a.stop (meaning a.rule) _ (sym w) b.requires.0 (omega (arith, w, b.requires.1.some)) (omega arith) c.read_window-v.ensures c.by-bytes.ensures c.if-bytes-eq0.false
+    took_some a.s.now a.stop (meaning a.rule) _ (sym w) c.requires.0 (omega (arith, w, c.requires.1.some)) (omega arith) c.read_window-v.ensures c.by-bytes.ensures c.if-bytes-eq0.false

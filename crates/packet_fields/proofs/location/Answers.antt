@@ -7,16 +7,14 @@ use Rattle.packet_fields.proofs.Steps.{took_short, took_none, took_some}
 use Rattle.packet_fields.proofs.location.Goals as goal
 
 pub returns-then-stop-at-lt-LOCATION : goal.returns-then-stop-at-lt-LOCATION
-returns-then-stop-at-lt-LOCATION c = let b = c in let a = b.args in took_short a.s.now a.stop (d_location a.last a.lsp) 24 refl b.requires (omega arith)
+returns-then-stop-at-lt-LOCATION c = let a = c.args in took_short a.s.now a.stop (d_location a.last a.lsp) 24 refl c.requires (omega arith)
 
 pub returns-then-bytes-eq0 : goal.returns-then-bytes-eq0
 returns-then-bytes-eq0 c =
-    let b = c in
-    let a = b.args in
-    took_none a.s.now a.stop (d_location a.last a.lsp) 24 refl b.requires (lit≤ tt) (omega arith) c.read_window-v.ensures c.location-bytes.ensures c.if-bytes-eq0.true
+    let a = c.args in
+    took_none a.s.now a.stop (d_location a.last a.lsp) 24 refl c.requires (lit≤ tt) (omega arith) c.read_window-v.ensures c.location-bytes.ensures c.if-bytes-eq0.true
 
 pub returns : goal.returns
 returns c =
-    let b = c in
-    let a = b.args in
-    took_some a.s.now a.stop (d_location a.last a.lsp) 24 refl b.requires (lit≤ tt) (omega arith) c.read_window-v.ensures c.location-bytes.ensures c.if-bytes-eq0.false
+    let a = c.args in
+    took_some a.s.now a.stop (d_location a.last a.lsp) 24 refl c.requires (lit≤ tt) (omega arith) c.read_window-v.ensures c.location-bytes.ensures c.if-bytes-eq0.false

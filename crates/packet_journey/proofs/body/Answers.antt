@@ -19,12 +19,10 @@ returns-in-Refused c = over_off (rw (c.in-Refused.is, c.rule.ensures.kind) at c.
 
 pub returns-in-Refused-field : goal.returns-in-Refused-field
 returns-in-Refused-field c =
-    let b = c in
-    over_on (rw (b.in-On.is, b.rule.ensures.kind) at b.plain.ensures)
-    (value_off (times (journey_segment constraints)) (rw (c.in-Refused-field.is, b.rule-in-On.ensures.kind) at b.field.ensures))
+    over_on (rw (c.in-On.is, c.rule.ensures.kind) at c.plain.ensures)
+    (value_off (times (journey_segment constraints)) (rw (c.in-Refused-field.is, c.rule-in-On.ensures.kind) at c.field.ensures))
 
 pub returns-in-Is : goal.returns-in-Is
 returns-in-Is c =
-    let b = c in
-    over_on (rw (b.in-On.is, b.rule.ensures.kind) at b.plain.ensures)
-    (value_on (times (journey_segment constraints)) (rw (c.in-Is.is, b.rule-in-On.ensures.kind) at b.field.ensures) c.segments.ensures)
+    over_on (rw (c.in-On.is, c.rule.ensures.kind) at c.plain.ensures)
+    (value_on (times (journey_segment constraints)) (rw (c.in-Is.is, c.rule-in-On.ensures.kind) at c.field.ensures) c.segments.ensures)

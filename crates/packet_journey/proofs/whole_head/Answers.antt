@@ -13,7 +13,7 @@ short-major-requires c = let a = c.args in omega (arith, window_small a.s.now (a
 
 -- the bytes of the four numbers are few
 sum_small : (c : goal.After-short-minor) → c.short-country.result + c.groups-identity.result + c.short-major.result + c.short-minor.result ≤ 20
-sum_small c = let b = c in small b.args.s.now b.args.stop b.requires.0 b.requires.1 c.read_window-t.ensures (rw c.read_window.ensures at c.short-country.ensures) (rw c.read_window-2.ensures at c.groups-identity.ensures) c.short-major.ensures c.short-minor.ensures
+sum_small c = small c.args.s.now c.args.stop c.requires.0 c.requires.1 c.read_window-t.ensures (rw c.read_window.ensures at c.short-country.ensures) (rw c.read_window-2.ensures at c.groups-identity.ensures) c.short-major.ensures c.short-minor.ensures
 
 pub overflow_add-bytes : goal.overflow_add-bytes
 overflow_add-bytes c = omega (arith, sum_small c)
@@ -29,5 +29,4 @@ overflow_add-bytes-4 c = omega (arith, sum_small c)
 
 pub returns : goal.returns
 returns c =
-    let e = c in
-    let b = e in head_on b.args.s.now b.args.stop b.requires.0 b.requires.1 c.read_window-t.ensures (rw e.read_window.ensures at e.short-country.ensures) (rw e.read_window-2.ensures at e.groups-identity.ensures) c.short-major.ensures c.short-minor.ensures
+    head_on c.args.s.now c.args.stop c.requires.0 c.requires.1 c.read_window-t.ensures (rw c.read_window.ensures at c.short-country.ensures) (rw c.read_window-2.ensures at c.groups-identity.ensures) c.short-major.ensures c.short-minor.ensures

@@ -6,52 +6,44 @@ use Rattle.packet_judge.proofs.judge_packet.Goals as goal
 
 pub packet_fields-requires : goal.packet_fields-requires
 packet_fields-requires c =
-    let b = c in
-    let a = b.args in
-    let w = framed_whole a.tree a.s.now b.tree_frame.ensures b.in-End.is in
+    let a = c.args in
+    let w = framed_whole a.tree a.s.now c.tree_frame.ensures c.in-End.is in
     (w.placed, omega (arith, w.ends, w.inside))
 
 pub first_one-one-requires : goal.first_one-one-requires
 first_one-one-requires c =
-    let b = c in
-    let a = b.args in
-    let w = framed_whole a.tree a.s.now b.tree_frame.ensures b.in-End.is in
+    let a = c.args in
+    let w = framed_whole a.tree a.s.now c.tree_frame.ensures c.in-End.is in
     (w.inside, w.near, w.placed.few)
 
 pub overflow_mul-s : goal.overflow_mul-s
 overflow_mul-s c =
-    let b = c in
-    let a = b.args in
-    let w = framed_whole a.tree a.s.now b.tree_frame.ensures b.in-End.is in
+    let a = c.args in
+    let w = framed_whole a.tree a.s.now c.tree_frame.ensures c.in-End.is in
     omega (arith, w.few)
 
 pub overflow_cast-result : goal.overflow_cast-result
 overflow_cast-result c =
-    let b = c in
-    let a = b.args in
-    let w = framed_whole a.tree a.s.now b.tree_frame.ensures b.in-End.is in
+    let a = c.args in
+    let w = framed_whole a.tree a.s.now c.tree_frame.ensures c.in-End.is in
     omega (arith, w.few, one_inside a.s.now _ w.inside, c.first_one-one.ensures)
 
 pub returns-in-Refused : goal.returns-in-Refused
 returns-in-Refused c =
-    let b = c in
-    let a = b.args in
-    frame_refused a.tree a.s.now b.tree_frame.ensures c.in-Refused.is
+    let a = c.args in
+    frame_refused a.tree a.s.now c.tree_frame.ensures c.in-Refused.is
 
 pub returns-in-Refused-packet_fields : goal.returns-in-Refused-packet_fields
 returns-in-Refused-packet_fields c =
-    let b = c in
-    let a = b.args in
-    fields_refused a.tree a.s.now b.tree_frame.ensures b.in-End.is c.packet_fields.ensures c.in-Refused-packet_fields.is
+    let a = c.args in
+    fields_refused a.tree a.s.now c.tree_frame.ensures c.in-End.is c.packet_fields.ensures c.in-Refused-packet_fields.is
 
 pub returns-then-one-s : goal.returns-then-one-s
 returns-then-one-s c =
-    let b = c in
-    let a = b.args in
-    fields_accepted a.tree a.s.now b.tree_frame.ensures b.in-End.is c.packet_fields.ensures c.in-SheetBytes.is c.first_one-one.ensures c.if-one-s.true
+    let a = c.args in
+    fields_accepted a.tree a.s.now c.tree_frame.ensures c.in-End.is c.packet_fields.ensures c.in-SheetBytes.is c.first_one-one.ensures c.if-one-s.true
 
 pub returns-else-one-s : goal.returns-else-one-s
 returns-else-one-s c =
-    let b = c in
-    let a = b.args in
-    padding_refused a.tree a.s.now b.tree_frame.ensures b.in-End.is c.packet_fields.ensures c.in-SheetBytes.is c.first_one-one.ensures c.if-one-s.false
+    let a = c.args in
+    padding_refused a.tree a.s.now c.tree_frame.ensures c.in-End.is c.packet_fields.ensures c.in-SheetBytes.is c.first_one-one.ensures c.if-one-s.false

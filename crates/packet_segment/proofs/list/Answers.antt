@@ -19,12 +19,10 @@ returns-in-Refused c =
 
 pub returns-in-Refused-count : goal.returns-in-Refused-count
 returns-in-Refused-count c =
-    let b = c in
-    let a = b.args in
-    over_on (rw b.in-On.is at b.element.ensures) (value_off (changes (start_of a.part) a.lsp 0) (rw c.in-Refused-count.is at c.count.ensures))
+    let a = c.args in
+    over_on (rw c.in-On.is at c.element.ensures) (value_off (changes (start_of a.part) a.lsp 0) (rw c.in-Refused-count.is at c.count.ensures))
 
 pub returns-in-Is : goal.returns-in-Is
 returns-in-Is c =
-    let b = c in
-    let a = b.args in
-    over_on (rw b.in-On.is at b.element.ensures) (value_on (changes (start_of a.part) a.lsp 0) (rw c.in-Is.is at b.count.ensures) c.changes.ensures)
+    let a = c.args in
+    over_on (rw c.in-On.is at c.element.ensures) (value_on (changes (start_of a.part) a.lsp 0) (rw c.in-Is.is at c.count.ensures) c.changes.ensures)

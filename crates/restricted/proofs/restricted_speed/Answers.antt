@@ -10,32 +10,28 @@ use Rattle.restricted.proofs.Answers.{lent_restricted}
 use Rattle.restricted.proofs.restricted_speed.Goals as goal
 
 pub returns-then-medium-gt-SHEET : goal.returns-then-medium-gt-SHEET
-returns-then-medium-gt-SHEET c = let a = c in c.refused.ensures ∙ question_neither no_speed (restricted_of_run a.args.medium a.args.count a.args.journey.now a.args.leg a.args.train a.args.x) a.args.medium a.args.count (lent a.args.count a.args.first.now a.args.second.now a.args.third.now a.args.fourth.now) (lent_restricted a.args.medium a.args.count a.args.first.now a.args.second.now a.args.third.now a.args.fourth.now a.args.journey.now a.args.leg a.args.train a.args.x) c.if-medium-gt-SHEET.true
+returns-then-medium-gt-SHEET c = c.refused.ensures ∙ question_neither no_speed (restricted_of_run c.args.medium c.args.count c.args.journey.now c.args.leg c.args.train c.args.x) c.args.medium c.args.count (lent c.args.count c.args.first.now c.args.second.now c.args.third.now c.args.fourth.now) (lent_restricted c.args.medium c.args.count c.args.first.now c.args.second.now c.args.third.now c.args.fourth.now c.args.journey.now c.args.leg c.args.train c.args.x) c.if-medium-gt-SHEET.true
 
 pub returns-then-count-lt1 : goal.returns-then-count-lt1
-returns-then-count-lt1 c = let a = c in c.refused-then-count-lt1.ensures ∙ question_none no_speed (restricted_of_run a.args.medium a.args.count a.args.journey.now a.args.leg a.args.train a.args.x) a.args.medium a.args.count (lent a.args.count a.args.first.now a.args.second.now a.args.third.now a.args.fourth.now) (lent_restricted a.args.medium a.args.count a.args.first.now a.args.second.now a.args.third.now a.args.fourth.now a.args.journey.now a.args.leg a.args.train a.args.x) (omega (arith, c.if-medium-gt-SHEET.false)) c.if-count-lt1.true
+returns-then-count-lt1 c = c.refused-then-count-lt1.ensures ∙ question_none no_speed (restricted_of_run c.args.medium c.args.count c.args.journey.now c.args.leg c.args.train c.args.x) c.args.medium c.args.count (lent c.args.count c.args.first.now c.args.second.now c.args.third.now c.args.fourth.now) (lent_restricted c.args.medium c.args.count c.args.first.now c.args.second.now c.args.third.now c.args.fourth.now c.args.journey.now c.args.leg c.args.train c.args.x) (omega (arith, c.if-medium-gt-SHEET.false)) c.if-count-lt1.true
 
 pub returns-then-count-gt-MOST : goal.returns-then-count-gt-MOST
 returns-then-count-gt-MOST c =
-    let a = c in
-    c.refused-then-count-gt-MOST.ensures ∙ question_many no_speed (restricted_of_run a.args.medium a.args.count a.args.journey.now a.args.leg a.args.train a.args.x) a.args.medium a.args.count (lent a.args.count a.args.first.now a.args.second.now a.args.third.now a.args.fourth.now) (lent_restricted a.args.medium a.args.count a.args.first.now a.args.second.now a.args.third.now a.args.fourth.now a.args.journey.now a.args.leg a.args.train a.args.x) (omega (arith, c.if-medium-gt-SHEET.false)) (omega (arith, c.if-count-lt1.false)) c.if-count-gt-MOST.true
+    c.refused-then-count-gt-MOST.ensures ∙ question_many no_speed (restricted_of_run c.args.medium c.args.count c.args.journey.now c.args.leg c.args.train c.args.x) c.args.medium c.args.count (lent c.args.count c.args.first.now c.args.second.now c.args.third.now c.args.fourth.now) (lent_restricted c.args.medium c.args.count c.args.first.now c.args.second.now c.args.third.now c.args.fourth.now c.args.journey.now c.args.leg c.args.train c.args.x) (omega (arith, c.if-medium-gt-SHEET.false)) (omega (arith, c.if-count-lt1.false)) c.if-count-gt-MOST.true
 
 pub of_run-requires : goal.of_run-requires
 of_run-requires c =
-    let a = c in
     let e = sym c.in-Accepted.is ∙ c.judge_run.ensures in
-    ((omega (arith, c.if-count-lt1.false), omega (arith, c.if-count-gt-MOST.false)), run_each (read_as (brought_of a.args.medium)) (lent a.args.count a.args.first.now a.args.second.now a.args.third.now a.args.fourth.now) e)
+    ((omega (arith, c.if-count-lt1.false), omega (arith, c.if-count-gt-MOST.false)), run_each (read_as (brought_of c.args.medium)) (lent c.args.count c.args.first.now c.args.second.now c.args.third.now c.args.fourth.now) e)
 
 pub returns-in-Refused : goal.returns-in-Refused
 returns-in-Refused c =
-    let a = c in
     let e = sym c.in-Refused.is ∙ c.judge_run.ensures in
     c.refused-in-Refused.ensures
-    ∙ question_refused no_speed (restricted_of_run a.args.medium a.args.count a.args.journey.now a.args.leg a.args.train a.args.x) a.args.medium a.args.count (lent a.args.count a.args.first.now a.args.second.now a.args.third.now a.args.fourth.now) (lent_restricted a.args.medium a.args.count a.args.first.now a.args.second.now a.args.third.now a.args.fourth.now a.args.journey.now a.args.leg a.args.train a.args.x) (omega (arith, c.if-medium-gt-SHEET.false)) (omega (arith, c.if-count-lt1.false)) (omega (arith, c.if-count-gt-MOST.false)) e
+    ∙ question_refused no_speed (restricted_of_run c.args.medium c.args.count c.args.journey.now c.args.leg c.args.train c.args.x) c.args.medium c.args.count (lent c.args.count c.args.first.now c.args.second.now c.args.third.now c.args.fourth.now) (lent_restricted c.args.medium c.args.count c.args.first.now c.args.second.now c.args.third.now c.args.fourth.now c.args.journey.now c.args.leg c.args.train c.args.x) (omega (arith, c.if-medium-gt-SHEET.false)) (omega (arith, c.if-count-lt1.false)) (omega (arith, c.if-count-gt-MOST.false)) e
 
 pub returns-in-Accepted : goal.returns-in-Accepted
 returns-in-Accepted c =
-    let a = c in
     let e = sym c.in-Accepted.is ∙ c.judge_run.ensures in
     c.of_run.ensures
-    ∙ question_accepted no_speed (restricted_of_run a.args.medium a.args.count a.args.journey.now a.args.leg a.args.train a.args.x) a.args.medium a.args.count (lent a.args.count a.args.first.now a.args.second.now a.args.third.now a.args.fourth.now) (lent_restricted a.args.medium a.args.count a.args.first.now a.args.second.now a.args.third.now a.args.fourth.now a.args.journey.now a.args.leg a.args.train a.args.x) (omega (arith, c.if-medium-gt-SHEET.false)) (omega (arith, c.if-count-lt1.false)) (omega (arith, c.if-count-gt-MOST.false)) e
+    ∙ question_accepted no_speed (restricted_of_run c.args.medium c.args.count c.args.journey.now c.args.leg c.args.train c.args.x) c.args.medium c.args.count (lent c.args.count c.args.first.now c.args.second.now c.args.third.now c.args.fourth.now) (lent_restricted c.args.medium c.args.count c.args.first.now c.args.second.now c.args.third.now c.args.fourth.now c.args.journey.now c.args.leg c.args.train c.args.x) (omega (arith, c.if-medium-gt-SHEET.false)) (omega (arith, c.if-count-lt1.false)) (omega (arith, c.if-count-gt-MOST.false)) e

@@ -18,16 +18,14 @@ returns-then-v-gt-LARGEST c =
 
 pub returns-then-v-start : goal.returns-then-v-start
 returns-then-v-start c =
-    let b = c in
-    let a = b.args in
-    let v = b.found_at-a.result.value in
-    plain_off a.s.now (rw (low_refusal a.start v (omega arith)) at (took_out a.s.now b.requires b.found_at-a.ensures (d_end_after a.start) a.n c.if-a-eq0.false
+    let a = c.args in
+    let v = c.found_at-a.result.value in
+    plain_off a.s.now (rw (low_refusal a.start v (omega arith)) at (took_out a.s.now c.requires c.found_at-a.ensures (d_end_after a.start) a.n c.if-a-eq0.false
     (after_low a.start v (omega arith))))
 
 pub returns : goal.returns
 returns c =
-    let b = c in
-    let a = b.args in
-    let v = b.found_at-a.result.value in
-    plain_on a.s.now (took_in a.s.now b.requires b.found_at-a.ensures (d_end_after a.start) a.n c.if-a-eq0.false
+    let a = c.args in
+    let v = c.found_at-a.result.value in
+    plain_on a.s.now (took_in a.s.now c.requires c.found_at-a.ensures (d_end_after a.start) a.n c.if-a-eq0.false
     (after_in a.start v (omega arith) (omega arith)) refl c.wrapping_add_u32.ensures.value)

@@ -17,14 +17,12 @@ returns-then-v-last c =
 
 pub returns-then-lsp-v : goal.returns-then-lsp-v
 returns-then-lsp-v c =
-    let b = c in
-    let a = b.args in
-    took_out a.s.now b.requires b.found_at-a.ensures (d_location a.last a.lsp) a.n c.if-a-eq0.false
-    (location_high_lem a.last a.lsp b.found_at-a.result.value (omega arith) (omega arith))
+    let a = c.args in
+    took_out a.s.now c.requires c.found_at-a.ensures (d_location a.last a.lsp) a.n c.if-a-eq0.false
+    (location_high_lem a.last a.lsp c.found_at-a.result.value (omega arith) (omega arith))
 
 pub returns : goal.returns
 returns c =
-    let b = c in
-    let a = b.args in
-    took_in a.s.now b.requires b.found_at-a.ensures (d_location a.last a.lsp) a.n c.if-a-eq0.false
-    (location_in a.last a.lsp b.found_at-a.result.value (omega arith) (omega arith)) refl c.wrapping_add_u32.ensures.value
+    let a = c.args in
+    took_in a.s.now c.requires c.found_at-a.ensures (d_location a.last a.lsp) a.n c.if-a-eq0.false
+    (location_in a.last a.lsp c.found_at-a.result.value (omega arith) (omega arith)) refl c.wrapping_add_u32.ensures.value

@@ -11,14 +11,12 @@ returns-then-a-eq0 c =
 
 pub returns-then-a-eq0-2 : goal.returns-then-a-eq0-2
 returns-then-a-eq0-2 c =
-    let b = c in
-    let a = b.args in
-    plain_on a.s.now (took_in a.s.now b.requires b.found_at-a.ensures no_current a.n c.if-a-eq0.false
-    (unused_in b.found_at-a.result.value c.if-a-eq0-2.true) refl c.wrapping_add_u32.ensures.value)
+    let a = c.args in
+    plain_on a.s.now (took_in a.s.now c.requires c.found_at-a.ensures no_current a.n c.if-a-eq0.false
+    (unused_in c.found_at-a.result.value c.if-a-eq0-2.true) refl c.wrapping_add_u32.ensures.value)
 
 pub returns : goal.returns
 returns c =
-    let b = c in
-    let a = b.args in
-    plain_off a.s.now (took_out a.s.now b.requires b.found_at-a.ensures no_current a.n c.if-a-eq0.false
-    (unused_out b.found_at-a.result.value c.if-a-eq0-2.false))
+    let a = c.args in
+    plain_off a.s.now (took_out a.s.now c.requires c.found_at-a.ensures no_current a.n c.if-a-eq0.false
+    (unused_out c.found_at-a.result.value c.if-a-eq0-2.false))

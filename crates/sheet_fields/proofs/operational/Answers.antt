@@ -11,14 +11,12 @@ returns-then-a-eq0 c =
 
 pub returns-then-digits_good : goal.returns-then-digits_good
 returns-then-digits_good c =
-    let b = c in
-    let a = b.args in
-    plain_on a.s.now (took_in a.s.now b.requires b.found_at-a.ensures nid_operational a.n c.if-a-eq0.false
-    (operational_in b.found_at-a.result.value (sym c.digits_good.ensures ∙ c.if-digits_good.true)) refl c.wrapping_add_u32.ensures.value)
+    let a = c.args in
+    plain_on a.s.now (took_in a.s.now c.requires c.found_at-a.ensures nid_operational a.n c.if-a-eq0.false
+    (operational_in c.found_at-a.result.value (sym c.digits_good.ensures ∙ c.if-digits_good.true)) refl c.wrapping_add_u32.ensures.value)
 
 pub returns : goal.returns
 returns c =
-    let b = c in
-    let a = b.args in
-    plain_off a.s.now (took_out a.s.now b.requires b.found_at-a.ensures nid_operational a.n c.if-a-eq0.false
-    (operational_out b.found_at-a.result.value (sym c.digits_good.ensures ∙ c.if-digits_good.false)))
+    let a = c.args in
+    plain_off a.s.now (took_out a.s.now c.requires c.found_at-a.ensures nid_operational a.n c.if-a-eq0.false
+    (operational_out c.found_at-a.result.value (sym c.digits_good.ensures ∙ c.if-digits_good.false)))

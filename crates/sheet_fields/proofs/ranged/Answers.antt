@@ -17,14 +17,12 @@ returns-then-v-least c =
 
 pub returns-then-largest-v : goal.returns-then-largest-v
 returns-then-largest-v c =
-    let b = c in
-    let a = b.args in
-    took_out a.s.now b.requires b.found_at-found.ensures (range a.width a.least a.largest a.refusal) a.n (omega arith)
-    (range_high a.width a.least a.largest a.refusal b.found_at-found.result.value (omega arith))
+    let a = c.args in
+    took_out a.s.now c.requires c.found_at-found.ensures (range a.width a.least a.largest a.refusal) a.n (omega arith)
+    (range_high a.width a.least a.largest a.refusal c.found_at-found.result.value (omega arith))
 
 pub returns : goal.returns
 returns c =
-    let b = c in
-    let a = b.args in
-    took_in a.s.now b.requires b.found_at-found.ensures (range a.width a.least a.largest a.refusal) a.n (omega arith)
-    (range_in a.width a.least a.largest a.refusal b.found_at-found.result.value (omega arith) (omega arith)) refl c.wrapping_add_u32.ensures.value
+    let a = c.args in
+    took_in a.s.now c.requires c.found_at-found.ensures (range a.width a.least a.largest a.refusal) a.n (omega arith)
+    (range_in a.width a.least a.largest a.refusal c.found_at-found.result.value (omega arith) (omega arith)) refl c.wrapping_add_u32.ensures.value

@@ -17,6 +17,5 @@ returns-then-v-eq-NO_VOLTAGE c =
 
 pub returns : goal.returns
 returns c =
-    let b = c in
-    let a = b.args in
-    low_in a.s.now b.requires b.found_at-a.ensures m_voltage a.n b.if-a-eq0.false b.volts_place-v.ensures c.if-v-eq-NO_VOLTAGE.false refl c.wrapping_add_u32.ensures.value
+    let a = c.args in
+    low_in a.s.now c.requires c.found_at-a.ensures m_voltage a.n c.if-a-eq0.false c.volts_place-v.ensures c.if-v-eq-NO_VOLTAGE.false refl c.wrapping_add_u32.ensures.value

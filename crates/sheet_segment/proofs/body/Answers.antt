@@ -14,10 +14,8 @@ returns-in-Refused c = over_off (rw c.in-Refused.is at c.identity.ensures)
 
 pub returns-in-Refused-ranged : goal.returns-in-Refused-ranged
 returns-in-Refused-ranged c =
-    let b = c in
-    over_on (rw b.in-On.is at b.identity.ensures) (value_off offset_rows (rw c.in-Refused-ranged.is at c.ranged.ensures))
+    over_on (rw c.in-On.is at c.identity.ensures) (value_off offset_rows (rw c.in-Refused-ranged.is at c.ranged.ensures))
 
 pub returns-in-Is : goal.returns-in-Is
 returns-in-Is c =
-    let b = c in
-    over_on (rw b.in-On.is at b.identity.ensures) (value_on offset_rows (rw c.in-Is.is at b.ranged.ensures) c.after_length.ensures)
+    over_on (rw c.in-On.is at c.identity.ensures) (value_on offset_rows (rw c.in-Is.is at c.ranged.ensures) c.after_length.ensures)

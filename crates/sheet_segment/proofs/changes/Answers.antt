@@ -22,17 +22,15 @@ element-requires c = (rw c.in-Is.is at c.location.ensures).stands
 
 pub returns-in-Refused-element : goal.returns-in-Refused-element
 returns-in-Refused-element c =
-    let b = c in
-    let a = b.args in
-    let l = b.loop-left in
-    element_off (start_of a.part) a.lsp l.last l.left (omega arith) l.invariant (rw b.in-Is.is at b.location.ensures) (rw c.in-Refused-element.is at c.element.ensures)
+    let a = c.args in
+    let l = c.loop-left in
+    element_off (start_of a.part) a.lsp l.last l.left (omega arith) l.invariant (rw c.in-Is.is at c.location.ensures) (rw c.in-Refused-element.is at c.element.ensures)
 
 pub loop-left-preserved : goal.loop-left-preserved
 loop-left-preserved c =
-    let b = c in
-    let a = b.args in
-    let l = b.loop-left in
-    element_on (start_of a.part) a.lsp l.last l.left (omega arith) l.invariant (rw b.in-Is.is at b.location.ensures) (rw c.in-On.is at c.element.ensures)
+    let a = c.args in
+    let l = c.loop-left in
+    element_on (start_of a.part) a.lsp l.last l.left (omega arith) l.invariant (rw c.in-Is.is at c.location.ensures) (rw c.in-On.is at c.element.ensures)
 
 pub returns : goal.returns
 returns c =

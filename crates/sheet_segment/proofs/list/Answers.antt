@@ -16,12 +16,10 @@ returns-in-Refused c = over_off (rw c.in-Refused.is at c.element.ensures)
 
 pub returns-in-Refused-single : goal.returns-in-Refused-single
 returns-in-Refused-single c =
-    let b = c in
-    let a = b.args in
-    over_on (rw b.in-On.is at b.element.ensures) (value_off (changes (start_of a.part) a.lsp 0) (rw c.in-Refused-single.is at c.single.ensures))
+    let a = c.args in
+    over_on (rw c.in-On.is at c.element.ensures) (value_off (changes (start_of a.part) a.lsp 0) (rw c.in-Refused-single.is at c.single.ensures))
 
 pub returns-in-Is : goal.returns-in-Is
 returns-in-Is c =
-    let b = c in
-    let a = b.args in
-    over_on (rw b.in-On.is at b.element.ensures) (value_on (changes (start_of a.part) a.lsp 0) (rw c.in-Is.is at b.single.ensures) c.changes.ensures)
+    let a = c.args in
+    over_on (rw c.in-On.is at c.element.ensures) (value_on (changes (start_of a.part) a.lsp 0) (rw c.in-Is.is at c.single.ensures) c.changes.ensures)

@@ -28,14 +28,12 @@ returns-in-Refused-single c =
 
 pub returns-in-Refused-single-2 : goal.returns-in-Refused-single-2
 returns-in-Refused-single-2 c =
-    let b = c in
-    over_on (rw b.in-On.is at b.speed.ensures)
-    (value_on (λ v f. field (n_iter 31) (λ m. entries m f)) (rw b.in-Is.is at b.single.ensures)
+    over_on (rw c.in-On.is at c.speed.ensures)
+    (value_on (λ v f. field (n_iter 31) (λ m. entries m f)) (rw c.in-Is.is at c.single.ensures)
     (value_off entries (rw c.in-Refused-single-2.is at c.single-in-Is.ensures)))
 
 pub returns-in-Is-single : goal.returns-in-Is-single
 returns-in-Is-single c =
-    let b = c in
-    over_on (rw b.in-On.is at b.speed.ensures)
-    (value_on (λ v f. field (n_iter 31) (λ m. entries m f)) (rw b.in-Is.is at b.single.ensures)
+    over_on (rw c.in-On.is at c.speed.ensures)
+    (value_on (λ v f. field (n_iter 31) (λ m. entries m f)) (rw c.in-Is.is at c.single.ensures)
     (value_on entries (rw c.in-Is-single.is at c.single-in-Is.ensures) c.entries.ensures))

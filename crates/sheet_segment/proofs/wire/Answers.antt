@@ -16,12 +16,10 @@ returns-in-Refused c = value_off (λ u f. then (nid_c_traction u) f) (rw c.in-Re
 
 pub returns-in-Refused-ranged : goal.returns-in-Refused-ranged
 returns-in-Refused-ranged c =
-    let b = c in
-    let a = b.args in
-    value_on (λ u f. then (nid_c_traction u) f) (rw b.in-Is.is at b.voltage.ensures) (plain_off a.s.now (rw (c.in-Refused-ranged.is, b.most.ensures) at b.ranged.ensures))
+    let a = c.args in
+    value_on (λ u f. then (nid_c_traction u) f) (rw c.in-Is.is at c.voltage.ensures) (plain_off a.s.now (rw (c.in-Refused-ranged.is, c.most.ensures) at c.ranged.ensures))
 
 pub returns-in-Is-ranged : goal.returns-in-Is-ranged
 returns-in-Is-ranged c =
-    let b = c in
-    let a = b.args in
-    value_on (λ u f. then (nid_c_traction u) f) (rw b.in-Is.is at b.voltage.ensures) (plain_on a.s.now (rw (c.in-Is-ranged.is, b.most.ensures) at b.ranged.ensures))
+    let a = c.args in
+    value_on (λ u f. then (nid_c_traction u) f) (rw c.in-Is.is at c.voltage.ensures) (plain_on a.s.now (rw (c.in-Is-ranged.is, c.most.ensures) at c.ranged.ensures))

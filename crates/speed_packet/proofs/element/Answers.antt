@@ -18,8 +18,7 @@ speed-requires c = omega (arith, window_small _ _ 13 c.read_window-t.ensures)
 
 pub returns : goal.returns
 returns c =
-    let b = c in
-    let s = b.args.s.now in
+    let s = c.args.s.now in
     let w = c.read_window-t.ensures in
-    let e = element_at s b.requires w in
-    rw c.speed.ensures (element_read (Reads s) e.first e.second e.third (entries_passed s _ _ _ refl) (static_small s b.args.at w) b.args.start, refl)
+    let e = element_at s c.requires w in
+    rw c.speed.ensures (element_read (Reads s) e.first e.second e.third (entries_passed s _ _ _ refl) (static_small s c.args.at w) c.args.start, refl)

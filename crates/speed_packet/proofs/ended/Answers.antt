@@ -9,7 +9,7 @@ pub returns-then-not-holds : goal.returns-then-not-holds
 returns-then-not-holds c = ended_not (Reads c.args.s.now) (sym c.holds.ensures ∙ c.if-not-holds.true)
 
 pub loop-left-init : goal.loop-left-init
-loop-left-init c = rw c.no_lows-lows.ensures (let b = c in entered_all (Reads b.args.s.now) b.requires.readable)
+loop-left-init c = rw c.no_lows-lows.ensures (entered_all (Reads c.args.s.now) c.requires.readable)
 
 pub entry-lows-requires : goal.entry-lows-requires
 entry-lows-requires c = (refl, entry_readable (Reads c.args.s.now) c.loop-left-test.true c.loop-left.invariant.readable)
@@ -28,5 +28,4 @@ lowered-requires c = c.requires.below
 
 pub returns : goal.returns
 returns c =
-    let b = c in
-    ended_read (Reads b.args.s.now) (sym c.holds.ensures ∙ c.if-not-holds.false) c.loop-left.invariant (omega (arith, c.loop-left-test.false)) c.lowered.ensures (omega arith)
+    ended_read (Reads c.args.s.now) (sym c.holds.ensures ∙ c.if-not-holds.false) c.loop-left.invariant (omega (arith, c.loop-left-test.false)) c.lowered.ensures (omega arith)

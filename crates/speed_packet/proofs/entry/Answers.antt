@@ -12,16 +12,13 @@ read_window-t-requires c =
 
 pub class-class-requires : goal.class-class-requires
 class-class-requires c =
-    let b = c in
-    (b.requires.0, (entry_at b.args.s.now b.requires.1 c.read_window-t.ensures).allowed)
+    (c.requires.0, (entry_at c.args.s.now c.requires.1 c.read_window-t.ensures).allowed)
 
 pub with-requires : goal.with-requires
 with-requires c =
-    let b = c in
-    rw c.speed.ensures (entry_kept b.args.s.now b.requires.1 c.read_window-t.ensures c.class-class.ensures)
+    rw c.speed.ensures (entry_kept c.args.s.now c.requires.1 c.read_window-t.ensures c.class-class.ensures)
 
 pub returns : goal.returns
 returns c =
-    let b = c in
-    let e = entry_at b.args.s.now b.requires.1 c.read_window-t.ensures in
-    entry_read (Reads b.args.s.now) e.first e.second e.third (rw (c.class-class.ensures, c.speed.ensures) at c.with.ensures)
+    let e = entry_at c.args.s.now c.requires.1 c.read_window-t.ensures in
+    entry_read (Reads c.args.s.now) e.first e.second e.third (rw (c.class-class.ensures, c.speed.ensures) at c.with.ensures)

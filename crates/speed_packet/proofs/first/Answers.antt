@@ -14,16 +14,14 @@ use Rattle.speed_packet.proofs.first.Goals as goal
 
 pub read_window-requires : goal.read_window-requires
 read_window-requires c =
-    let b = c in
-    let s = b.args.s.now in
-    let h = readable_passed (Reads s) (λ f. field (n_iter 31) λ n. changes profile b.args.lsp 0 n f) c.element-e.ensures.0.passes b.requires in
+    let s = c.args.s.now in
+    let h = readable_passed (Reads s) (λ f. field (n_iter 31) λ n. changes profile c.args.lsp 0 n f) c.element-e.ensures.0.passes c.requires in
     field_asked s (n_iter 31) h 5 refl (lit< tt) (lit≤ tt)
 
 pub overflow_add-result : goal.overflow_add-result
 overflow_add-result c =
-    let b = c in
-    let s = b.args.s.now in
-    let h = readable_passed (Reads s) (λ f. field (n_iter 31) λ n. changes profile b.args.lsp 0 n f) c.element-e.ensures.0.passes b.requires in
+    let s = c.args.s.now in
+    let h = readable_passed (Reads s) (λ f. field (n_iter 31) λ n. changes profile c.args.lsp 0 n f) c.element-e.ensures.0.passes c.requires in
     omega (arith, field_inside s (n_iter 31) h, h.reads.few)
 
 pub returns : goal.returns

@@ -8,4 +8,4 @@ pub read_window-requires : goal.read_window-requires
 read_window-requires c = let h = headed c.args.packet.now c.requires in (lit< tt, lit≤ tt, h.inside, h.long)
 
 pub returns : goal.returns
-returns c = let a = c in head_read a.args.packet.now a.requires c.read_window.ensures (window_small _ _ 24 c.read_window.ensures)
+returns c = head_read c.args.packet.now c.requires c.read_window.ensures (window_small _ _ 24 c.read_window.ensures)

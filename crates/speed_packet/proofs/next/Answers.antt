@@ -19,19 +19,17 @@ read_window-start-requires c =
 
 pub overflow_add-at : goal.overflow_add-at
 overflow_add-at c =
-    let b = c in
-    let a = b.args in
+    let a = c.args in
     let s = a.s.now in
-    let h = next_readable (Reads s) a.lsp a.«open».start a.left (omega (arith, c.if-left-eq0.false)) b.requires in
+    let h = next_readable (Reads s) a.lsp a.«open».start a.left (omega (arith, c.if-left-eq0.false)) c.requires in
     omega (arith, field_inside s (d_location a.«open».start a.lsp) h, h.reads.few)
 
 pub element-e-requires : goal.element-e-requires
 element-e-requires c =
-    let b = c in
-    let a = b.args in
+    let a = c.args in
     let s = a.s.now in
     let r = field_read s (d_location a.«open».start a.lsp) a.at 24 _ refl refl c.read_window-start.ensures in
-    next_element (Reads s) a.lsp a.«open».start a.left (omega (arith, c.if-left-eq0.false)) b.requires r
+    next_element (Reads s) a.lsp a.«open».start a.left (omega (arith, c.if-left-eq0.false)) c.requires r
 
 pub returns : goal.returns
 returns c =

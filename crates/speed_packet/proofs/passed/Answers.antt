@@ -7,4 +7,4 @@ pub profile-requires : goal.profile-requires
 profile-requires c = head_readable (Reads c.args.packet.now) c.requires
 
 pub returns : goal.returns
-returns c = let a = c in head_passed (Reads a.args.packet.now) a.requires c.profile.ensures
+returns c = head_passed (Reads c.args.packet.now) c.requires c.profile.ensures

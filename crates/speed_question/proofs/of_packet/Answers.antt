@@ -14,9 +14,8 @@ of_run-requires c = ((omega arith, omega arith), (c.requires, tt))
 
 pub returns : goal.returns
 returns c =
-    let a = c in
-    let s = a.args.packet.now in
-    let t = a.args.train in
-    let x = a.args.x in
+    let s = c.args.packet.now in
+    let t = c.args.train in
+    let x = c.args.x in
     c.of_run.ensures
-    ∙ question_accepted no_speed (speed_of_run t x) 0 1 (lent 1 s s s s) (lent_asked 0 1 s s s s t x) (omega arith) (omega arith) (omega arith) (sym (ap run_judged (run_accepted (read_as Brought.packet) (s ∷ []) (a.requires, tt))))
+    ∙ question_accepted no_speed (speed_of_run t x) 0 1 (lent 1 s s s s) (lent_asked 0 1 s s s s t x) (omega arith) (omega arith) (omega arith) (sym (ap run_judged (run_accepted (read_as Brought.packet) (s ∷ []) (c.requires, tt))))

@@ -10,32 +10,30 @@ use Rattle.speed_sheet.specs.internal.Asking.{Reads}
 use Rattle.speed_sheet.proofs.element.Goals as goal
 
 pub bounds-s-second : goal.bounds-s-second
-bounds-s-second c = let b = c in front_inside b.args.s.now c.number-v_static.ensures b.requires
+bounds-s-second c = front_inside c.args.s.now c.number-v_static.ensures c.requires
 
 pub overflow_add-second : goal.overflow_add-second
-overflow_add-second c = let b = c in omega (arith, front_inside b.args.s.now c.number-v_static.ensures b.requires)
+overflow_add-second c = omega (arith, front_inside c.args.s.now c.number-v_static.ensures c.requires)
 
 pub bounds-s-second-2 : goal.bounds-s-second-2
-bounds-s-second-2 c = let b = c in count_inside b.args.s.now c.number-v_static.ensures b.requires
+bounds-s-second-2 c = count_inside c.args.s.now c.number-v_static.ensures c.requires
 
 pub overflow_add-entries : goal.overflow_add-entries
-overflow_add-entries c = let b = c in omega (arith, count_inside b.args.s.now c.number-v_static.ensures b.requires)
+overflow_add-entries c = omega (arith, count_inside c.args.s.now c.number-v_static.ensures c.requires)
 
 pub entries_end-next-requires : goal.entries_end-next-requires
 entries_end-next-requires c =
-    let b = c in
-    let s = b.args.s.now in
+    let s = c.args.s.now in
     let n = c.number-v_static.ensures in
-    let q = same_read s (front_at s n b.requires refl) q_front (λ u. refl) in
-    let m = same_read s (count_at s n b.requires c.wide-count.ensures) (n_iter 31) (λ u. refl) in
-    element_entries (Reads s) (speed_read s n) q m b.requires
+    let q = same_read s (front_at s n c.requires refl) q_front (λ u. refl) in
+    let m = same_read s (count_at s n c.requires c.wide-count.ensures) (n_iter 31) (λ u. refl) in
+    element_entries (Reads s) (speed_read s n) q m c.requires
 
 pub returns : goal.returns
 returns c =
-    let b = c in
-    let s = b.args.s.now in
+    let s = c.args.s.now in
     let n = c.number-v_static.ensures in
-    let q = same_read s (front_at s n b.requires c.wide-q_front.ensures) q_front (λ u. refl) in
-    let m = same_read s (count_at s n b.requires c.wide-count.ensures) (n_iter 31) (λ u. refl) in
-    let small = speed_small s n (λ v f. then q_front (field (n_iter 31) λ k. entries k f)) b.requires in
-    (element_read (Reads s) (speed_read s n) q m c.entries_end-next.ensures small b.args.start, refl)
+    let q = same_read s (front_at s n c.requires c.wide-q_front.ensures) q_front (λ u. refl) in
+    let m = same_read s (count_at s n c.requires c.wide-count.ensures) (n_iter 31) (λ u. refl) in
+    let small = speed_small s n (λ v f. then q_front (field (n_iter 31) λ k. entries k f)) c.requires in
+    (element_read (Reads s) (speed_read s n) q m c.entries_end-next.ensures small c.args.start, refl)

@@ -8,7 +8,7 @@ pub returns-then-not-holds : goal.returns-then-not-holds
 returns-then-not-holds c = ended_not (Reads c.args.s.now) (sym c.holds.ensures ∙ c.if-not-holds.true)
 
 pub loop-left-init : goal.loop-left-init
-loop-left-init c = rw c.no_lows-lows.ensures (let b = c in entered_all (Reads b.args.s.now) b.requires.readable)
+loop-left-init c = rw c.no_lows-lows.ensures (entered_all (Reads c.args.s.now) c.requires.readable)
 
 pub entry-e-requires : goal.entry-e-requires
 entry-e-requires c = entry_readable (Reads c.args.s.now) c.loop-left-test.true c.loop-left.invariant.readable

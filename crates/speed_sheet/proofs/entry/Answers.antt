@@ -8,8 +8,7 @@ use Rattle.speed_sheet.proofs.entry.Goals as goal
 
 pub with-lows-requires : goal.with-lows-requires
 with-lows-requires c =
-    let b = c in
-    entry_kept b.args.s.now c.number-q_diff.ensures c.number-class.ensures c.number-v.ensures b.requires
+    entry_kept c.args.s.now c.number-q_diff.ensures c.number-class.ensures c.number-v.ensures c.requires
 
 pub returns : goal.returns
 returns c =

@@ -10,14 +10,13 @@ use Rattle.speed_sheet.proofs.first.Goals as goal
 
 pub returns : goal.returns
 returns c =
-    let b = c in
-    let s = b.args.s.now in
+    let s = c.args.s.now in
     let e = c.element-e in
-    let h = readable_passed (Reads s) (λ f. field (n_iter 31) λ n. changes profile b.args.lsp 0 n f) e.ensures.0.passes b.requires in
+    let h = readable_passed (Reads s) (λ f. field (n_iter 31) λ n. changes profile c.args.lsp 0 n f) e.ensures.0.passes c.requires in
     record {
       between = e.result.next;
       element = e.ensures.0;
       starts = e.ensures.1;
       number = same_read s c.number-count.ensures (n_iter 31) (λ u. refl);
-      few = number_most s c.number-count.ensures count_lawful (λ n f. changes profile b.args.lsp 0 n f) h;
+      few = number_most s c.number-count.ensures count_lawful (λ n f. changes profile c.args.lsp 0 n f) h;
     }

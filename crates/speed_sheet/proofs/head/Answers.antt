@@ -10,14 +10,12 @@ numbers_end-at-requires c =
 
 pub numbers_end-requires : goal.numbers_end-requires
 numbers_end-requires c =
-    let b = c in
-    let s = b.args.sheet.now in
+    let s = c.args.sheet.now in
     let ok = bytes_of s (λ i. (c.type_inv.sheet i).fits) in
-    offset_numbers s b.requires ok c.numbers_end-at.ensures c.number-length.ensures
+    offset_numbers s c.requires ok c.numbers_end-at.ensures c.number-length.ensures
 
 pub returns : goal.returns
 returns c =
-    let b = c in
-    let s = b.args.sheet.now in
+    let s = c.args.sheet.now in
     let ok = bytes_of s (λ i. (c.type_inv.sheet i).fits) in
-    head_read s b.requires ok c.numbers_end-at.ensures c.number-length.ensures c.numbers_end.ensures
+    head_read s c.requires ok c.numbers_end-at.ensures c.number-length.ensures c.numbers_end.ensures

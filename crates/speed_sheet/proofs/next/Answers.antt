@@ -12,10 +12,9 @@ returns-then-left-eq0 c = next_last (Reads c.args.s.now) c.if-left-eq0.true refl
 
 pub element-e-requires : goal.element-e-requires
 element-e-requires c =
-    let b = c in
-    let a = b.args in
+    let a = c.args in
     let s = a.s.now in
-    next_element (Reads s) a.lsp a.«open».start a.left (omega (arith, c.if-left-eq0.false)) b.requires (same_read s c.number-location.ensures (d_location a.«open».start a.lsp) (λ u. refl))
+    next_element (Reads s) a.lsp a.«open».start a.left (omega (arith, c.if-left-eq0.false)) c.requires (same_read s c.number-location.ensures (d_location a.«open».start a.lsp) (λ u. refl))
 
 pub returns : goal.returns
 returns c =

@@ -4,7 +4,7 @@ use Rattle.speed_sheet.specs.internal.Asking.{Reads}
 use Rattle.speed_sheet.proofs.profile.Goals as goal
 
 pub changes-requires : goal.changes-requires
-changes-requires c = let b = c in first_changes (Reads b.args.s.now) b.args.lsp c.first-start.ensures b.requires
+changes-requires c = first_changes (Reads c.args.s.now) c.args.lsp c.first-start.ensures c.requires
 
 pub returns : goal.returns
 returns c = let a = c.args in first_profile (Reads a.s.now) a.lsp c.first-start.ensures c.changes.ensures

@@ -15,35 +15,32 @@ returns-then-not-valid c =
 
 pub returns-then-not-stepped : goal.returns-then-not-stepped
 returns-then-not-stepped c =
-    let a = c in
-    let b = brought_of a.args.medium in
+    let b = brought_of c.args.medium in
     let l = c.last_segment-last in
     let valid = sym c.valid.ensures ∙ c.if-not-valid.false in
     c.answer-then-not-stepped.ensures
-    ∙ steps_refused a.args.train a.args.starts.now a.args.speeds.now l.result.head.lsp (numbers_in b (lent a.args.count a.args.first.now a.args.second.now a.args.third.now a.args.fourth.now)) valid (sym c.stepped.ensures ∙ c.if-not-stepped.true)
-    ∙ lent_answer b a.args.first.now a.args.second.now a.args.third.now a.args.fourth.now a.args.count a.requires.0.1 a.requires.0.0 (answer_for a.args.train a.args.starts.now a.args.speeds.now) l.ensures.head.length_is
+    ∙ steps_refused c.args.train c.args.starts.now c.args.speeds.now l.result.head.lsp (numbers_in b (lent c.args.count c.args.first.now c.args.second.now c.args.third.now c.args.fourth.now)) valid (sym c.stepped.ensures ∙ c.if-not-stepped.true)
+    ∙ lent_answer b c.args.first.now c.args.second.now c.args.third.now c.args.fourth.now c.args.count c.requires.0.1 c.requires.0.0 (answer_for c.args.train c.args.starts.now c.args.speeds.now) l.ensures.head.length_is
 
 pub first_wrong-place-requires : goal.first_wrong-place-requires
 first_wrong-place-requires c = (c.run_spans-kept.ensures.few, sym c.stepped.ensures ∙ c.if-not-stepped.false)
 
 pub returns-then-place-lsp : goal.returns-then-place-lsp
 returns-then-place-lsp c =
-    let a = c in
-    let b = brought_of a.args.medium in
+    let b = brought_of c.args.medium in
     let l = c.last_segment-last in
     let valid = sym c.valid.ensures ∙ c.if-not-valid.false in
     let steps = sym c.stepped.ensures ∙ c.if-not-stepped.false in
     c.answer-then-place-lsp.ensures
-    ∙ steps_wrong a.args.train a.args.starts.now a.args.speeds.now l.result.head.lsp (numbers_in b (lent a.args.count a.args.first.now a.args.second.now a.args.third.now a.args.fourth.now)) valid c.run_spans-kept.result l.result.start c.first_wrong-place.result steps c.run_spans-kept.ensures c.first_wrong-place.ensures c.if-place-lsp.true
-    ∙ lent_answer b a.args.first.now a.args.second.now a.args.third.now a.args.fourth.now a.args.count a.requires.0.1 a.requires.0.0 (answer_for a.args.train a.args.starts.now a.args.speeds.now) l.ensures.head.length_is
+    ∙ steps_wrong c.args.train c.args.starts.now c.args.speeds.now l.result.head.lsp (numbers_in b (lent c.args.count c.args.first.now c.args.second.now c.args.third.now c.args.fourth.now)) valid c.run_spans-kept.result l.result.start c.first_wrong-place.result steps c.run_spans-kept.ensures c.first_wrong-place.ensures c.if-place-lsp.true
+    ∙ lent_answer b c.args.first.now c.args.second.now c.args.third.now c.args.fourth.now c.args.count c.requires.0.1 c.requires.0.0 (answer_for c.args.train c.args.starts.now c.args.speeds.now) l.ensures.head.length_is
 
 pub returns : goal.returns
 returns c =
-    let a = c in
-    let b = brought_of a.args.medium in
+    let b = brought_of c.args.medium in
     let l = c.last_segment-last in
     let valid = sym c.valid.ensures ∙ c.if-not-valid.false in
     let steps = sym c.stepped.ensures ∙ c.if-not-stepped.false in
     c.answer-2.ensures
-    ∙ steps_right a.args.train a.args.starts.now a.args.speeds.now l.result.head.lsp (numbers_in b (lent a.args.count a.args.first.now a.args.second.now a.args.third.now a.args.fourth.now)) valid c.run_spans-kept.result l.result.start c.first_wrong-place.result steps c.run_spans-kept.ensures c.first_wrong-place.ensures (omega (arith, c.if-place-lsp.false))
-    ∙ lent_answer b a.args.first.now a.args.second.now a.args.third.now a.args.fourth.now a.args.count a.requires.0.1 a.requires.0.0 (answer_for a.args.train a.args.starts.now a.args.speeds.now) l.ensures.head.length_is
+    ∙ steps_right c.args.train c.args.starts.now c.args.speeds.now l.result.head.lsp (numbers_in b (lent c.args.count c.args.first.now c.args.second.now c.args.third.now c.args.fourth.now)) valid c.run_spans-kept.result l.result.start c.first_wrong-place.result steps c.run_spans-kept.ensures c.first_wrong-place.ensures (omega (arith, c.if-place-lsp.false))
+    ∙ lent_answer b c.args.first.now c.args.second.now c.args.third.now c.args.fourth.now c.args.count c.requires.0.1 c.requires.0.0 (answer_for c.args.train c.args.starts.now c.args.speeds.now) l.ensures.head.length_is

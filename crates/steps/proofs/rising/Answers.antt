@@ -3,7 +3,7 @@ use Rattle.steps.proofs.Starts.{rising_first, rising_next, rising_not, rising_la
 use Rattle.steps.proofs.rising.Goals as goal
 
 pub loop-i-init : goal.loop-i-init
-loop-i-init c = let a = c in rising_first a.args.lsp a.args.starts.now a.requires
+loop-i-init c = rising_first c.args.lsp c.args.starts.now c.requires
 
 pub returns-then-next-last : goal.returns-then-next-last
 returns-then-next-last c = rising_not c.args.lsp c.loop-i.invariant c.loop-i-test.true c.if-next-last.true

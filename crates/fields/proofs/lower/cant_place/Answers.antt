@@ -9,15 +9,13 @@ bounds-figures-i c = elim c.if-near-le-LARGEST.branch [ then-near-le-LARGEST w �
 
 pub returns-then-figures-i : goal.returns-then-figures-i
 returns-then-figures-i c =
-    let s = c in
     let j = c.if-near-le-LARGEST in
     let l : j.i < 11 = elim j.branch [ then-near-le-LARGEST w ↦ omega arith | else-near-le-LARGEST w ↦ omega arith ] in
-    cant_at s.args.a j.i l (ap (λ (t : List ℕ). get_or t j.i 0) (sym s.requires) ∙ c.if-figures-i.true)
+    cant_at c.args.a j.i l (ap (λ (t : List ℕ). get_or t j.i 0) (sym c.requires) ∙ c.if-figures-i.true)
 
 pub returns : goal.returns
 returns c =
-    let s = c in
     let d = c.wrapping_sub_u32-near in
     let j = c.if-near-le-LARGEST in
-    cant_none s.args.a d.result j.i (omega arith) d.ensures.value (λ h. elim j.branch [ then-near-le-LARGEST w ↦ omega arith | else-near-le-LARGEST w ↦ omega arith ])
-    (λ e. c.if-figures-i.false (ap (λ (t : List ℕ). get_or t j.i 0) s.requires ∙ e))
+    cant_none c.args.a d.result j.i (omega arith) d.ensures.value (λ h. elim j.branch [ then-near-le-LARGEST w ↦ omega arith | else-near-le-LARGEST w ↦ omega arith ])
+    (λ e. c.if-figures-i.false (ap (λ (t : List ℕ). get_or t j.i 0) c.requires ∙ e))

@@ -8,5 +8,4 @@ bounds-figures-chosen c = rw c.chosen.ensures (class_place c.args.q_diff c.args.
 
 pub returns : goal.returns
 returns c =
-    let b = c in
-    c.chosen-2.ensures ∙ rw (c.chosen.ensures, b.requires.0) (class_raised b.args.q_diff b.args.v)
+    c.chosen-2.ensures ∙ rw (c.chosen.ensures, c.requires.0) (class_raised c.args.q_diff c.args.v)

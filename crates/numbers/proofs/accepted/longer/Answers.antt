@@ -8,8 +8,7 @@ bounds-s-at c = there_inside c.requires
 
 pub loop-b-init : goal.loop-b-init
 loop-b-init c =
-    let b = c in
-    rest_start b.args.s.now b.args.from b.requires.value c.wide-b.result b.requires.is c.wide-b.ensures (omega (arith, c.wide-b.ensures, c.type_inv.s b.args.from))
+    rest_start c.args.s.now c.args.from c.requires.value c.wide-b.result c.requires.is c.wide-b.ensures (omega (arith, c.wide-b.ensures, c.type_inv.s c.args.from))
 
 pub overflow_mul-value : goal.overflow_mul-value
 overflow_mul-value c = omega (arith, rest_value c.loop-b.invariant c.loop-b-test.true, c.loop-b.invariant.small)

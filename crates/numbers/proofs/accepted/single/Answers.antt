@@ -11,5 +11,4 @@ overflow_add-result c = omega (arith, there_inside c.requires.there)
 
 pub returns : goal.returns
 returns c =
-    let b = c in
-    single_reads b.requires.there c.wide.ensures (c.type_inv.s b.args.from).fits b.requires.small
+    single_reads c.requires.there c.wide.ensures (c.type_inv.s c.args.from).fits c.requires.small

@@ -21,20 +21,17 @@ returns-in-Refused c = value_off after_type (rw (c.in-Refused.is, c.rule.ensures
 
 pub returns-in-Refused-field : goal.returns-in-Refused-field
 returns-in-Refused-field c =
-    let b = c in
-    value_on after_type (rw (b.in-Is.is, b.rule.ensures.kind) at b.field.ensures)
-    (value_off (after_range b.in-Is.of) (rw (c.in-Refused-field.is, c.rule-in-Is.ensures.kind) at c.field-in-Is.ensures))
+    value_on after_type (rw (c.in-Is.is, c.rule.ensures.kind) at c.field.ensures)
+    (value_off (after_range c.in-Is.of) (rw (c.in-Refused-field.is, c.rule-in-Is.ensures.kind) at c.field-in-Is.ensures))
 
 pub returns-in-Refused-stretch : goal.returns-in-Refused-stretch
 returns-in-Refused-stretch c =
-    let b = c in
-    value_on after_type (rw (b.in-Is.is, b.rule.ensures.kind) at b.field.ensures)
-    (value_on (after_range b.in-Is.of) (rw (c.in-Is-field.is, b.rule-in-Is.ensures.kind) at b.field-in-Is.ensures)
+    value_on after_type (rw (c.in-Is.is, c.rule.ensures.kind) at c.field.ensures)
+    (value_on (after_range c.in-Is.of) (rw (c.in-Is-field.is, c.rule-in-Is.ensures.kind) at c.field-in-Is.ensures)
     (over_off (rw c.in-Refused-stretch.is at c.stretch.ensures)))
 
 pub returns-in-On : goal.returns-in-On
 returns-in-On c =
-    let b = c in
-    value_on after_type (rw (b.in-Is.is, b.rule.ensures.kind) at b.field.ensures)
-    (value_on (after_range b.in-Is.of) (rw (c.in-Is-field.is, b.rule-in-Is.ensures.kind) at b.field-in-Is.ensures)
+    value_on after_type (rw (c.in-Is.is, c.rule.ensures.kind) at c.field.ensures)
+    (value_on (after_range c.in-Is.of) (rw (c.in-Is-field.is, c.rule-in-Is.ensures.kind) at c.field-in-Is.ensures)
     (over_on (rw c.in-On.is at c.stretch.ensures) c.restriction.ensures))

@@ -21,20 +21,17 @@ returns-in-Refused c = over_off (rw (c.in-Refused.is, c.rule.ensures) at c.plain
 
 pub returns-in-Refused-plain : goal.returns-in-Refused-plain
 returns-in-Refused-plain c =
-    let b = c in
-    over_on (rw (b.in-On.is, b.rule.ensures) at b.plain.ensures)
-    (over_off (rw (c.in-Refused-plain.is, b.rule-in-On.ensures) at b.plain-in-On.ensures))
+    over_on (rw (c.in-On.is, c.rule.ensures) at c.plain.ensures)
+    (over_off (rw (c.in-Refused-plain.is, c.rule-in-On.ensures) at c.plain-in-On.ensures))
 
 pub returns-in-Refused-plain-2 : goal.returns-in-Refused-plain-2
 returns-in-Refused-plain-2 c =
-    let b = c in
-    over_on (rw (b.in-On.is, b.rule.ensures) at b.plain.ensures)
-    (over_on (rw (c.in-On-plain.is, b.rule-in-On.ensures) at b.plain-in-On.ensures)
+    over_on (rw (c.in-On.is, c.rule.ensures) at c.plain.ensures)
+    (over_on (rw (c.in-On-plain.is, c.rule-in-On.ensures) at c.plain-in-On.ensures)
     (over_off (rw (c.in-Refused-plain-2.is, c.rule-in-On-plain.ensures) at c.plain-in-On-plain.ensures)))
 
 pub returns-in-On-plain-2 : goal.returns-in-On-plain-2
 returns-in-On-plain-2 c =
-    let b = c in
-    over_on (rw (b.in-On.is, b.rule.ensures) at b.plain.ensures)
-    (over_on (rw (c.in-On-plain.is, b.rule-in-On.ensures) at b.plain-in-On.ensures)
+    over_on (rw (c.in-On.is, c.rule.ensures) at c.plain.ensures)
+    (over_on (rw (c.in-On-plain.is, c.rule-in-On.ensures) at c.plain-in-On.ensures)
     (over_on (rw (c.in-On-plain-2.is, c.rule-in-On-plain.ensures) at c.plain-in-On-plain.ensures) c.plain-in-On-plain-2.ensures))

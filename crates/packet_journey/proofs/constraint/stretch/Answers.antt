@@ -15,5 +15,4 @@ returns-in-Refused c = value_off (after_start c.args.range) (rw (c.in-Refused.is
 
 pub returns-in-Is : goal.returns-in-Is
 returns-in-Is c =
-    let b = c in
-    value_on (after_start b.args.range) (rw (c.in-Is.is, b.rule.ensures) at b.field.ensures) (rw c.rule-in-Is.ensures at c.plain.ensures)
+    value_on (after_start c.args.range) (rw (c.in-Is.is, c.rule.ensures) at c.field.ensures) (rw c.rule-in-Is.ensures at c.plain.ensures)

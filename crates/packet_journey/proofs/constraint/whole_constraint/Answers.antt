@@ -13,7 +13,7 @@ restriction_bytes-restriction-requires c = let a = c.args in window_small a.s.no
 
 -- the bytes of both parts are few
 sum_small : (c : goal.Else-restriction-eq0) → c.stretch_bytes-stretch.result + c.restriction_bytes-restriction.result ≤ 30
-sum_small c = let b = c in constraint_small b.args.s.now b.args.stop b.requires.0 b.requires.1 c.read_window-t.ensures c.read_window-end.ensures c.read_window-uses.ensures c.stretch_bytes-stretch.ensures c.restriction_bytes-restriction.ensures
+sum_small c = constraint_small c.args.s.now c.args.stop c.requires.0 c.requires.1 c.read_window-t.ensures c.read_window-end.ensures c.read_window-uses.ensures c.stretch_bytes-stretch.ensures c.restriction_bytes-restriction.ensures
 
 pub overflow_add-result-2 : goal.overflow_add-result-2
 overflow_add-result-2 c = omega (arith, sum_small c)
@@ -23,5 +23,4 @@ overflow_add-result-3 c = omega (arith, sum_small c)
 
 pub returns : goal.returns
 returns c =
-    let e = c in
-    let b = e in constraint_on b.args.s.now b.args.stop b.requires.0 b.requires.1 e.read_window-t.ensures e.read_window-end.ensures c.read_window-uses.ensures e.stretch_bytes-stretch.ensures c.restriction_bytes-restriction.ensures e.if-stretch-eq0.false c.if-restriction-eq0.false
+    constraint_on c.args.s.now c.args.stop c.requires.0 c.requires.1 c.read_window-t.ensures c.read_window-end.ensures c.read_window-uses.ensures c.stretch_bytes-stretch.ensures c.restriction_bytes-restriction.ensures c.if-stretch-eq0.false c.if-restriction-eq0.false

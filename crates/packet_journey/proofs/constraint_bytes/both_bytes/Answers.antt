@@ -11,4 +11,4 @@ pub overflow_add-result : goal.overflow_add-result
 overflow_add-result c = let a = c.args in omega (arith, c.groups.ensures, c.groups-2.ensures, count_five a.start, count_five a.end)
 
 pub returns : goal.returns
-returns c = let b = c in both_bytes_lem b.args.start b.args.end c.groups.ensures c.groups-2.ensures b.requires.0 b.requires.1 c.if-end-start.false
+returns c = both_bytes_lem c.args.start c.args.end c.groups.ensures c.groups-2.ensures c.requires.0 c.requires.1 c.if-end-start.false

@@ -9,7 +9,7 @@ pub returns-then-of-eq-SPEED : goal.returns-then-of-eq-SPEED
 returns-then-of-eq-SPEED c = rw c.if-of-eq-SPEED.true c.speed_bytes.ensures
 
 pub returns-then-most-t : goal.returns-then-most-t
-returns-then-most-t c = let b = c in other_none b.args.t b.args.of c.if-of-eq-SPEED.false b.requires (rw c.most.ensures at c.if-most-t.true)
+returns-then-most-t c = other_none c.args.t c.args.of c.if-of-eq-SPEED.false c.requires (rw c.most.ensures at c.if-most-t.true)
 
 pub returns : goal.returns
 returns c = let a = c.args in other_some a.t a.of c.if-of-eq-SPEED.false c.if-t-ne-NO_LIMIT.false (rw c.most.ensures at c.if-most-t.false)

@@ -18,5 +18,4 @@ overflow_add-result c = let a = c.args in omega (arith, c.groups.ensures, c.grou
 
 pub returns : goal.returns
 returns c =
-    let b = c in
-    let a = b.args in alone_bytes a.start a.end c.groups.ensures c.groups-2.ensures a.range b.if-range-eq-BOTH.false (rw b.most.ensures at b.if-most-start.false) (rw b.most-2.ensures at c.if-most-end.false)
+    let a = c.args in alone_bytes a.start a.end c.groups.ensures c.groups-2.ensures a.range c.if-range-eq-BOTH.false (rw c.most.ensures at c.if-most-start.false) (rw c.most-2.ensures at c.if-most-end.false)

@@ -17,12 +17,10 @@ returns-in-Refused c = point_over (over_off (rw c.in-Refused.is at c.arrival.ens
 
 pub returns-in-Refused-field : goal.returns-in-Refused-field
 returns-in-Refused-field c =
-    let p = c in
-    point_over (over_on (rw p.in-On.is at p.arrival.ensures)
-    (value_off (λ v f. row stopping_widths (stopping_most v) f) (rw (c.in-Refused-field.is, p.rule.ensures.kind) at p.field.ensures)))
+    point_over (over_on (rw c.in-On.is at c.arrival.ensures)
+    (value_off (λ v f. row stopping_widths (stopping_most v) f) (rw (c.in-Refused-field.is, c.rule.ensures.kind) at c.field.ensures)))
 
 pub returns-in-Is : goal.returns-in-Is
 returns-in-Is c =
-    let p = c in
-    point_over (over_on (rw p.in-On.is at p.arrival.ensures)
-    (value_on (λ v f. row stopping_widths (stopping_most v) f) (rw (c.in-Is.is, p.rule.ensures.kind) at p.field.ensures) c.stopping.ensures))
+    point_over (over_on (rw c.in-On.is at c.arrival.ensures)
+    (value_on (λ v f. row stopping_widths (stopping_most v) f) (rw (c.in-Is.is, c.rule.ensures.kind) at c.field.ensures) c.stopping.ensures))

@@ -11,15 +11,13 @@ point-requires c = c.loop-left.invariant.stands
 
 pub returns-in-Refused : goal.returns-in-Refused
 returns-in-Refused c =
-    let p = c in
-    let l = p.loop-left in
-    times_off timing_point l.invariant (omega arith) (rw c.in-Refused.is at p.point.ensures)
+    let l = c.loop-left in
+    times_off timing_point l.invariant (omega arith) (rw c.in-Refused.is at c.point.ensures)
 
 pub loop-left-preserved : goal.loop-left-preserved
 loop-left-preserved c =
-    let p = c in
-    let l = p.loop-left in
-    times_on timing_point l.invariant (omega arith) (rw c.in-On.is at p.point.ensures)
+    let l = c.loop-left in
+    times_on timing_point l.invariant (omega arith) (rw c.in-On.is at c.point.ensures)
 
 pub returns : goal.returns
 returns c = let l = c.loop-left in times_end_lem timing_point l.invariant (omega arith)

@@ -13,7 +13,7 @@ eight_bytes-eight-requires c = let a = c.args in (window_small a.s.now (a.at + 8
 
 -- the bytes of the four parts are few
 sum_small : (c : goal.After-groups-name) → c.groups-name.result + c.latest_bytes-latest.result + c.marks_bytes-marks.result + c.eight_bytes-eight.result ≤ 80
-sum_small c = let b = c in small b.args.s.now b.args.stop b.requires.0 b.requires.1 c.read_window.ensures c.read_window-t.ensures c.read_window-doors.ensures c.read_window-leaving.ensures (rw c.read_window-2.ensures at c.groups-name.ensures) c.latest_bytes-latest.ensures c.marks_bytes-marks.ensures c.eight_bytes-eight.ensures
+sum_small c = small c.args.s.now c.args.stop c.requires.0 c.requires.1 c.read_window.ensures c.read_window-t.ensures c.read_window-doors.ensures c.read_window-leaving.ensures (rw c.read_window-2.ensures at c.groups-name.ensures) c.latest_bytes-latest.ensures c.marks_bytes-marks.ensures c.eight_bytes-eight.ensures
 
 pub overflow_add-result-2 : goal.overflow_add-result-2
 overflow_add-result-2 c = omega (arith, sum_small c)
@@ -26,5 +26,4 @@ overflow_add-result-4 c = omega (arith, sum_small c)
 
 pub returns : goal.returns
 returns c =
-    let e = c in
-    let b = e in point_on b.args.s.now b.args.stop b.requires.0 b.requires.1 e.read_window.ensures e.read_window-t.ensures c.read_window-doors.ensures c.read_window-leaving.ensures (rw c.read_window-2.ensures at c.groups-name.ensures) e.latest_bytes-latest.ensures e.marks_bytes-marks.ensures c.eight_bytes-eight.ensures e.if-latest-eq0.false e.if-marks-eq0.false c.if-eight-eq0.false
+    point_on c.args.s.now c.args.stop c.requires.0 c.requires.1 c.read_window.ensures c.read_window-t.ensures c.read_window-doors.ensures c.read_window-leaving.ensures (rw c.read_window-2.ensures at c.groups-name.ensures) c.latest_bytes-latest.ensures c.marks_bytes-marks.ensures c.eight_bytes-eight.ensures c.if-latest-eq0.false c.if-marks-eq0.false c.if-eight-eq0.false

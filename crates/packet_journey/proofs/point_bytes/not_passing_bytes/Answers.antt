@@ -18,4 +18,4 @@ pub overflow_add-result-3 : goal.overflow_add-result-3
 overflow_add-result-3 c = let a = c.args in omega (arith, c.groups-date.ensures, c.groups.ensures, c.short.ensures, count_five (a.doors % 32768), count_five (a.leaving / 2048), count_five (a.leaving / 2 % 1024))
 
 pub returns : goal.returns
-returns c = let b = c in not_passing_some b.args.doors b.args.leaving b.requires c.if-seconds-gt-LARGEST.false c.groups-date.ensures c.groups.ensures c.short.ensures
+returns c = not_passing_some c.args.doors c.args.leaving c.requires c.if-seconds-gt-LARGEST.false c.groups-date.ensures c.groups.ensures c.short.ensures

@@ -21,13 +21,11 @@ returns-in-Refused c =
 
 pub returns-in-Refused-plain : goal.returns-in-Refused-plain
 returns-in-Refused-plain c =
-    let b = c in
-    value_on (λ q f. then (class q) (then speed f)) (rw (b.in-Is.is, b.rule.ensures.kind) at b.field.ensures)
-    (over_off (rw (c.in-Refused-plain.is, b.class_at.ensures) at b.plain.ensures))
+    value_on (λ q f. then (class q) (then speed f)) (rw (c.in-Is.is, c.rule.ensures.kind) at c.field.ensures)
+    (over_off (rw (c.in-Refused-plain.is, c.class_at.ensures) at c.plain.ensures))
 
 pub returns-in-On : goal.returns-in-On
 returns-in-On c =
-    let b = c in
-    value_on (λ q f. then (class q) (then speed f)) (rw (b.in-Is.is, b.rule.ensures.kind) at b.field.ensures)
-    (over_on (rw (c.in-On.is, b.class_at.ensures) at b.plain.ensures)
+    value_on (λ q f. then (class q) (then speed f)) (rw (c.in-Is.is, c.rule.ensures.kind) at c.field.ensures)
+    (over_on (rw (c.in-On.is, c.class_at.ensures) at c.plain.ensures)
     (rw c.rule-in-On.ensures.kind at c.plain-in-On.ensures))

@@ -17,12 +17,10 @@ returns-in-Refused c = gave_off (rw (c.in-Refused.is, c.rule.ensures.kind) at c.
 
 pub returns-in-Refused-plain : goal.returns-in-Refused-plain
 returns-in-Refused-plain c =
-    let b = c in
-    gave_on (rw (b.in-On.is, b.rule.ensures.kind) at b.plain.ensures)
-    (gave_off (rw (c.in-Refused-plain.is, b.rule-in-On.ensures.kind) at b.plain-in-On.ensures))
+    gave_on (rw (c.in-On.is, c.rule.ensures.kind) at c.plain.ensures)
+    (gave_off (rw (c.in-Refused-plain.is, c.rule-in-On.ensures.kind) at c.plain-in-On.ensures))
 
 pub returns-in-On-plain : goal.returns-in-On-plain
 returns-in-On-plain c =
-    let b = c in
-    gave_on (rw (b.in-On.is, b.rule.ensures.kind) at b.plain.ensures)
-    (gave_on (rw (c.in-On-plain.is, b.rule-in-On.ensures.kind) at b.plain-in-On.ensures) (gave_took c.count.ensures))
+    gave_on (rw (c.in-On.is, c.rule.ensures.kind) at c.plain.ensures)
+    (gave_on (rw (c.in-On-plain.is, c.rule-in-On.ensures.kind) at c.plain-in-On.ensures) (gave_took c.count.ensures))

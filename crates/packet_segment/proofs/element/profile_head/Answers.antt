@@ -5,12 +5,10 @@ use Rattle.packet_segment.proofs.element.profile_head.Goals as goal
 
 pub returns-then-speed-eq0 : goal.returns-then-speed-eq0
 returns-then-speed-eq0 c =
-    let b = c in
-    let a = b.args in
-    head_off a.s.now a.stop b.requires (omega arith) c.read_window-t.ensures c.speed-speed.ensures c.if-speed-eq0.true
+    let a = c.args in
+    head_off a.s.now a.stop c.requires (omega arith) c.read_window-t.ensures c.speed-speed.ensures c.if-speed-eq0.true
 
 pub returns : goal.returns
 returns c =
-    let b = c in
-    let a = b.args in
-    head_on a.s.now a.stop b.requires (omega arith) c.read_window-t.ensures c.speed-speed.ensures c.if-speed-eq0.false
+    let a = c.args in
+    head_on a.s.now a.stop c.requires (omega arith) c.read_window-t.ensures c.speed-speed.ensures c.if-speed-eq0.false

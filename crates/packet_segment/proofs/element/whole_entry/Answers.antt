@@ -14,26 +14,21 @@ name_bytes-name-requires c =
 
 pub returns-then-t-le-LARGEST : goal.returns-then-t-le-LARGEST
 returns-then-t-le-LARGEST c =
-    let b = c in
-    let a = b.args in
-    (class_refused a.s.now a.stop b.requires.0 b.requires.1 c.read_window-t.ensures c.name_bytes-name.ensures refl c.if-name-eq0.true c.if-t-le-LARGEST.true, lit< tt)
+    let a = c.args in
+    (class_refused a.s.now a.stop c.requires.0 c.requires.1 c.read_window-t.ensures c.name_bytes-name.ensures refl c.if-name-eq0.true c.if-t-le-LARGEST.true, lit< tt)
 
 pub returns-then-name-eq0 : goal.returns-then-name-eq0
 returns-then-name-eq0 c =
-    let b = c in
-    let a = b.args in
-    (q_refused a.s.now a.stop b.requires.0 b.requires.1 c.read_window-t.ensures c.name_bytes-name.ensures refl (omega (arith, c.if-t-le-LARGEST.false)), lit< tt)
+    let a = c.args in
+    (q_refused a.s.now a.stop c.requires.0 c.requires.1 c.read_window-t.ensures c.name_bytes-name.ensures refl (omega (arith, c.if-t-le-LARGEST.false)), lit< tt)
 
 pub returns-then-speed-eq0 : goal.returns-then-speed-eq0
 returns-then-speed-eq0 c =
-    let b = c in
-    let a = b.args in
-    (speed_refused a.s.now a.stop b.requires.0 b.requires.1 c.read_window-t.ensures c.name_bytes-name.ensures c.speed-speed.ensures c.if-name-eq0.false c.if-speed-eq0.true, lit< tt)
+    let a = c.args in
+    (speed_refused a.s.now a.stop c.requires.0 c.requires.1 c.read_window-t.ensures c.name_bytes-name.ensures c.speed-speed.ensures c.if-name-eq0.false c.if-speed-eq0.true, lit< tt)
 
 pub returns : goal.returns
 returns c =
-    let e = c in
-    let b = e in
-    let a = b.args in
-    let w = e.read_window-t.result in
-    (entry_counted a.s.now a.stop b.requires.0 b.requires.1 e.read_window-t.ensures e.name_bytes-name.ensures c.speed-speed.ensures c.if-name-eq0.false c.if-speed-eq0.false, omega (arith, entry_few (w / 128 / 16) (w / 128 % 16) (w % 128) e.name_bytes-name.ensures c.speed-speed.ensures))
+    let a = c.args in
+    let w = c.read_window-t.result in
+    (entry_counted a.s.now a.stop c.requires.0 c.requires.1 c.read_window-t.ensures c.name_bytes-name.ensures c.speed-speed.ensures c.if-name-eq0.false c.if-speed-eq0.false, omega (arith, entry_few (w / 128 / 16) (w / 128 % 16) (w % 128) c.name_bytes-name.ensures c.speed-speed.ensures))

@@ -25,12 +25,10 @@ returns-in-Refused-field c =
 
 pub returns-in-Refused-cut_offsets : goal.returns-in-Refused-cut_offsets
 returns-in-Refused-cut_offsets c =
-    let b = c in
-    gave_on (rw (b.in-On.is, b.identity_widths-widths.ensures, b.identity_most-most.ensures) at b.row.ensures)
-    (gave_stop (gave_took (rw (c.in-Is.is, b.rule.ensures.kind) at b.field.ensures)) (rw c.in-Refused-cut_offsets.is at c.cut_offsets.ensures))
+    gave_on (rw (c.in-On.is, c.identity_widths-widths.ensures, c.identity_most-most.ensures) at c.row.ensures)
+    (gave_stop (gave_took (rw (c.in-Is.is, c.rule.ensures.kind) at c.field.ensures)) (rw c.in-Refused-cut_offsets.is at c.cut_offsets.ensures))
 
 pub returns-in-On-cut_offsets : goal.returns-in-On-cut_offsets
 returns-in-On-cut_offsets c =
-    let b = c in
-    gave_on (rw (b.in-On.is, b.identity_widths-widths.ensures, b.identity_most-most.ensures) at b.row.ensures)
-    (gave_then (gave_took (rw (c.in-Is.is, b.rule.ensures.kind) at b.field.ensures)) (rw c.in-On-cut_offsets.is at c.cut_offsets.ensures))
+    gave_on (rw (c.in-On.is, c.identity_widths-widths.ensures, c.identity_most-most.ensures) at c.row.ensures)
+    (gave_then (gave_took (rw (c.in-Is.is, c.rule.ensures.kind) at c.field.ensures)) (rw c.in-On-cut_offsets.is at c.cut_offsets.ensures))

@@ -5,9 +5,7 @@ use Rattle.packet_segment.proofs.head.whole_head.Goals as goal
 
 pub returns : goal.returns
 returns c =
-    let b = c in
-    let e = c in
-    head_on b.args.s.now b.requires.0 b.requires.2 (rw e.read_window.ensures at e.operational-operational.ensures) e.if-operational-eq0.false e.header_bytes-header.ensures c.if-header-eq0.false
+    head_on c.args.s.now c.requires.0 c.requires.2 (rw c.read_window.ensures at c.operational-operational.ensures) c.if-operational-eq0.false c.header_bytes-header.ensures c.if-header-eq0.false
     c.identity_bytes-identity.ensures c.read_window-lsp.ensures (λ z. omega (arith, z)) c.groups-length.ensures c.offset_bytes-offsets.ensures c.if-offsets-eq0.false
 
 pub overflow_add-result-2 : goal.overflow_add-result-2

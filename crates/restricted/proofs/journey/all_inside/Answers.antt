@@ -8,35 +8,31 @@ use Rattle.restricted.proofs.Journeys.{SameInside}
 use Rattle.restricted.proofs.journey.all_inside.Goals as goal
 
 pub loop-left-init : goal.loop-left-init
-loop-left-init c = let b = c in left_all (ReadsAs (brought_of b.args.medium) b.args.journey.now) (SameInside b.args.lsp) (λ l. refl) b.requires
+loop-left-init c = left_all (ReadsAs (brought_of c.args.medium) c.args.journey.now) (SameInside c.args.lsp) (λ l. refl) c.requires
 
 pub constraint-c-requires : goal.constraint-c-requires
 constraint-c-requires c =
-    let b = c in
-    left_constraint (ReadsAs (brought_of b.args.medium) b.args.journey.now) c.loop-left.left c.loop-left-test.true c.loop-left.invariant
+    left_constraint (ReadsAs (brought_of c.args.medium) c.args.journey.now) c.loop-left.left c.loop-left-test.true c.loop-left.invariant
 
 pub returns-then-misplaced : goal.returns-then-misplaced
 returns-then-misplaced c =
-    let b = c in
     let g = c.loop-left in
     record {
       said = λ l a.
-          left_first (ReadsAs (brought_of b.args.medium) b.args.journey.now) c.constraint-c.ensures g.left c.loop-left-test.true g.invariant l a λ m e.
-          sym (e ∙ ap (λ (z : Bool). not z && all_inside b.args.lsp m) (sym c.misplaced.ensures ∙ c.if-misplaced.true));
+          left_first (ReadsAs (brought_of c.args.medium) c.args.journey.now) c.constraint-c.ensures g.left c.loop-left-test.true g.invariant l a λ m e.
+          sym (e ∙ ap (λ (z : Bool). not z && all_inside c.args.lsp m) (sym c.misplaced.ensures ∙ c.if-misplaced.true));
     }
 
 pub loop-left-preserved : goal.loop-left-preserved
 loop-left-preserved c =
-    let b = c in
     let g = c.loop-left in
-    left_next (ReadsAs (brought_of b.args.medium) b.args.journey.now) c.constraint-c.ensures (SameInside b.args.lsp)
-    (λ l m e. e ∙ ap (λ (z : Bool). not z && all_inside b.args.lsp m) (sym c.misplaced.ensures ∙ c.if-misplaced.false))
+    left_next (ReadsAs (brought_of c.args.medium) c.args.journey.now) c.constraint-c.ensures (SameInside c.args.lsp)
+    (λ l m e. e ∙ ap (λ (z : Bool). not z && all_inside c.args.lsp m) (sym c.misplaced.ensures ∙ c.if-misplaced.false))
     g.left c.loop-left-test.true g.invariant
 
 pub returns : goal.returns
 returns c =
-    let b = c in
-    record { said = λ l a. sym (left_none (ReadsAs (brought_of b.args.medium) b.args.journey.now) c.loop-left.left (omega (arith, c.loop-left-test.false)) c.loop-left.invariant l a) }
+    record { said = λ l a. sym (left_none (ReadsAs (brought_of c.args.medium) c.args.journey.now) c.loop-left.left (omega (arith, c.loop-left-test.false)) c.loop-left.invariant l a) }
 
 pub misplaced-requires : goal.misplaced-requires
 misplaced-requires c = tt

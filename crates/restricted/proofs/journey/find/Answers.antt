@@ -10,20 +10,17 @@ loop-i-init c = (omega arith, c.requires.0)
 
 pub head-requires : goal.head-requires
 head-requires c =
-    let b = c in
-    at_head (ReadsAs (brought_of b.args.medium) b.args.journey.now) (legs_in (brought_of b.args.medium) b.args.journey.now) {i = c.loop-i.i} c.loop-i.invariant.1 (omega (arith, c.loop-i-test.true, b.requires.1))
+    at_head (ReadsAs (brought_of c.args.medium) c.args.journey.now) (legs_in (brought_of c.args.medium) c.args.journey.now) {i = c.loop-i.i} c.loop-i.invariant.1 (omega (arith, c.loop-i-test.true, c.requires.1))
 
 pub next-at-requires : goal.next-at-requires
 next-at-requires c =
-    let b = c in
     let h = c.head.ensures in
-    (at_constraints (ReadsAs (brought_of b.args.medium) b.args.journey.now) (legs_in (brought_of b.args.medium) b.args.journey.now) {i = c.loop-i.i} c.loop-i.invariant.1 (omega (arith, c.loop-i-test.true, b.requires.1)) h, h.few)
+    (at_constraints (ReadsAs (brought_of c.args.medium) c.args.journey.now) (legs_in (brought_of c.args.medium) c.args.journey.now) {i = c.loop-i.i} c.loop-i.invariant.1 (omega (arith, c.loop-i-test.true, c.requires.1)) h, h.few)
 
 pub loop-i-preserved : goal.loop-i-preserved
 loop-i-preserved c =
-    let b = c in
     let t = c.loop-i-test.true in
-    (omega (arith, t), at_next (ReadsAs (brought_of b.args.medium) b.args.journey.now) (legs_in (brought_of b.args.medium) b.args.journey.now) {i = c.loop-i.i} c.loop-i.invariant.1 (omega (arith, t, b.requires.1)) c.head.ensures c.next-at.ensures)
+    (omega (arith, t), at_next (ReadsAs (brought_of c.args.medium) c.args.journey.now) (legs_in (brought_of c.args.medium) c.args.journey.now) {i = c.loop-i.i} c.loop-i.invariant.1 (omega (arith, t, c.requires.1)) c.head.ensures c.next-at.ensures)
 
 pub returns : goal.returns
 returns c =

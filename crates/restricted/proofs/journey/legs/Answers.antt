@@ -4,13 +4,13 @@ use Rattle.restricted.proofs.Journeys.{packet_taken, sheet_taken, packet_legs, s
 use Rattle.restricted.proofs.journey.legs.Goals as goal
 
 pub legs-requires : goal.legs-requires
-legs-requires c = let b = c in packet_taken b.args.journey.now (rw (as_packet c.if-medium-eq-PACKET.true) at b.requires)
+legs-requires c = packet_taken c.args.journey.now (rw (as_packet c.if-medium-eq-PACKET.true) at c.requires)
 
 pub returns-then-medium-eq-PACKET : goal.returns-then-medium-eq-PACKET
 returns-then-medium-eq-PACKET c = packet_legs c.args.journey.now c.if-medium-eq-PACKET.true c.legs.ensures
 
 pub legs-requires-2 : goal.legs-requires-2
-legs-requires-2 c = let b = c in sheet_taken b.args.journey.now (rw (as_sheet c.if-medium-eq-PACKET.false) at b.requires)
+legs-requires-2 c = sheet_taken c.args.journey.now (rw (as_sheet c.if-medium-eq-PACKET.false) at c.requires)
 
 pub returns : goal.returns
-returns c = let b = c in sheet_legs b.args.journey.now c.if-medium-eq-PACKET.false b.requires c.legs-2.ensures
+returns c = sheet_legs c.args.journey.now c.if-medium-eq-PACKET.false c.requires c.legs-2.ensures

@@ -9,26 +9,22 @@ use Rattle.restricted.proofs.journey.passed_over.Goals as goal
 
 pub loop-left-init : goal.loop-left-init
 loop-left-init c =
-    let b = c in
-    left_all (ReadsAs (brought_of b.args.medium) b.args.journey.now) (SameOver b.args.train b.args.lsp b.args.y b.args.held b.args.held) (λ l. refl) b.requires
+    left_all (ReadsAs (brought_of c.args.medium) c.args.journey.now) (SameOver c.args.train c.args.lsp c.args.y c.args.held c.args.held) (λ l. refl) c.requires
 
 pub constraint-c-requires : goal.constraint-c-requires
 constraint-c-requires c =
-    let b = c in
-    left_constraint (ReadsAs (brought_of b.args.medium) b.args.journey.now) c.loop-left.left c.loop-left-test.true c.loop-left.invariant
+    left_constraint (ReadsAs (brought_of c.args.medium) c.args.journey.now) c.loop-left.left c.loop-left-test.true c.loop-left.invariant
 
 pub loop-left-preserved : goal.loop-left-preserved
 loop-left-preserved c =
-    let b = c in
-    let a = b.args in
+    let a = c.args in
     let g = c.loop-left in
-    left_next (ReadsAs (brought_of b.args.medium) b.args.journey.now) c.constraint-c.ensures (SameOver a.train a.lsp a.y a.held c.lowered-low.result)
+    left_next (ReadsAs (brought_of c.args.medium) c.args.journey.now) c.constraint-c.ensures (SameOver a.train a.lsp a.y a.held c.lowered-low.result)
     (λ l m e. e ∙ ap (λ (n : ℕ). passed_over a.train a.lsp a.y n m) (sym c.lowered-low.ensures)) g.left c.loop-left-test.true g.invariant
 
 pub returns : goal.returns
 returns c =
-    let b = c in
-    record { said = λ l a. sym (left_none (ReadsAs (brought_of b.args.medium) b.args.journey.now) c.loop-left.left (omega (arith, c.loop-left-test.false)) c.loop-left.invariant l a) }
+    record { said = λ l a. sym (left_none (ReadsAs (brought_of c.args.medium) c.args.journey.now) c.loop-left.left (omega (arith, c.loop-left-test.false)) c.loop-left.invariant l a) }
 
 pub lowered-low-requires : goal.lowered-low-requires
 lowered-low-requires c = tt

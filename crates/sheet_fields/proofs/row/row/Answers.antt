@@ -11,17 +11,15 @@ ranged-requires c = c.loop-i.invariant.0.stands
 
 pub returns-in-Refused : goal.returns-in-Refused
 returns-in-Refused c =
-    let b = c in
-    let a = b.args in
-    let l = b.loop-i in
-    row_off a.widths.now a.most.now l.i l.invariant.0 b.loop-i-test.true b.requires.1 (rw c.in-Refused.is at c.ranged.ensures)
+    let a = c.args in
+    let l = c.loop-i in
+    row_off a.widths.now a.most.now l.i l.invariant.0 c.loop-i-test.true c.requires.1 (rw c.in-Refused.is at c.ranged.ensures)
 
 pub loop-i-preserved : goal.loop-i-preserved
 loop-i-preserved c =
-    let b = c in
-    let a = b.args in
-    let l = b.loop-i in
-    (row_on a.widths.now a.most.now l.i l.invariant.0 b.loop-i-test.true b.requires.1 (rw c.in-Is.is at c.ranged.ensures), omega arith)
+    let a = c.args in
+    let l = c.loop-i in
+    (row_on a.widths.now a.most.now l.i l.invariant.0 c.loop-i-test.true c.requires.1 (rw c.in-Is.is at c.ranged.ensures), omega arith)
 
 pub returns : goal.returns
 returns c =

@@ -17,20 +17,17 @@ returns-in-Refused c = value_off after_type (rw c.in-Refused.is at c.ranged.ensu
 
 pub returns-in-Refused-ranged : goal.returns-in-Refused-ranged
 returns-in-Refused-ranged c =
-    let b = c in
-    value_on after_type (rw b.in-Is.is at b.ranged.ensures)
-    (value_off (after_range b.in-Is.of) (rw c.in-Refused-ranged.is at c.ranged-in-Is.ensures))
+    value_on after_type (rw c.in-Is.is at c.ranged.ensures)
+    (value_off (after_range c.in-Is.of) (rw c.in-Refused-ranged.is at c.ranged-in-Is.ensures))
 
 pub returns-in-Refused-stretch : goal.returns-in-Refused-stretch
 returns-in-Refused-stretch c =
-    let b = c in
-    value_on after_type (rw b.in-Is.is at b.ranged.ensures)
-    (value_on (after_range b.in-Is.of) (rw c.in-Is-ranged.is at b.ranged-in-Is.ensures)
+    value_on after_type (rw c.in-Is.is at c.ranged.ensures)
+    (value_on (after_range c.in-Is.of) (rw c.in-Is-ranged.is at c.ranged-in-Is.ensures)
     (over_off (rw c.in-Refused-stretch.is at c.stretch.ensures)))
 
 pub returns-in-On : goal.returns-in-On
 returns-in-On c =
-    let b = c in
-    value_on after_type (rw b.in-Is.is at b.ranged.ensures)
-    (value_on (after_range b.in-Is.of) (rw b.in-Is-ranged.is at b.ranged-in-Is.ensures)
+    value_on after_type (rw c.in-Is.is at c.ranged.ensures)
+    (value_on (after_range c.in-Is.of) (rw c.in-Is-ranged.is at c.ranged-in-Is.ensures)
     (over_on (rw c.in-On.is at c.stretch.ensures) c.restriction.ensures))

@@ -16,20 +16,17 @@ returns-in-Refused c = over_off (rw (c.most.ensures, c.in-Refused.is) at c.up_to
 
 pub returns-in-Refused-level : goal.returns-in-Refused-level
 returns-in-Refused-level c =
-    let b = c in
-    over_on (rw (b.most.ensures, b.in-On.is) at b.up_to.ensures)
+    over_on (rw (c.most.ensures, c.in-On.is) at c.up_to.ensures)
     (over_off (rw c.in-Refused-level.is at c.level.ensures))
 
 pub returns-in-Refused-up_to : goal.returns-in-Refused-up_to
 returns-in-Refused-up_to c =
-    let b = c in
-    over_on (rw (b.most.ensures, b.in-On.is) at b.up_to.ensures)
-    (over_on (rw b.in-On-level.is at b.level.ensures)
+    over_on (rw (c.most.ensures, c.in-On.is) at c.up_to.ensures)
+    (over_on (rw c.in-On-level.is at c.level.ensures)
     (over_off (rw (c.most-in-On-level.ensures, c.in-Refused-up_to.is) at c.up_to-in-On-level.ensures)))
 
 pub returns-in-On-up_to : goal.returns-in-On-up_to
 returns-in-On-up_to c =
-    let b = c in
-    over_on (rw (b.most.ensures, b.in-On.is) at b.up_to.ensures)
-    (over_on (rw b.in-On-level.is at b.level.ensures)
+    over_on (rw (c.most.ensures, c.in-On.is) at c.up_to.ensures)
+    (over_on (rw c.in-On-level.is at c.level.ensures)
     (over_on (rw (c.most-in-On-level.ensures, c.in-On-up_to.is) at c.up_to-in-On-level.ensures) c.no_current.ensures))

@@ -7,8 +7,7 @@ use Rattle.sheet_journey.proofs.point.stopping_row.Goals as goal
 
 pub row-requires-in-On : goal.row-requires-in-On
 row-requires-in-On c =
-    let b = c in
-    ((rw b.in-On.is at b.row.ensures).stands, rw (b.stopping_widths-widths.ensures, b.stopping_most-most.ensures))
+    ((rw c.in-On.is at c.row.ensures).stands, rw (c.stopping_widths-widths.ensures, c.stopping_most-most.ensures))
 
 pub returns-in-Refused : goal.returns-in-Refused
 unfolding row

@@ -4,6 +4,5 @@ use Rattle.speed_element.proofs.Lows.lowered.Goals as goal
 
 pub returns : goal.returns
 returns c =
-    let b = c in
-    let a = b.args in
-    speed_worked a.train a.self a.v_static a.held b.requires c.by_cant.ensures c.instead-v.ensures c.lower.ensures c.lower-2.ensures
+    let a = c.args in
+    speed_worked a.train a.self a.v_static a.held c.requires c.by_cant.ensures c.instead-v.ensures c.lower.ensures c.lower-2.ensures

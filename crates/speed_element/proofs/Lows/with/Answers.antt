@@ -5,12 +5,10 @@ use Rattle.speed_element.proofs.Lows.with.Goals as goal
 
 pub returns : goal.returns
 returns c =
-    let e = c in
-    let b = e in
-    let a = b.args in
+    let a = c.args in
     let t = a.train in
-    let m = e.belongs_to-member.ensures in
-    entry_more t a.self _ a.q_diff a.class a.v _ b.requires (omega arith) e.distance-far.ensures
-    e.nearer-cant.ensures
-    (low_with t 1 a.q_diff a.class a.v a.self.replacing (omega arith) b.requires m e.counted.ensures c.lower-replacing.ensures)
-    (low_with t 2 a.q_diff a.class a.v a.self.lowering (omega arith) b.requires m c.counted-2.ensures c.lower-lowering.ensures)
+    let m = c.belongs_to-member.ensures in
+    entry_more t a.self _ a.q_diff a.class a.v _ c.requires (omega arith) c.distance-far.ensures
+    c.nearer-cant.ensures
+    (low_with t 1 a.q_diff a.class a.v a.self.replacing (omega arith) c.requires m c.counted.ensures c.lower-replacing.ensures)
+    (low_with t 2 a.q_diff a.class a.v a.self.lowering (omega arith) c.requires m c.counted-2.ensures c.lower-lowering.ensures)

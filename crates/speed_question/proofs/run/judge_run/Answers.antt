@@ -8,22 +8,20 @@ use Rattle.speed_question.proofs.Runs.{judging_first, judging_refused, judging_n
 use Rattle.speed_question.proofs.run.judge_run.Goals as goal
 
 pub loop-i-init : goal.loop-i-init
-loop-i-init c = let a = c in judging_first (brought_of a.args.medium) a.args.first.now a.args.second.now a.args.third.now a.args.fourth.now a.args.count
+loop-i-init c = judging_first (brought_of c.args.medium) c.args.first.now c.args.second.now c.args.third.now c.args.fourth.now c.args.count
 
 pub returns-in-Refused : goal.returns-in-Refused
 returns-in-Refused c =
-    let a = c in
-    let e = sym c.in-Refused.is ∙ c.judge.ensures ∙ ap (λ (s : List ℕ). judged_of (read_as (brought_of a.args.medium) s)) c.segment.ensures in
-    judging_refused (brought_of a.args.medium) a.args.first.now a.args.second.now a.args.third.now a.args.fourth.now a.args.count a.requires.1 c.loop-i.i c.loop-i-test.true c.loop-i.invariant e
+    let e = sym c.in-Refused.is ∙ c.judge.ensures ∙ ap (λ (s : List ℕ). judged_of (read_as (brought_of c.args.medium) s)) c.segment.ensures in
+    judging_refused (brought_of c.args.medium) c.args.first.now c.args.second.now c.args.third.now c.args.fourth.now c.args.count c.requires.1 c.loop-i.i c.loop-i-test.true c.loop-i.invariant e
 
 pub loop-i-preserved : goal.loop-i-preserved
 loop-i-preserved c =
-    let a = c in
-    let e = sym c.in-Accepted.is ∙ c.judge.ensures ∙ ap (λ (s : List ℕ). judged_of (read_as (brought_of a.args.medium) s)) c.segment.ensures in
-    judging_next (brought_of a.args.medium) a.args.first.now a.args.second.now a.args.third.now a.args.fourth.now a.args.count a.requires.1 c.loop-i.i c.loop-i-test.true c.loop-i.invariant e
+    let e = sym c.in-Accepted.is ∙ c.judge.ensures ∙ ap (λ (s : List ℕ). judged_of (read_as (brought_of c.args.medium) s)) c.segment.ensures in
+    judging_next (brought_of c.args.medium) c.args.first.now c.args.second.now c.args.third.now c.args.fourth.now c.args.count c.requires.1 c.loop-i.i c.loop-i-test.true c.loop-i.invariant e
 
 pub returns : goal.returns
-returns c = let a = c in judging_last (brought_of a.args.medium) a.args.first.now a.args.second.now a.args.third.now a.args.fourth.now a.args.count a.requires.1 c.loop-i.invariant (omega (arith, c.loop-i-test.false))
+returns c = judging_last (brought_of c.args.medium) c.args.first.now c.args.second.now c.args.third.now c.args.fourth.now c.args.count c.requires.1 c.loop-i.invariant (omega (arith, c.loop-i-test.false))
 
 pub segment-requires : goal.segment-requires
 segment-requires c = tt

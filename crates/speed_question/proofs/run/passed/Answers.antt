@@ -13,11 +13,10 @@ use Rattle.speed_question.proofs.run.passed.Goals as goal
 -- the train has left the segment
 pub returns-then-head-train : goal.returns-then-head-train
 returns-then-head-train c =
-    let b = c in
-    let s = b.args.segment.now in
-    let m = brought_of b.args.medium in
+    let s = c.args.segment.now in
+    let m = brought_of c.args.medium in
     let ok = bytes_of s (λ i. (c.type_inv.segment i).fits) in
-    left_behind b.args.train (numbers_as m s) {y = b.args.y} (starts_in m s ok b.requires.0) (omega (arith, b.requires.1.length_is, c.if-head-train.true))
+    left_behind c.args.train (numbers_as m s) {y = c.args.y} (starts_in m s ok c.requires.0) (omega (arith, c.requires.1.length_is, c.if-head-train.true))
 
 pub passed-requires : goal.passed-requires
 passed-requires c = rw (as_packet c.if-medium-eq-PACKET.true) at c.requires.1

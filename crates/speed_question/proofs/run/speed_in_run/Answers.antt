@@ -11,46 +11,42 @@ pub overflow_add-y : goal.overflow_add-y
 overflow_add-y c = let k = c.requires.1 in omega (arith, k.last.small, k.last.head.small, k.inside)
 
 pub loop-i-init : goal.loop-i-init
-loop-i-init c = let a = c in passing_first (brought_of a.args.medium) a.args.first.now a.args.second.now a.args.third.now a.args.fourth.now a.args.count
+loop-i-init c = passing_first (brought_of c.args.medium) c.args.first.now c.args.second.now c.args.third.now c.args.fourth.now c.args.count
 
 pub head_of-here-requires : goal.head_of-here-requires
 head_of-here-requires c =
-    let a = c in
-    let few = a.requires.0 in
-    let k = a.requires.1 in
+    let few = c.requires.0 in
+    let k = c.requires.1 in
     let i = c.loop-i.i in
     let h = c.loop-i-test.true in
     let e = sym c.segment-s.ensures in (
-      subst (AcceptedAs (brought_of a.args.medium)) e (one_accepted (brought_of a.args.medium) a.args.first.now a.args.second.now a.args.third.now a.args.fourth.now a.args.count few.1 i h k.each),
-      λ z. subst (λ (s : List ℕ). HeadOf (brought_of a.args.medium) s a.args.last.head.lsp a.args.last.head.profile) e (last_head (brought_of a.args.medium) a.args.first.now a.args.second.now a.args.third.now a.args.fourth.now a.args.count few.1 few.0 i h z k.last),
+      subst (AcceptedAs (brought_of c.args.medium)) e (one_accepted (brought_of c.args.medium) c.args.first.now c.args.second.now c.args.third.now c.args.fourth.now c.args.count few.1 i h k.each),
+      λ z. subst (λ (s : List ℕ). HeadOf (brought_of c.args.medium) s c.args.last.head.lsp c.args.last.head.profile) e (last_head (brought_of c.args.medium) c.args.first.now c.args.second.now c.args.third.now c.args.fourth.now c.args.count few.1 few.0 i h z k.last),
     )
 
 pub overflow_sub-y : goal.overflow_sub-y
 overflow_sub-y c =
-    let a = c in
-    passing_before (brought_of a.args.medium) a.args.first.now a.args.second.now a.args.third.now a.args.fourth.now a.args.count c.loop-i.invariant c.loop-i-test.true a.requires.1.last
+    passing_before (brought_of c.args.medium) c.args.first.now c.args.second.now c.args.third.now c.args.fourth.now c.args.count c.loop-i.invariant c.loop-i-test.true c.requires.1.last
 
 pub passed-held-requires : goal.passed-held-requires
 passed-held-requires c =
-    let a = c in
-    (subst (AcceptedAs (brought_of a.args.medium)) (sym c.segment-s.ensures) (one_accepted (brought_of a.args.medium) a.args.first.now a.args.second.now a.args.third.now a.args.fourth.now a.args.count a.requires.0.1 c.loop-i.i c.loop-i-test.true a.requires.1.each), c.head_of-here.ensures)
+    (subst (AcceptedAs (brought_of c.args.medium)) (sym c.segment-s.ensures) (one_accepted (brought_of c.args.medium) c.args.first.now c.args.second.now c.args.third.now c.args.fourth.now c.args.count c.requires.0.1 c.loop-i.i c.loop-i-test.true c.requires.1.each), c.head_of-here.ensures)
 
 pub loop-i-preserved : goal.loop-i-preserved
 loop-i-preserved c =
-    let a = c in
-    let b = brought_of a.args.medium in
+    let b = brought_of c.args.medium in
     let l = c.loop-i in
     let h = c.head_of-here in
     let e = c.segment-s.ensures in
-    let y = a.args.last.start + a.args.x - l.start in
-    let under = passing_before (brought_of a.args.medium) a.args.first.now a.args.second.now a.args.third.now a.args.fourth.now a.args.count l.invariant c.loop-i-test.true a.requires.1.last in
-    passing_next (brought_of a.args.medium) a.args.first.now a.args.second.now a.args.third.now a.args.fourth.now a.args.count a.requires.0.1 l.i c.loop-i-test.true y l.invariant
+    let y = c.args.last.start + c.args.x - l.start in
+    let under = passing_before (brought_of c.args.medium) c.args.first.now c.args.second.now c.args.third.now c.args.fourth.now c.args.count l.invariant c.loop-i-test.true c.requires.1.last in
+    passing_next (brought_of c.args.medium) c.args.first.now c.args.second.now c.args.third.now c.args.fourth.now c.args.count c.requires.0.1 l.i c.loop-i-test.true y l.invariant
     (subst (λ (s : List ℕ). HeadOf b s h.result.lsp h.result.profile) e h.ensures)
-    (omega (arith, a.requires.1.last.start_is, under))
-    (subst (λ (s : List ℕ). Passed a.args.train (numbers_as b s) y l.held c.passed-held.result) e c.passed-held.ensures)
+    (omega (arith, c.requires.1.last.start_is, under))
+    (subst (λ (s : List ℕ). Passed c.args.train (numbers_as b s) y l.held c.passed-held.result) e c.passed-held.ensures)
 
 pub returns : goal.returns
-returns c = let a = c in c.permitted.ensures ∙ passing_last (brought_of a.args.medium) a.args.first.now a.args.second.now a.args.third.now a.args.fourth.now a.args.count a.requires.0.1 c.loop-i.invariant (omega (arith, c.loop-i-test.false))
+returns c = c.permitted.ensures ∙ passing_last (brought_of c.args.medium) c.args.first.now c.args.second.now c.args.third.now c.args.fourth.now c.args.count c.requires.0.1 c.loop-i.invariant (omega (arith, c.loop-i-test.false))
 
 pub segment-s-requires : goal.segment-s-requires
 segment-s-requires c = tt

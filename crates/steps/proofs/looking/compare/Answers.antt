@@ -4,35 +4,27 @@ use Rattle.steps.proofs.looking.compare.Goals as goal
 
 pub loop-place-init : goal.loop-place-init
 loop-place-init c =
-    let b = c in
-    comparing_first b.args.starts.now b.args.speeds.now b.args.x b.args.until b.args.ours b.requires.1 b.requires.2
+    comparing_first c.args.starts.now c.args.speeds.now c.args.x c.args.until c.args.ours c.requires.1 c.requires.2
 
 pub bounds-speeds-step : goal.bounds-speeds-step
 bounds-speeds-step c = omega (arith, c.loop-place.invariant.at.inside, c.requires.0.equal)
 
 pub returns-then-speeds-step : goal.returns-then-speeds-step
 returns-then-speeds-step c =
-    let l = c in
-    let b = l in
-    comparing_wrong b.args.starts.now b.args.speeds.now b.args.x b.args.until b.args.ours b.requires.0 l.loop-place.invariant c.loop-place-test.true c.if-speeds-step.true
+    comparing_wrong c.args.starts.now c.args.speeds.now c.args.x c.args.until c.args.ours c.requires.0 c.loop-place.invariant c.loop-place-test.true c.if-speeds-step.true
 
 pub next_step-next-requires : goal.next_step-next-requires
 next_step-next-requires c = c.loop-place.invariant.at.inside
 
 pub loop-place-smaller : goal.loop-place-smaller
 loop-place-smaller c =
-    let l = c in
-    let b = l in
     let h = c.loop-place-test.true in
-    omega (arith, h, comparing_more b.args.starts.now b.args.speeds.now b.args.x b.args.until b.args.ours b.requires.0 l.loop-place.invariant h c.next_step-next.ensures)
+    omega (arith, h, comparing_more c.args.starts.now c.args.speeds.now c.args.x c.args.until c.args.ours c.requires.0 c.loop-place.invariant h c.next_step-next.ensures)
 
 pub loop-place-preserved : goal.loop-place-preserved
 loop-place-preserved c =
-    let l = c in
-    let b = l in
-    comparing_next b.args.starts.now b.args.speeds.now b.args.x b.args.until b.args.ours b.requires.0 l.loop-place.invariant c.loop-place-test.true c.if-speeds-step.false c.next_step-next.ensures
+    comparing_next c.args.starts.now c.args.speeds.now c.args.x c.args.until c.args.ours c.requires.0 c.loop-place.invariant c.loop-place-test.true c.if-speeds-step.false c.next_step-next.ensures
 
 pub returns : goal.returns
 returns c =
-    let b = c in
-    comparing_last b.args.starts.now b.args.speeds.now b.args.x b.args.until b.args.ours b.requires.0 c.loop-place.invariant c.loop-place-test.false
+    comparing_last c.args.starts.now c.args.speeds.now c.args.x c.args.until c.args.ours c.requires.0 c.loop-place.invariant c.loop-place-test.false

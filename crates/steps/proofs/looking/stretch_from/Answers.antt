@@ -10,14 +10,13 @@ loop-i-init c =
 
 pub loop-i-preserved : goal.loop-i-preserved
 loop-i-preserved c =
-    let t = c in
-    let l = t.loop-i in
-    let a = t.args in
+    let l = c.loop-i in
+    let a = c.args in
     let n = a.count in
     let p = a.starts.now in
     let q = a.stops.now in
     let v = a.speeds.now in
-    let h = t.loop-i-test.true in
+    let h = c.loop-i-test.true in
     elim c.if-y-start.branch [
       | then-y-start w ↦ span_early n p q v a.y a.end l.invariant h w.if-y-start.true (w.until-is ∙ w.sooner-until.ensures) w.low-is
       | else-y-start+then-y-stop w ↦ span_holds n p q v a.y a.end l.invariant h w.if-y-start.false w.if-y-stop.true (w.until-is ∙ w.sooner-until-then-y-stop.ensures) (w.low-is ∙ w.lower-low.ensures)

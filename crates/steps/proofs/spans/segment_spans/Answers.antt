@@ -6,8 +6,7 @@ use Rattle.steps.proofs.spans.segment_spans.Goals as goal
 
 pub loop-left-init : goal.loop-left-init
 loop-left-init c =
-    let b = c in
-    keeping_first (ReadsAs (brought_of b.args.medium) b.args.s.now) b.args.train b.args.head.lsp b.args.start _ b.args.before b.requires.0 c.first-begun.ensures b.requires.1
+    keeping_first (ReadsAs (brought_of c.args.medium) c.args.s.now) c.args.train c.args.head.lsp c.args.start _ c.args.before c.requires.0 c.first-begun.ensures c.requires.1
 
 pub next-n-requires : goal.next-n-requires
 next-n-requires c = ((c.loop-left.invariant.ending 0).more c.loop-left-test.true).readable
@@ -23,22 +22,19 @@ bounds-kept-i-in-loop-left-2 c = keeping_room _ _ _ _ _ _ c.loop-left.invariant 
 
 pub overflow_add-kept-in-loop-left : goal.overflow_add-kept-in-loop-left
 overflow_add-kept-in-loop-left c =
-    let b = c in
-    omega (arith, c.until.ensures, until_most b.args.train c.loop-left.«open» c.next-n.result.end)
+    omega (arith, c.until.ensures, until_most c.args.train c.loop-left.«open» c.next-n.result.end)
 
 pub speed_of-requires : goal.speed_of-requires
 speed_of-requires c = keeping_opens _ _ _ _ _ _ c.loop-left.invariant c.loop-left-test.true
 
 pub loop-left-preserved : goal.loop-left-preserved
 loop-left-preserved c =
-    let b = c in
-    keeping_next _ _ _ _ _ _ c.loop-left.invariant c.loop-left-test.true b.requires.1.most
+    keeping_next _ _ _ _ _ _ c.loop-left.invariant c.loop-left-test.true c.requires.1.most
     c.next-n.ensures c.until.ensures c.speed_of.ensures
 
 pub returns : goal.returns
 returns c =
-    let b = c in
-    keeping_last (ReadsAs (brought_of b.args.medium) b.args.s.now) b.args.train b.args.head.lsp b.args.start _ b.args.before b.requires.0 c.first-begun.ensures
+    keeping_last (ReadsAs (brought_of c.args.medium) c.args.s.now) c.args.train c.args.head.lsp c.args.start _ c.args.before c.requires.0 c.first-begun.ensures
     c.loop-left.invariant (omega (arith, c.loop-left-test.false))
 
 pub first-begun-requires : goal.first-begun-requires
