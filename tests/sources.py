@@ -6,7 +6,7 @@ import re
 ROOT = pathlib.Path(__file__).resolve().parent.parent
 # a line of crates.txt has a crate's name, 'staticlib' after it where it is an archive, and behind the colon the crates that it names
 CRATES = [line.split()[0].rstrip(":") for line in (ROOT / "crates.txt").read_text().splitlines() if ":" in line.split("#")[0]]
-FUNCTION = re.compile(r'^(\s*)(pub )?(extern "C" )?fn (\w+)')
+FUNCTION = re.compile(r'^(\s*)(pub )?(?:final )?(extern "C" )?fn (\w+)')
 # the files in which the proof of a function stands, in the order in which they are read
 OF_FUNCTION = ("Invariants.antt", "Answers.antt", "Proof.antt")
 # what a line of definitions or proofs has after "--", outside strings and without the marks of a heading
@@ -38,7 +38,7 @@ def functions(path):
     """Each function of a source file: its first line's number, whether it is public, its name (a method's after its type), its head up to the body."""
     lines, owner = path.read_text().splitlines(), ""
     for i, line in enumerate(lines):
-        block = re.match(r"^impl (\w+)", line)
+        block = re.match(r"^impl(?:<[^>]*>)? (?:.* for )?(\w+)", line)
         if block or line == "}":
             owner = block.group(1) + "::" if block else ""
         m = FUNCTION.match(line)

@@ -21,14 +21,12 @@ use Rattle.grammar.specs.segment.Judgement.{from_packet}
 use Rattle.format.specs.internal.Places.{bits_between}
 use Rattle.format.proofs.Places.{rest_length}
 use Rattle.format.specs.Media.{sheet}
-use Rattle.verdict.specs.declared.PacketVerdict.TheVariants.{SheetBytes, Refused}
-use Rattle.verdict.specs.declared.frame.Frame.{Frame}
-use Rattle.verdict.specs.internal.Verdict.{size_from, packet_verdict}
+use Rattle.verdict.specs.internal.Verdict.{Verdict, size_from, packet_verdict}
 use Rattle.grammar.specs.declared.link.Tree.TheVariants.{Segment}
 use Rattle.grammar.specs.internal.link.Trees.{tree_sheet_fields}
 use Rattle.verdict.specs.internal.frame.Framed.{frame_of}
 use Rattle.verdict.proofs.frame.Framing.{whole}
-use Rattle.verdict.proofs.Sizes.{packet_sorts}
+use Rattle.verdict.proofs.Sizes.{verdict_sorts}
 use Rattle.verdict.proofs.Accepted.{verdict_accepted, verdict_refused, parts, accepted_frame}
 use Rattle.altitude.specs.declared.Altitude.{Altitude}
 use Rattle.altitude.specs.Altitude.{centimetres, altitude_field, altitude_of_read, altitude_of}
@@ -55,7 +53,7 @@ module _ (s : List ℕ) where
       rw (drop_take 209 (stop - 24) (drop 24 (bits_of_bytes s)), take-take 20 (stop - 24 - 209) (drop 209 (drop 24 (bits_of_bytes s))) (omega arith), drop-drop)
 
   module _ (a : from_packet wire_changes s ≡ accepted (values_of (from_packet wire_changes s))) where
-    in_frame : (stop : ℕ) → Frame.End stop ≡ frame_of 6 s → Field
+    in_frame : (stop : ℕ) → Verdict.sized stop ≡ frame_of 6 s → Field
     unfolding altitude_of from_packet fields
     in_frame stop e =
         let l = values_of (from_packet wire_changes s) in
@@ -76,22 +74,22 @@ module _ (s : List ℕ) where
     unfolding from_packet fields
     accepted_field = go (frame_of 6 s) refl
       where
-        go : (f : Frame) → f ≡ frame_of 6 s → Field
-        go (Frame.Refused r) d = accepted_frame Segment s r a d
-        go (Frame.End stop) d = in_frame stop d
+        go : (f : Verdict) → f ≡ frame_of 6 s → Field
+        go (Verdict.refused r place) d = accepted_frame Segment s r a d
+        go (Verdict.sized stop) d = in_frame stop d
 
   -- ---- the altitude from the verdict
 
-  pub altitude_accepted : (n : ℕ) → SheetBytes n ≡ packet_verdict Segment s → Field
+  pub altitude_accepted : (n : ℕ) → Verdict.sized n ≡ packet_verdict Segment s → Field
   unfolding packet_verdict from_packet fields sheet_fields
-  altitude_accepted n e = verdict_accepted packet_sorts (size_from sheet (tree_sheet_fields Segment) 0) (from_packet wire_changes s) n e λ p q. accepted_field p
+  altitude_accepted n e = verdict_accepted verdict_sorts (size_from sheet (tree_sheet_fields Segment) 0) (from_packet wire_changes s) n e λ p q. accepted_field p
 
-  pub altitude_refused : (r place : ℕ) → Refused r place ≡ packet_verdict Segment s → altitude_of_read (refused r place) ≡ altitude_of s
+  pub altitude_refused : (r place : ℕ) → Verdict.refused r place ≡ packet_verdict Segment s → altitude_of_read (refused r place) ≡ altitude_of s
   unfolding packet_verdict altitude_of from_packet fields sheet_fields
-  altitude_refused r place e = rw (verdict_refused packet_sorts (size_from sheet (tree_sheet_fields Segment) 0) (from_packet wire_changes s) r place e)
+  altitude_refused r place e = rw (verdict_refused verdict_sorts (size_from sheet (tree_sheet_fields Segment) 0) (from_packet wire_changes s) r place e)
 
   -- the signed number of 32 bits that is made of the field is the altitude
-  pub altitude_done : (n : ℕ) → SheetBytes n ≡ packet_verdict Segment s → (v : ℕ) (z : ℤ) → v ≡ field_at s 233 20 → z ≡ centimetres v
+  pub altitude_done : (n : ℕ) → Verdict.sized n ≡ packet_verdict Segment s → (v : ℕ) (z : ℤ) → v ≡ field_at s 233 20 → z ≡ centimetres v
       → ◌≡◌ {A = Altitude} (record { refusal = 0; place = 0; altitude = to_z w32 (of_z w32 z) }) (altitude_of s)
   altitude_done n e v z p q =
       let f : v < 2 ^ 20 = rw p (field_small s 233 20 20 (lit≤ tt)) in

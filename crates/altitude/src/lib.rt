@@ -7,8 +7,8 @@ ghost use Rattle.altitude.specs.Altitude.{centimetres, altitude_of};
 
 use grammar::link::Tree;
 use grammar::segment::layout::ALTITUDE;
-use kinds::body;
-use verdict::PacketVerdict;
+use kinds::refusals::Refused;
+use kinds::{UpTo, body};
 
 // Answer to an altitude question: 0, 0 and the altitude in cm; or a refusal's number, its place (a bit of the packet) and 0.
 #[repr(C)]
@@ -35,19 +35,15 @@ pub fn altitude_of_packet(packet: &[u8]) -> Altitude
     ensures { result ≡ altitude_of packet.now }
 {
     match packet_judge::judge_packet(Tree::Segment, packet) {
-        PacketVerdict::Refused(r, place) => Altitude {
-            refusal: r,
+        Err(Refused(refusal, place)) => Altitude {
+            refusal: u32::from(refusal),
             place,
             altitude: 0,
         },
-        PacketVerdict::SheetBytes(_) => {
-            let v = bits::read_field(packet, ALTITUDE, body::MSpAltitude::WIDTH);
-            let altitude = signed(v);
-            Altitude {
-                refusal: 0,
-                place: 0,
-                altitude,
-            }
-        }
+        Ok(_) => Altitude {
+            refusal: 0,
+            place: 0,
+            altitude: signed(bits::read_field(packet, ALTITUDE, body::MSpAltitude::WIDTH)),
+        },
     }
 }

@@ -3,6 +3,9 @@
 #![tactic(auto)]
 
 ghost use Rattle.std.specs.Prelude.{◌≡◌};
+ghost use Rattle.convert.specs.internal.Writers.{converted_as};
+
+use kinds::refusals::Refused;
 
 // Answer of a conversion: 0, 0 and the length of the result in bytes; or a refusal's number, its place (a bit of a packet, a byte of a sheet) and 0.
 #[repr(C)]
@@ -32,5 +35,17 @@ pub fn done(length: u32) -> Converted
         refusal: 0,
         place: 0,
         length,
+    }
+}
+
+impl From<Result<u32, Refused<u32>>> for Converted {
+    ghost from_gives = { λ r c. c ≡ converted_as r };
+
+    // Makes the answer of a conversion that gives the length of its result, in bytes, or is refused.
+    fn from(answer: Result<u32, Refused<u32>>) -> Converted {
+        match answer {
+            Ok(length) => done(length),
+            Err(Refused(refusal, place)) => refused(refusal as u32, place),
+        }
     }
 }

@@ -21,12 +21,10 @@ use Rattle.grammar.specs.internal.link.Trees.{tree_sheet_fields, tree_packet, fi
 use Rattle.grammar.proofs.link.Trees.{link_lawful}
 use Rattle.grammar.proofs.link.Values.{tree_sheet_lem, tree_packet_values}
 use Rattle.grammar.proofs.link.Ends.{either_sheet_size}
-use Rattle.verdict.specs.declared.PacketVerdict.TheVariants.{SheetBytes, Refused}
-use Rattle.verdict.specs.declared.frame.Frame.{Frame}
-use Rattle.verdict.specs.internal.Verdict.{size_from, packet_verdict}
+use Rattle.verdict.specs.internal.Verdict.{Verdict, size_from, packet_verdict}
 use Rattle.verdict.specs.internal.frame.Framed.{frame_of}
 use Rattle.verdict.proofs.frame.Framing.{whole}
-use Rattle.verdict.proofs.Sizes.{packet_sorts}
+use Rattle.verdict.proofs.Sizes.{verdict_sorts}
 use Rattle.verdict.proofs.Accepted.{verdict_accepted, verdict_refused, accepted_frame, Parts, parts}
 use Rattle.convert.specs.Convert.{Outcome, refused_with, success_with, fitted, converted, packet_to_sheet}
 use Rattle.convert.specs.internal.Writers.{sheet_of, SheetWritable, tree_to_sheet}
@@ -51,7 +49,7 @@ module _ (t : Tree) (s : List ℕ) where
 
   -- ---- the writers
 
-  module _ (room : List ℕ) (w : SheetWritable t s room) (stop : ℕ) (e : Frame.End stop ≡ frame_of (tree_number t) s) where
+  module _ (room : List ℕ) (w : SheetWritable t s room) (stop : ℕ) (e : Verdict.sized stop ≡ frame_of (tree_number t) s) where
     own : Parts t s stop (values_of (tree_packet t s))
     own = parts t s stop (values_of (tree_packet t s)) e w.accepts
 
@@ -80,26 +78,26 @@ module _ (t : Tree) (s : List ℕ) where
 
   -- ---- the answers
 
-  pub sheet_refused : (room : List ℕ) (r place : ℕ) → Refused r place ≡ packet_verdict t s → refused_with r place room ≡ tree_to_sheet t s room
+  pub sheet_refused : (room : List ℕ) (r place : ℕ) → Verdict.refused r place ≡ packet_verdict t s → refused_with r place room ≡ tree_to_sheet t s room
   unfolding packet_verdict tree_to_sheet
-  sheet_refused room r place e = rw (verdict_refused packet_sorts (size_from sheet (tree_sheet_fields t) 0) (tree_packet t s) r place e)
+  sheet_refused room r place e = rw (verdict_refused verdict_sorts (size_from sheet (tree_sheet_fields t) 0) (tree_packet t s) r place e)
 
-  module _ (room : List ℕ) (n : ℕ) (e : SheetBytes n ≡ packet_verdict t s) where
+  module _ (room : List ℕ) (n : ℕ) (e : Verdict.sized n ≡ packet_verdict t s) where
     accepts : tree_packet t s ≡ accepted (values_of (tree_packet t s))
     unfolding packet_verdict
-    accepts = verdict_accepted packet_sorts (size_from sheet (tree_sheet_fields t) 0) (tree_packet t s) n e λ p q. p
+    accepts = verdict_accepted verdict_sorts (size_from sheet (tree_sheet_fields t) 0) (tree_packet t s) n e λ p q. p
 
     counted : n ≡ 0 + length (write sheet (tree_sheet_fields t) (values_of (tree_packet t s)))
     unfolding packet_verdict
-    counted = verdict_accepted packet_sorts (size_from sheet (tree_sheet_fields t) 0) (tree_packet t s) n e λ p q. q
+    counted = verdict_accepted verdict_sorts (size_from sheet (tree_sheet_fields t) 0) (tree_packet t s) n e λ p q. q
 
     -- an accepted packet has a frame, and the values of its fields
     framed : {C : Type 0} → ((stop : ℕ) → Parts t s stop (values_of (tree_packet t s)) → C) → C
     framed {C} f = go (frame_of (tree_number t) s) refl
       where
-        go : (g : Frame) → g ≡ frame_of (tree_number t) s → C
-        go (Frame.Refused r) d = accepted_frame t s r accepts d
-        go (Frame.End stop) d = f stop (parts t s stop (values_of (tree_packet t s)) d accepts)
+        go : (g : Verdict) → g ≡ frame_of (tree_number t) s → C
+        go (Verdict.refused r place) d = accepted_frame t s r accepts d
+        go (Verdict.sized stop) d = f stop (parts t s stop (values_of (tree_packet t s)) d accepts)
 
     sheet_size : n ≡ length (sheet_of t s)
     sheet_size =

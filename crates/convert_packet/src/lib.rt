@@ -8,14 +8,12 @@ ghost use Rattle.grammar.specs.segment.Frame.{packet_number};
 ghost use Rattle.grammar.specs.link.Link.{tree_number, tree_of};
 ghost use Rattle.grammar.specs.internal.link.Trees.{fields_of, FieldsWritable};
 ghost use Rattle.convert.specs.Convert.{packet_to_sheet};
-ghost use Rattle.convert.specs.internal.Writers.{sheet_of, SheetWritable, tree_to_sheet};
+ghost use Rattle.convert.specs.internal.Writers.{converted_as, sheet_of, SheetWritable, tree_to_sheet};
 
-use convert::{Converted, done, refused};
+use convert::Converted;
 use grammar::link::Tree;
 use kinds::header;
-use kinds::refusals::SHORT_ROOM;
-use verdict::PacketVerdict;
-use verdict::frame::Frame;
+use kinds::refusals::{Refusal, Refused};
 
 // Writes the numbers of the fields of an accepted packet, from the bit 24 up to the bit `stop`, into `room` from the byte `start` on.
 fn write_fields(tree: Tree, packet: &[u8], stop: usize, room: &mut [u8], start: usize)
@@ -34,8 +32,8 @@ fn write_sheet(tree: Tree, number: u32, packet: &[u8], room: &mut [u8])
     ensures { room.new ≡ sets room.old 0 (sheet_of tree packet.now) }
 {
     match packet_judge::tree_frame(tree, packet) {
-        Frame::Refused(_) => {}
-        Frame::End(stop) => {
+        Err(_) => {}
+        Ok(stop) => {
             let n = numbers::write::put_number(room, 0, number);
             write_fields(tree, packet, stop, room, n);
         }
@@ -51,19 +49,15 @@ fn write_tree(tree: Tree, packet: &[u8], room: &mut [u8])
 }
 
 // Judges a packet of `tree` and writes its sheet at the start of `room`. A refusal, 8 for a short room among them, writes nothing.
-fn tree_to_sheet(tree: Tree, packet: &[u8], room: &mut [u8]) -> Converted
-    ensures { record { answer = result; room = room.new } ≡ tree_to_sheet tree packet.now room.old }
+fn tree_to_sheet(tree: Tree, packet: &[u8], room: &mut [u8]) -> Result<u32, Refused<u32>>
+    ensures { record { answer = converted_as result; room = room.new } ≡ tree_to_sheet tree packet.now room.old }
 {
-    match packet_judge::judge_packet(tree, packet) {
-        PacketVerdict::Refused(r, place) => refused(r, place),
-        PacketVerdict::SheetBytes(n) => {
-            if room.len() < n {
-                return refused(SHORT_ROOM, 0);
-            }
-            write_tree(tree, packet, room);
-            done(n as u32)
-        }
+    let n = packet_judge::judge_packet(tree, packet)?;
+    if room.len() < n {
+        return Err(Refused(Refusal::ShortRoom, 0));
     }
+    write_tree(tree, packet, room);
+    Ok(n as u32)
 }
 
 // Returns the tree that the packet number, the first byte, names: a journey for 4, a segment for any other number or for no byte.
@@ -80,5 +74,5 @@ pub fn tree_of(packet: &[u8]) -> Tree
 pub fn packet_to_sheet(packet: &[u8], room: &mut [u8]) -> Converted
     ensures { record { answer = result; room = room.new } ≡ packet_to_sheet packet.now room.old }
 {
-    tree_to_sheet(tree_of(packet), packet, room)
+    Converted::from(tree_to_sheet(tree_of(packet), packet, room))
 }

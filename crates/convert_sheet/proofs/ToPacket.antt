@@ -40,12 +40,11 @@ use Rattle.grammar.proofs.link.Sheets as link
 use Rattle.packet_write_segment.specs.declared.elements.PacketSpot.{PacketSpot}
 use Rattle.packet_write_segment.specs.internal.elements.Writing.{writer, Ready, Wrote}
 use Rattle.packet_write_segment.proofs.elements.Writing.{run_told}
-use Rattle.verdict.specs.declared.SheetVerdict.TheVariants.{PacketBits, Refused}
-use Rattle.verdict.specs.internal.Verdict.{size_from, sheet_verdict}
+use Rattle.verdict.specs.internal.Verdict.{Verdict, size_from, sheet_verdict}
 use Rattle.convert.specs.Convert.{Outcome, refused_with, fitted, converted, sheet_to_packet}
 use Rattle.convert.specs.internal.Writers.{bits_of_sheet, SheetAccepted, body_read, body_bits_of, BodyAt, Headed, sheet_judged, tree_to_packet}
 use Rattle.convert_sheet.specs.internal.Counted.{counted_verdict, tree_body_part}
-use Rattle.verdict.proofs.Sizes.{sheet_sorts}
+use Rattle.verdict.proofs.Sizes.{verdict_sorts}
 use Rattle.verdict.proofs.Accepted.{verdict_accepted, verdict_refused}
 
 -- ---- the trees as parts
@@ -210,14 +209,14 @@ module _ (t : Tree) (s : List ℕ) (ok : Bytes s) (at : ℕ) (h : BodyAt t s at)
 -- ---- the answers
 
 module _ (t : Tree) (s room : List ℕ) where
-  pub packet_refused : (r place : ℕ) → Refused r place ≡ counted_verdict t s → refused_with r place room ≡ tree_to_packet t s room
+  pub packet_refused : (r place : ℕ) → Verdict.refused r place ≡ counted_verdict t s → refused_with r place room ≡ tree_to_packet t s room
   unfolding counted_verdict tree_to_packet
-  packet_refused r place e = rw (verdict_refused sheet_sorts (size_from packet (tree_sheet_fields t) 0) (sheet_judged t s) r place e)
+  packet_refused r place e = rw (verdict_refused verdict_sorts (size_from packet (tree_sheet_fields t) 0) (sheet_judged t s) r place e)
 
-  module _ (ok : Bytes s) (n : ℕ) (e : PacketBits n ≡ counted_verdict t s) where
+  module _ (ok : Bytes s) (n : ℕ) (e : Verdict.sized n ≡ counted_verdict t s) where
     pub packet_accepts : SheetAccepted t s
     unfolding counted_verdict
-    packet_accepts = verdict_accepted sheet_sorts (size_from packet (tree_sheet_fields t) 0) (sheet_judged t s) n e λ p q. p
+    packet_accepts = verdict_accepted verdict_sorts (size_from packet (tree_sheet_fields t) 0) (sheet_judged t s) n e λ p q. p
 
     -- the verdict counts the 8 bits of the packet number and the bits of the fields
     pub packet_bits : n ≡ 8 + length (bits_of_sheet t s)
@@ -226,7 +225,7 @@ module _ (t : Tree) (s room : List ℕ) where
         let o = own t s ok packet_accepts in
         let v = o.values in
         let z : n ≡ 0 + length (write packet (tree_sheet_fields t) (values_of (sheet_judged t s))) =
-        verdict_accepted sheet_sorts (size_from packet (tree_sheet_fields t) 0) (sheet_judged t s) n e λ p q. q in
+        verdict_accepted verdict_sorts (size_from packet (tree_sheet_fields t) 0) (sheet_judged t s) n e λ p q. q in
         omega (
           arith,
           ap (λ (l : List Item). length (write packet (tree_sheet_fields t) l)) o.all,
@@ -290,11 +289,11 @@ module _ (t : Tree) (s room : List ℕ) where
 
 module _ (t : Tree) (s : List ℕ) (ok : Bytes s) where
   -- the bits in a sheet's verdict are the bits that 12 counts
-  judged_bits : (n : ℕ) → PacketBits n ≡ sheet_verdict t s → {C : Type 0}
+  judged_bits : (n : ℕ) → Verdict.sized n ≡ sheet_verdict t s → {C : Type 0}
       → (tree_sheet t s ≡ accepted (values_of (tree_sheet t s)) → n ≡ 8 + length (link_bits (values_of (tree_sheet t s))) → n ≡ 0 + length (write packet (tree_sheet_fields t) (values_of (tree_sheet t s))) → C) → C
   unfolding sheet_verdict
   judged_bits n e f =
-      verdict_accepted sheet_sorts (size_from packet (tree_sheet_fields t) 0) (tree_sheet t s) n e λ a z.
+      verdict_accepted verdict_sorts (size_from packet (tree_sheet_fields t) 0) (tree_sheet t s) n e λ a z.
       let o = numbered t s (values_of (tree_sheet t s)) ok a in
       let v = o.values in
       f a (omega (
@@ -306,21 +305,21 @@ module _ (t : Tree) (s : List ℕ) (ok : Bytes s) where
         length-append (bits_of 8 (tree_number t)) (write packet (tree_fields t) v),
       )) z
 
-  pub counted_refused : (r place : ℕ) → Refused r place ≡ sheet_verdict t s → Refused r place ≡ counted_verdict t s
+  pub counted_refused : (r place : ℕ) → Verdict.refused r place ≡ sheet_verdict t s → Verdict.refused r place ≡ counted_verdict t s
   unfolding sheet_verdict counted_verdict
-  counted_refused r place e = rw (verdict_refused sheet_sorts (size_from packet (tree_sheet_fields t) 0) (tree_sheet t s) r place e)
+  counted_refused r place e = rw (verdict_refused verdict_sorts (size_from packet (tree_sheet_fields t) 0) (tree_sheet t s) r place e)
 
-  pub counted_12 : (n : ℕ) → PacketBits n ≡ sheet_verdict t s → 65535 + 104 < n → Refused 12 0 ≡ counted_verdict t s
+  pub counted_12 : (n : ℕ) → Verdict.sized n ≡ sheet_verdict t s → 65535 + 104 < n → Verdict.refused 12 0 ≡ counted_verdict t s
   unfolding counted_verdict
   counted_12 n e h =
       judged_bits n e λ a b z.
       rw (a, lt-ltb 65535 (length (link_bits (values_of (tree_sheet t s))) - 96) (omega (arith, b)))
 
-  pub counted_accepted : (n : ℕ) → PacketBits n ≡ sheet_verdict t s → n ≤ 65535 + 104 → PacketBits n ≡ counted_verdict t s
+  pub counted_accepted : (n : ℕ) → Verdict.sized n ≡ sheet_verdict t s → n ≤ 65535 + 104 → Verdict.sized n ≡ counted_verdict t s
   unfolding counted_verdict
   counted_accepted n e h =
       judged_bits n e λ a b z.
-      rw (a, le-ltb 65535 (length (link_bits (values_of (tree_sheet t s))) - 96) (omega (arith, b))) (ap PacketBits z)
+      rw (a, le-ltb 65535 (length (link_bits (values_of (tree_sheet t s))) - 96) (omega (arith, b))) (ap Verdict.sized z)
 
 -- the conversion by the tree that the first number names is the conversion
 pub packet_by_tree : (s room : List ℕ) → tree_to_packet (tree_of_sheet s) s room ≡ sheet_to_packet s room

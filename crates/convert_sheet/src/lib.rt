@@ -7,19 +7,18 @@ ghost use Rattle.std.specs.Prelude.{◌≡◌, ◌++◌, ◌+◌, ◌-◌, ◌/�
 ghost use Rattle.bits.specs.Bits.{bytes_of_bits};
 ghost use Rattle.grammar.specs.link.Link.{tree_number};
 ghost use Rattle.grammar.specs.internal.link.Trees.{tree_of_sheet};
+ghost use Rattle.verdict.specs.internal.Verdict.{said};
 ghost use Rattle.convert.specs.Convert.{sheet_to_packet};
-ghost use Rattle.convert.specs.internal.Writers.{bits_of_sheet, SheetAccepted, body_bits_of, BodyAt, Headed, tree_to_packet};
+ghost use Rattle.convert.specs.internal.Writers.{converted_as, bits_of_sheet, SheetAccepted, body_bits_of, BodyAt, Headed, tree_to_packet};
 ghost use Rattle.packet_write_segment.specs.internal.elements.Writing.{Ready, Wrote};
 ghost use Rattle.convert_sheet.specs.internal.Counted.{counted_verdict, tree_body_part};
 
-use convert::{Converted, done, refused};
+use convert::Converted;
 use grammar::link::Tree;
 use grammar::segment::layout;
-use kinds::header;
-use kinds::refusals::{LONG_BODY, SHORT_ROOM};
-use numbers::Number;
+use kinds::refusals::{Refusal, Refused};
+use kinds::{UpTo, header};
 use packet_write_segment::elements::PacketSpot;
-use verdict::SheetVerdict;
 
 // Bits of a packet before its body, without the 16 of L_PACKET_ATO.
 const BEFORE_BODY: usize = 104;
@@ -76,38 +75,30 @@ fn write_body(tree: Tree, sheet: &[u8], start: usize, body: &mut [u8], bytes: us
 }
 
 // Judges a sheet of `tree`; then refuses a body of more than 65,535 bits with 12.
-pub fn counted(tree: Tree, sheet: &[u8]) -> SheetVerdict
-    ensures { result ≡ counted_verdict tree sheet.now }
+pub fn counted(tree: Tree, sheet: &[u8]) -> Result<usize, Refused<u32>>
+    ensures { said result ≡ counted_verdict tree sheet.now }
 {
-    match sheet_judge::judge_sheet(tree, sheet) {
-        SheetVerdict::Refused(r, place) => SheetVerdict::Refused(r, place),
-        SheetVerdict::PacketBits(n) => {
-            if grammar::link::MOST_BITS + BEFORE_BODY < n {
-                return SheetVerdict::Refused(LONG_BODY, 0);
-            }
-            SheetVerdict::PacketBits(n)
-        }
+    let n = sheet_judge::judge_sheet(tree, sheet)?;
+    if grammar::link::MOST_BITS + BEFORE_BODY < n {
+        return Err(Refused(Refusal::LongBody, 0));
     }
+    Ok(n)
 }
 
 // Judges a sheet of `tree` and writes its packet at the start of `room`. A refusal, 8 for a short room among them, writes nothing.
-fn tree_to_packet(tree: Tree, sheet: &[u8], room: &mut [u8]) -> Converted
-    ensures { record { answer = result; room = room.new } ≡ tree_to_packet tree sheet.now room.old }
+fn tree_to_packet(tree: Tree, sheet: &[u8], room: &mut [u8]) -> Result<u32, Refused<u32>>
+    ensures { record { answer = converted_as result; room = room.new } ≡ tree_to_packet tree sheet.now room.old }
 {
-    match counted(tree, sheet) {
-        SheetVerdict::Refused(r, place) => refused(r, place),
-        SheetVerdict::PacketBits(n) => {
-            let bits = n - BEFORE_BODY;
-            let bytes = (bits + 7) / 8;
-            let length = layout::HEADER_BYTES + bytes;
-            if room.len() < length {
-                return refused(SHORT_ROOM, 0);
-            }
-            let at = tree_header(tree, sheet, &mut room[..layout::HEADER_BYTES], bits as u32);
-            write_body(tree, sheet, at, &mut room[layout::HEADER_BYTES..], bytes);
-            done(length as u32)
-        }
+    let n = counted(tree, sheet)?;
+    let bits = n - BEFORE_BODY;
+    let bytes = (bits + 7) / 8;
+    let length = layout::HEADER_BYTES + bytes;
+    if room.len() < length {
+        return Err(Refused(Refusal::ShortRoom, 0));
     }
+    let at = tree_header(tree, sheet, &mut room[..layout::HEADER_BYTES], bits as u32);
+    write_body(tree, sheet, at, &mut room[layout::HEADER_BYTES..], bytes);
+    Ok(length as u32)
 }
 
 // Returns the tree that the sheet's first number names: a journey for 4, a segment for any other number or for none.
@@ -115,8 +106,8 @@ fn tree_of(sheet: &[u8]) -> Tree
     ensures { result ≡ tree_of_sheet sheet.now }
 {
     match numbers::number_at(sheet, 0) {
-        Number::Bad => Tree::Segment,
-        Number::Value(a) => grammar::link::tree_of(a),
+        Some(a) => grammar::link::tree_of(a),
+        None => Tree::Segment,
     }
 }
 
@@ -124,5 +115,5 @@ fn tree_of(sheet: &[u8]) -> Tree
 pub fn sheet_to_packet(sheet: &[u8], room: &mut [u8]) -> Converted
     ensures { record { answer = result; room = room.new } ≡ sheet_to_packet sheet.now room.old }
 {
-    tree_to_packet(tree_of(sheet), sheet, room)
+    Converted::from(tree_to_packet(tree_of(sheet), sheet, room))
 }

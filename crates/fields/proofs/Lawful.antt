@@ -44,7 +44,7 @@ raised_small {k} w v e = omega (arith, w.top (k.raise v) v (w.back v e), w.short
 
 when_some : {C : Type 0} (b : Bool) (a v : ℕ) → when b a ≡ some v → (b ≡ true → a ≡ v → C) → C
 when_some true a v e f = f refl (cc)
-when_some false a v e f = absurd (let z : ◌≡◌ {A = ℕ} 0 1 = cc in omega arith)
+when_some false a v e f = cc
 
 -- ---- one number in both media
 

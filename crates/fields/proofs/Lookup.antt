@@ -1,29 +1,12 @@
 -- A table looked up, one entry after the other; and its rule: a figure stands where it is found, and its place is found again.
-use Rattle.std.proofs.Common.{◌≡◌, ℕ, zero, suc, ◌+◌, ◌-◌, ◌<◌, ◌≤◌, Bool, true, false, not, ◌&&◌, eqb, List, [], ◌∷◌, length, get_or, drop, sym, refl, ap, ◌∙◌, add-one, arith, drop_of_length-le, drop-cons, eq-eqb, ne_eqb, eqb-true}
-use mathlib.Core.Option.{none, some}
+use Rattle.std.proofs.Common.{◌≡◌, ℕ, zero, suc, ◌+◌, ◌-◌, ◌<◌, ◌≤◌, Bool, true, false, not, ◌&&◌, eqb, List, [], ◌∷◌, length, get_or, sym, refl, ap, ◌∙◌, arith, eq-eqb, ne_eqb, eqb-true}
+use mathlib.Core.Option.{some}
 use Rattle.bits.proofs.Tests.{by_cases, and_left, and_right}
 use Rattle.kinds.specs.Tables.{cant_figures, volts, greatest, place}
 
--- ---- from the entry i on
-
-module _ (table : List ℕ) (a i : ℕ) where
-  pub place_here : i < length table → a ≡ get_or table i 0 → place i (drop i table) a ≡ some i
-  unfolding place
-  place_here h e = rw (drop-cons table i 0 h, eq-eqb a (get_or table i 0) e)
-
-  pub place_more : i < length table → (a ≡ get_or table i 0 → ⊥) → place (i + 1) (drop (i + 1) table) a ≡ place i (drop i table) a
-  unfolding place
-  place_more h n = rw (drop-cons table i 0 h, ne_eqb a (get_or table i 0) n, add-one i)
-
-  pub place_none : length table ≤ i → place i (drop i table) a ≡ none
-  unfolding place
-  place_none h = rw (drop_of_length-le table h)
-
--- ---- the rule
-
 pub place_small : (i : ℕ) (table : List ℕ) (a v : ℕ) → place i table a ≡ some v → v < i + length table
 unfolding place
-place_small i [] a v e = absurd (let z : ◌≡◌ {A = ℕ} 0 1 = cc in omega arith)
+place_small i [] a v e = cc
 place_small i (t ∷ ts) a v e =
     by_cases (eqb a t)
     (λ d. let f : some i ≡ some v = rw d at e in let q : i ≡ v = cc in omega arith)
@@ -31,7 +14,7 @@ place_small i (t ∷ ts) a v e =
 
 pub place_top : (i : ℕ) (table : List ℕ) (a v : ℕ) → place i table a ≡ some v → a ≤ greatest table
 unfolding place
-place_top i [] a v e = absurd (let z : ◌≡◌ {A = ℕ} 0 1 = cc in omega arith)
+place_top i [] a v e = cc
 place_top i (t ∷ ts) a v e =
     by_cases (eqb a t)
     (λ d. omega (arith, eqb-true a t d))
@@ -51,7 +34,7 @@ absent_at a [] t v h e = omega arith
 absent_at a (x ∷ xs) t zero h e =
     let n : not (eqb a x) ≡ true = and_left (not (eqb a x)) (absent a xs) t in
     let f : false ≡ true = rw (eq-eqb a x (sym e)) at n in
-    let z : ◌≡◌ {A = ℕ} 0 1 = cc in omega arith
+    cc
 absent_at a (x ∷ xs) t (suc v) h e = absent_at a xs (and_right (not (eqb a x)) (absent a xs) t) v (omega arith) e
 
 found_again : (i : ℕ) (table : List ℕ) → distinct table ≡ true → (v : ℕ) → v < length table → place i table (get_or table v 0) ≡ some (i + v)
@@ -81,7 +64,7 @@ volts_distinct = and_right (distinct cant_figures) (distinct volts) tables_disti
 -- a figure stands where it is found
 pub place_stands : (i : ℕ) (table : List ℕ) (a v : ℕ) → place i table a ≡ some v → get_or table (v - i) 0 ≡ a
 unfolding place
-place_stands i [] a v e = absurd (let z : ◌≡◌ {A = ℕ} 0 1 = cc in omega arith)
+place_stands i [] a v e = cc
 place_stands i (t ∷ ts) a v e =
     by_cases (eqb a t)
     (λ d. let f : some i ≡ some v = rw d at e in
@@ -94,7 +77,7 @@ place_stands i (t ∷ ts) a v e =
     rw z (place_stands (suc i) ts a v h))
   where
     place_from_lem : (j : ℕ) (us : List ℕ) (b w : ℕ) → place j us b ≡ some w → j ≤ w
-    place_from_lem j [] b w p = absurd (let z : ◌≡◌ {A = ℕ} 0 1 = cc in omega arith)
+    place_from_lem j [] b w p = cc
     place_from_lem j (u ∷ us) b w p =
         by_cases (eqb b u)
         (λ d. let f : some j ≡ some w = rw d at p in let q : j ≡ w = cc in omega arith)

@@ -11,26 +11,20 @@ ghost use Rattle.std.specs.Prelude.{◌≡◌};
 ghost use Rattle.kinds.specs.internal.Rules.{meaning};
 
 use kinds::Rule;
-use kinds::body::{MCurrent, VStatic};
+use kinds::body::{DLocation, MCurrent, MVoltage, NcCdDiff, VStatic};
+use kinds::header::NidOperational;
 
 // Returns how many bits a field of the rule `rule` has in a packet.
 pub fn width(rule: Rule) -> u32
     ensures { result ≡ (meaning rule).width }
 {
     match rule {
-        Rule::Range {
-            width,
-            least: _,
-            largest: _,
-            refusal: _,
-        } => width,
-        Rule::Location { last: _, lsp: _ } => kinds::body::DLocation::WIDTH,
-        Rule::Operational => kinds::header::NidOperational::WIDTH,
+        Rule::Range { width, .. } => width,
+        Rule::Location { .. } | Rule::After { .. } => DLocation::WIDTH,
+        Rule::Operational => NidOperational::WIDTH,
         Rule::Speed => VStatic::WIDTH,
-        Rule::Current => MCurrent::WIDTH,
-        Rule::Cant => kinds::body::NcCdDiff::WIDTH,
-        Rule::Volts => kinds::body::MVoltage::WIDTH,
-        Rule::After { start: _ } => kinds::body::DLocation::WIDTH,
-        Rule::NoCurrent => MCurrent::WIDTH,
+        Rule::Current | Rule::NoCurrent => MCurrent::WIDTH,
+        Rule::Cant => NcCdDiff::WIDTH,
+        Rule::Volts => MVoltage::WIDTH,
     }
 }

@@ -5,7 +5,7 @@ ghost use Rattle.kinds.specs.Kinds.{speed, nc_cd_diff, nc_diff, class, m_voltage
 ghost use Rattle.fields.specs.internal.lower.Lowered.{lowered};
 
 use crate::tables;
-use kinds::body;
+use kinds::{UpTo, body};
 
 // Returned where a number has no value: one more than the field's bits hold.
 pub const NO_SPEED: u32 = 128;
@@ -22,9 +22,10 @@ pub fn speed_steps(a: u32) -> u32
 {
     let v = a / body::VStatic::STEP;
     if v <= body::VStatic::LARGEST {
-        return v;
+        v
+    } else {
+        NO_SPEED
     }
-    NO_SPEED
 }
 
 // Returns the NC_CDDIFF of the cant figure `a` mm.
@@ -34,14 +35,16 @@ fn cant_place(figures: &[u32; 11], a: u32) -> u32
     ensures { result ≡ lowered nc_cd_diff a }
 {
     let near = std::num::wrapping_sub_u32(a, 67) / 22;
-    let mut i: u32 = 0;
-    if near <= body::NcCdDiff::LARGEST {
-        i = near;
-    }
+    let i = if near <= body::NcCdDiff::LARGEST {
+        near
+    } else {
+        0
+    };
     if figures[i as usize] == a {
-        return i;
+        i
+    } else {
+        NO_CLASS
     }
-    NO_CLASS
 }
 
 // Returns the NC_DIFF of the category `a`.
@@ -49,9 +52,10 @@ fn category(a: u32) -> u32
     ensures { result ≡ lowered nc_diff a }
 {
     if a <= body::NcDiff::LARGEST {
-        return a;
+        a
+    } else {
+        NO_CLASS
     }
-    NO_CLASS
 }
 
 // Returns the class of a specific entry: the NC_CDDIFF of `a` where `q` (Q_DIFF) is 0, else its NC_DIFF.
@@ -62,25 +66,17 @@ pub fn class_place(figures: &[u32; 11], q: u32, a: u32) -> u32
 {
     let cant = cant_place(figures, a);
     let other = category(a);
-    if q == 0 {
-        return cant;
-    }
-    other
+    if q == 0 { cant } else { other }
 }
 
 // Returns the M_VOLTAGE of `a` volts.
 pub fn volts_place(a: u32) -> u32
     ensures { result ≡ lowered m_voltage a }
 {
-    let volts = tables::VOLTS;
-    let mut i: u32 = 0;
-    while i <= body::MVoltage::LARGEST {
-        if volts[i as usize] == a {
-            return i;
-        }
-        i += 1;
+    match tables::VOLTS.iter().position(|&figure| figure == a) {
+        Some(i) => i as u32,
+        None => NO_VOLTAGE,
     }
-    NO_VOLTAGE
 }
 
 // Returns the M_CURRENT of `a`, which is amperes + 1, in steps of 10 A; 0 is no limit.
@@ -92,7 +88,8 @@ pub fn current_steps(a: u32) -> u32
     }
     let v = (a - 1) / body::MCurrent::STEP;
     if v <= body::MCurrent::HIGHEST {
-        return v;
+        v
+    } else {
+        NO_CURRENT
     }
-    NO_CURRENT
 }

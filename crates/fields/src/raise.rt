@@ -18,10 +18,7 @@ pub fn speed(v: u32) -> u32
 fn chosen(so: bool, a: u32, b: u32) -> u32
     ensures { result ≡ (if so then a else b) }
 {
-    if so {
-        return a;
-    }
-    b
+    if so { a } else { b }
 }
 
 // Returns the number of a specific entry's class `v`: a cant figure in mm where `q_diff` is 0, else `v`.
@@ -40,8 +37,7 @@ pub fn volts(v: u32) -> u32
     requires { (kinds.m_voltage).allowed v ≡ true }
     ensures { result ≡ (kinds.m_voltage).raise v }
 {
-    let figures = tables::VOLTS;
-    figures[v as usize]
+    tables::VOLTS[v as usize]
 }
 
 // Returns the number of the M_CURRENT `v`: amperes + 1, or 0 for no limit.
@@ -50,7 +46,8 @@ pub fn current(v: u32) -> u32
     ensures { result ≡ (kinds.m_current).raise v }
 {
     if v == body::MCurrent::NO_LIMIT {
-        return 0;
+        0
+    } else {
+        v * body::MCurrent::STEP + 1
     }
-    v * body::MCurrent::STEP + 1
 }

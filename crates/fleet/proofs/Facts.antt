@@ -3,28 +3,32 @@ use mathlib.Core.Path.{◌≡◌, refl, sym, ap, ◌∙◌}
 use Prim.Native.Nat.{ℕ, zero, suc, ◌+◌, ◌≤◌, ◌<◌}
 use native.Mathlib.Numerals.{add-one}
 use native.Mathlib.Omega.{arith}
-use mathlib.Core.Bool.{Bool, true, false, not, cond}
+use mathlib.Core.Bool.{Bool, true, false, cond}
 use mathlib.Core.List.{List, [], ◌∷◌}
 use lib.Dec.{T, eqb, ltb, eqb→eq}
 use lib.ListN.{length, get_or, set}
 use borrow.Author.Tests.{ltb-true, ltb-false, eqb-true, eqb-false, ne_eqb}
 use Rattle.bits.proofs.Tests.{by_cases}
+use Rattle.std.specs.Prelude.{Result, Ok, Err}
 use Rattle.kinds.specs.declared.Item.{Item}
+use Rattle.kinds.specs.declared.refusals.Refusal.{Refusal}
+use Rattle.kinds.specs.declared.refusals.Refusal.TheVariants.{CardList}
+use Rattle.kinds.specs.Refusals.{refusal_number}
 use Rattle.format.specs.Format.{Read, accepted, refused, values_of}
 use Rattle.grammar.specs.segment.Segment.{wire_changes}
 use Rattle.grammar.specs.segment.Judgement.{from_packet}
 use Rattle.grammar.proofs.segment.Refusals.{packet_refusal}
 use Rattle.speed_packet.specs.internal.Asking.{AcceptedPacket}
 use Rattle.speed_question.specs.declared.Speed.{Speed}
-use Rattle.speed_question.specs.declared.run.Judged.TheVariants.{Accepted, Refused}
-use Rattle.speed_question.specs.Question.{Brought, no_speed, permitted_speed, read_as, lent, RunRead, in_front, judged_run, speed_of_run}
-use Rattle.speed_question.specs.internal.Run.{run_judged}
+use Rattle.speed_question.specs.Question.{Brought, no_speed, permitted_speed, read_as, RunRead, in_front, judged_run, speed_of_run}
+use Rattle.speed_question.specs.internal.Run.{was_accepted, all_accepted, AcceptedAs}
+use Rattle.speed_question.specs.internal.Asked.{judged}
 use Rattle.speed_question.proofs.Asked.{lent_asked}
 use Rattle.speed_question.proofs.Questions.{question_refused, question_accepted}
 use Rattle.fleet.specs.declared.Board.{Board}
 use Rattle.fleet.specs.declared.Card.{Card}
-use Rattle.fleet.specs.Fleet.{no_card, asked_of, named_in, moved_to, moved_if, moved, answer_of, no_board, alone, after, board_after}
-use Rattle.fleet.specs.internal.Turns.{judged_to, started_with, turned, came_to}
+use Rattle.fleet.specs.Fleet.{no_card, asked_of, named_in, moved_to, moved, answer_of, no_board, alone, after, board_after}
+use Rattle.fleet.specs.internal.Turns.{named_as, judged_to, started_with, turned, came_to}
 use Rattle.fleet.proofs.After.{alone_refusal, turned_stays, turned_on, after_first, after_stays}
 
 -- ---- how many cards are asked: at most all, and at most 64
@@ -47,21 +51,30 @@ pub named_within : (n c : ℕ) → named_in n c ≡ 0 → c < n
 unfolding named_in
 named_within n c e = let l = (asked_most n).0 in named_by (ltb c (asked_of n)) c n (λ t. let s = ltb-true c (asked_of n) t in omega arith) e
 
--- ---- the two outcomes of a change
-
-module _ (cards : List Card) (c z r : ℕ) (e : r ≡ named_in (length cards) c) where
+module _ (cards : List Card) (c r : ℕ) (e : r ≡ named_in (length cards) c) where
   pub found : T (eqb r 0) → c < length cards
   found t = let o : r ≡ 0 = eqb→eq r 0 t in named_within (length cards) c (cc)
 
-  pub moved_on : T (eqb r 0) → record { refusal = r; cards = set cards c (moved_to (get_or cards c no_card) z) } ≡ moved cards c z
-  moved_on t = let o : r ≡ 0 = eqb→eq r 0 t in rw (← e, o)
+-- ---- the two outcomes of a change
 
-  pub moved_off : T (not (eqb r 0)) → record { refusal = r; cards = cards } ≡ moved cards c z
-  moved_off t = rw (← e) (stays r t)
-    where
-      stays : (k : ℕ) → T (not (eqb k 0)) → record { refusal = k; cards = cards } ≡ moved_if k cards c z
-      stays zero u = absurd u
-      stays (suc k) u = refl
+module _ (n c : ℕ) where
+  pub named_ok : Ok tt ≡ named_as n c → named_in n c ≡ 0
+  unfolding named_in named_as
+  named_ok e = by_cases (ltb c (asked_of n)) (λ q. rw q) (λ q. absurd (let y : ◌≡◌ {A = Result (Unit {0}) Refusal} (Ok tt) (Err CardList) = rw q at e in let z : ◌≡◌ {A = ℕ} 0 1 = cc in omega arith))
+
+  pub named_err : {r : Refusal} → Err r ≡ named_as n c → (refusal_number r ≡ 20) × (named_in n c ≡ 20)
+  unfolding named_in named_as
+  named_err {r} e =
+      by_cases (ltb c (asked_of n))
+      (λ q. absurd (let y : ◌≡◌ {A = Result (Unit {0}) Refusal} (Err r) (Ok tt) = rw q at e in let z : ◌≡◌ {A = ℕ} 0 1 = cc in omega arith))
+      (λ q. let y : ◌≡◌ {A = Result (Unit {0}) Refusal} (Err r) (Err CardList) = rw q at e in let i : r ≡ CardList = cc in (rw i, rw q))
+
+module _ (cards : List Card) (c z : ℕ) where
+  pub moved_on : Ok tt ≡ named_as (length cards) c → record { refusal = 0; cards = set cards c (moved_to (get_or cards c no_card) z) } ≡ moved cards c z
+  moved_on e = rw (named_ok (length cards) c e)
+
+  pub moved_off : {r : Refusal} → Err r ≡ named_as (length cards) c → {n : ℕ} → n ≡ refusal_number r → record { refusal = n; cards = cards } ≡ moved cards c z
+  moved_off e q = let w = named_err (length cards) c e in rw (q, w.0, w.1)
 
 -- ---- the packet, judged once
 
@@ -78,33 +91,35 @@ answer_is s c = refl
 pub answer_refused : (s : List ℕ) (c : Card) {q place : ℕ} → from_packet wire_changes s ≡ refused q place → answer_of s c ≡ no_speed q place
 unfolding answer_of
 answer_refused s c {q} {place} e =
-    let one : Refused q place ≡ run_judged (judged_run (read_as Brought.packet) (s ∷ [])) = sym (ap (λ (r : Read). run_judged (in_front r (RunRead.accepted []))) e) in
-    sym (question_refused no_speed (speed_of_run c.train c.location) 0 1 (lent 1 s s s s) (lent_asked 0 1 s s s s c.train c.location) (omega arith) (omega arith) (omega arith) one)
+    let one : judged_run (read_as Brought.packet) (s ∷ []) ≡ RunRead.refused q place = ap (λ (r : Read). in_front r (RunRead.accepted [])) e in
+    lent_asked 0 1 s s s s c.train c.location ∙ sym (question_refused no_speed (speed_of_run c.train c.location) 0 1 (s ∷ s ∷ s ∷ s ∷ []) (judged Brought.packet refl refl one))
 
 -- of an accepted packet each card is answered by its train and location
 pub answer_accepted : (s : List ℕ) (c : Card) {l : List Item} → from_packet wire_changes s ≡ accepted l → answer_of s c ≡ speed_of_run c.train c.location (l ∷ [])
 unfolding answer_of
 answer_accepted s c {l} e =
-    let one : Accepted ≡ run_judged (judged_run (read_as Brought.packet) (s ∷ [])) = sym (ap (λ (r : Read). run_judged (in_front r (RunRead.accepted []))) e) in
-    sym (question_accepted no_speed (speed_of_run c.train c.location) 0 1 (lent 1 s s s s) (lent_asked 0 1 s s s s c.train c.location) (omega arith) (omega arith) (omega arith) one) ∙ ap (λ (r : Read). speed_of_run c.train c.location (values_of r ∷ [])) e
+    let one : AcceptedAs Brought.packet s = e ∙ ap accepted (sym (ap values_of e)) in
+    lent_asked 0 1 s s s s c.train c.location
+    ∙ sym (question_accepted no_speed (speed_of_run c.train c.location) 0 1 (s ∷ s ∷ s ∷ s ∷ []) Brought.packet refl refl (one, tt))
+    ∙ ap (λ (r : Read). speed_of_run c.train c.location (values_of r ∷ [])) e
 
 module _ (n : ℕ) (some : n ≡ 0 → ⊥) (s : List ℕ) where
   started_judged : started_with n s ≡ judged_to (from_packet wire_changes s)
   unfolding started_with
   started_judged = rw (ne_eqb n 0 some)
 
-  pub started_refused : {q place : ℕ} → Refused q place ≡ run_judged (judged_run (read_as Brought.packet) (s ∷ [])) → no_board q place ≡ started_with n s
+  pub started_refused : {q place : ℕ} → judged_run (read_as Brought.packet) (s ∷ []) ≡ RunRead.refused q place → no_board q place ≡ started_with n s
   started_refused {q} {place} e = go (from_packet wire_changes s) e ∙ sym started_judged
     where
-      go : (r : Read) → Refused q place ≡ run_judged (in_front r (RunRead.accepted [])) → no_board q place ≡ judged_to r
+      go : (r : Read) → in_front r (RunRead.accepted []) ≡ RunRead.refused q place → no_board q place ≡ judged_to r
       go (refused a p) d = let i : q ≡ a = cc in let j : place ≡ p = cc in rw (i, j)
-      go (accepted l) d = absurd (let z : ◌≡◌ {A = ℕ} 0 1 = cc in omega arith)
+      go (accepted l) d = absurd (cc)
 
-  pub started_accepted : Accepted ≡ run_judged (judged_run (read_as Brought.packet) (s ∷ [])) → no_board 0 0 ≡ started_with n s
+  pub started_accepted : all_accepted Brought.packet (s ∷ []) ≡ true → no_board 0 0 ≡ started_with n s
   started_accepted e = go (from_packet wire_changes s) e ∙ sym started_judged
     where
-      go : (r : Read) → Accepted ≡ run_judged (in_front r (RunRead.accepted [])) → no_board 0 0 ≡ judged_to r
-      go (refused a p) d = absurd (let z : ◌≡◌ {A = ℕ} 0 1 = cc in omega arith)
+      go : (r : Read) → was_accepted (in_front r (RunRead.accepted [])) ≡ true → no_board 0 0 ≡ judged_to r
+      go (refused a p) d = absurd (cc)
       go (accepted l) d = refl
 
 pub started_none : (n : ℕ) (s : List ℕ) → n ≡ 0 → no_board 20 0 ≡ started_with n s

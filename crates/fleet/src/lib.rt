@@ -5,13 +5,14 @@
 
 ghost use Rattle.std.specs.Prelude.{◌≡◌, ◌<◌};
 ghost use Rattle.speed_packet.specs.internal.Asking.{AcceptedPacket};
-ghost use Rattle.fleet.specs.Fleet.{no_board, asked_of, named_in, moved, answer_of, alone, board};
-ghost use Rattle.fleet.specs.internal.Turns.{started_with, turned};
+ghost use Rattle.fleet.specs.Fleet.{no_board, asked_of, moved, answer_of, alone, board};
+ghost use Rattle.fleet.specs.internal.Turns.{named_as, started_with, turned};
 
-use kinds::refusals::CARD_LIST;
+use kinds::refusals::{Refusal, Refused};
 use speed::Train;
 use speed_question::Speed;
-use speed_question::run::Judged;
+use speed_question::medium::Medium;
+use speed_question::run::Run;
 
 // A train, and its location in cm from the start of the packet's segment.
 #[repr(C)]
@@ -71,18 +72,11 @@ pub fn started(n: usize, packet: &[u8]) -> Board
     ensures { result ≡ started_with n packet.now }
 {
     if n == 0 {
-        return refused(CARD_LIST, 0);
+        return refused(u32::from(Refusal::CardList), 0);
     }
-    match speed_question::run::judge_run(
-        speed_question::run::PACKET,
-        1,
-        packet,
-        packet,
-        packet,
-        packet,
-    ) {
-        Judged::Refused(r, place) => refused(r, place),
-        Judged::Accepted => refused(0, 0),
+    match Run::judged(Medium::Packet, &[packet]) {
+        Err(Refused(r, place)) => refused(u32::from(r), place),
+        Ok(_) => refused(0, 0),
     }
 }
 
@@ -112,31 +106,30 @@ pub fn next(packet: &[u8], best: Board, i: usize, card: Card) -> Board
 pub fn asked(n: usize) -> usize
     ensures { result ≡ asked_of n }
 {
-    if MOST < n {
-        return 0;
-    }
-    n
+    if MOST < n { 0 } else { n }
 }
 
-// Returns 20 if a list of `n` cards is empty, has more than 64 or has no card of the number `card`, else 0.
-fn named(n: usize, card: u32) -> u32
-    ensures { result ≡ named_in n card }
+// Refuses with 20 a list of `n` cards that is empty, has more than 64 or has no card of the number `card`.
+fn named(n: usize, card: u32) -> Result<(), Refusal>
+    ensures { result ≡ named_as n card }
 {
     if (card as usize) < asked(n) {
-        return 0;
+        return Ok(());
     }
-    CARD_LIST
+    Err(Refusal::CardList)
 }
 
 // Changes the location of the card with the number `card`; all else of the list stays as it was. Answers 0; or 20, and then changes nothing.
 pub fn fleet_move(cards: &mut [Card], card: u32, location: u32) -> u32
     ensures { record { refusal = result; cards = cards.new } ≡ moved cards.old card location }
 {
-    let refusal = named(cards.len(), card);
-    if refusal == 0 {
-        cards[card as usize].location = location;
+    match named(cards.len(), card) {
+        Ok(()) => {
+            cards[card as usize].location = location;
+            0
+        }
+        Err(refusal) => u32::from(refusal),
     }
-    refusal
 }
 
 // Answers the number and the permitted speed of the first card with the lowest permitted speed on the packet's segment, or a refusal.
@@ -145,10 +138,8 @@ pub fn fleet_lowest(cards: &[Card], packet: &[u8]) -> Board
 {
     let n = asked(cards.len());
     let mut best = started(n, packet);
-    let mut i: usize = 0;
-    while i < n {
-        best = next(packet, best, i, cards[i]);
-        i += 1;
+    for (i, card) in cards[..n].iter().enumerate() {
+        best = next(packet, best, i, *card);
     }
     best
 }

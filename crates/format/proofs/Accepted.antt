@@ -7,7 +7,7 @@ use Rattle.kinds.specs.declared.Item.{Item}
 use Rattle.kinds.specs.Kind.{Kind}
 use Rattle.format.specs.Format.{Format, field, accepted, Medium, follow, read}
 use Rattle.format.specs.internal.Places.{Taken}
-use Rattle.format.proofs.Generic.{never, with_accepted}
+use Rattle.format.proofs.Generic.{with_accepted}
 use Rattle.format.proofs.Passing.{Seen, step_at}
 
 module _ {A : Type 0} (m : Medium A) (view : ℕ → List A) (took : Kind → ℕ → Taken) where
@@ -27,4 +27,4 @@ module _ {A : Type 0} (m : Medium A) (view : ℕ → List A) (took : Kind → �
       go (Taken.Is i to) d f =
           let (v, p, q) = with_accepted i (read m (next i.packet) to (view to)) l (rw (d, seen.moves k at h d) at f) in
           record { item = i; to = to; values = v; takes = d; reads = p; is = q }
-      go (Taken.Refused r) d f = absurd (never (rw d at f))
+      go (Taken.Refused r) d f = cc (rw d at f)

@@ -2,7 +2,6 @@
 use mathlib.Core.Path.{◌≡◌, refl, ap, ◌∙◌}
 use mathlib.Core.List.{List, [], ◌∷◌, ◌++◌}
 use Prim.Native.Nat.{ℕ, ◌+◌}
-use native.Mathlib.Omega.{arith}
 use lib.ListN.{length}
 use Rattle.kinds.specs.declared.Item.{Item}
 use Rattle.kinds.specs.Kind.{Kind}
@@ -15,15 +14,15 @@ pub record LawfulMedium {A : Type 0} (m : Medium A) (Good : Kind → Item → Ty
   pub only : (k : Kind) (s : List A) (i : Item) (t : List A) → Ok s → m.take k s ≡ step i t → Good k i × (s ≡ m.put k i ++ t) × Ok t
 
 pub never : {r n : ℕ} {l : List Item} → refused r n ≡ accepted l → ⊥
-never e = let z : ◌≡◌ {A = ℕ} 0 1 = cc in omega arith
+never e = cc
 
 pub with_accepted : (i : Item) (r : Read) (l : List Item) → with i r ≡ accepted l → (t : List Item) × (r ≡ accepted t) × (l ≡ i ∷ t)
 with_accepted i (accepted t) l e = (t, refl, cc)
-with_accepted i (refused r n) l e = absurd (never e)
+with_accepted i (refused r n) l e = cc
 
 follow_accepted : {A : Type 0} (n : ℕ) (r : FieldStep A) (next : Item → List A → Read) (l : List Item) → follow n r next ≡ accepted l
     → (i : Item) × (s : List A) × (t : List Item) × (r ≡ step i s) × (next i s ≡ accepted t) × (l ≡ i ∷ t)
-follow_accepted n (stopped_with r) next l e = absurd (never e)
+follow_accepted n (stopped_with r) next l e = cc
 follow_accepted n (step i s) next l e = let p = with_accepted i (next i s) l e in (i, s, p.0, refl, p.1, p.2)
 
 module _ {A : Type 0} (m : Medium A) (Good : Kind → Item → Type 0) (Ok : List A → Type 0) (law : LawfulMedium m Good Ok) where
@@ -36,8 +35,8 @@ module _ {A : Type 0} (m : Medium A) (Good : Kind → Item → Type 0) (Ok : Lis
   -- what is accepted is what is written of conforming values, and nothing else
   pub write_read : (f : Format) (at : ℕ) (s : List A) (l : List Item) → Ok s → read m f at s ≡ accepted l → Conforming Good f l × (s ≡ write m f l)
   write_read end at [] [] ok e = (done, refl)
-  write_read end at [] (i ∷ l) ok e = absurd (let z : ◌≡◌ {A = ℕ} 0 1 = cc in omega arith)
-  write_read end at (x ∷ s) l ok e = absurd (never e)
+  write_read end at [] (i ∷ l) ok e = cc
+  write_read end at (x ∷ s) l ok e = cc
   write_read (field k next) at s l ok e =
       let (i, t, u, p, q, c) = follow_accepted at (m.take k s) (λ j v. read m (next j.packet) (at + length (m.put k j)) v) l e in
       let g = law.only k s i t ok p in

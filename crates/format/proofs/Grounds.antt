@@ -14,13 +14,12 @@ use lib.Seq.{take_at, length-take-le}
 use Rattle.bits.specs.Bits.{Bytes, bits_of, number}
 use Rattle.bits.proofs.Tests.{by_cases}
 use Rattle.bits.proofs.Spelling.{length_bits, number_bits, number_small, bits_number}
-use Rattle.numbers.specs.declared.Number.{Number}
-use Rattle.numbers.specs.declared.Number.TheVariants.{Value, Bad}
+use Rattle.std.specs.Prelude as std
+use Rattle.std.specs.Prelude.{Some, None}
 use Rattle.numbers.specs.Numbers.{number_in, groups_in}
 use Rattle.numbers.proofs.Reading.{number_again, number_only}
 use Rattle.kinds.specs.declared.Item.{Item}
-use Rattle.kinds.specs.declared.Field.{Field}
-use Rattle.kinds.specs.declared.Field.TheVariants.{Is, Refused}
+use Rattle.std.specs.Prelude.{Result, Ok, Err}
 use Rattle.kinds.specs.Kind.{Kind}
 use Rattle.kinds.specs.Judged.{value_in_packet, number_in_sheet, field_with}
 use Rattle.format.specs.Format.{Format, end, field, Read, accepted, refused, FieldStep, step, stopped_with, Medium, with, follow, read, write}
@@ -68,7 +67,7 @@ judged {Values} {On} j values on = record {
     same e = cc
 
 with_refused : {C : Type 0} (i : Item) (t : Read) (r n : ℕ) → with i t ≡ refused r n → (t ≡ refused r n → C) → C
-with_refused i (accepted l) r n e k = absurd (never (sym e))
+with_refused i (accepted l) r n e k = cc
 with_refused i (refused q m) r n e k = k e
 
 -- what was refused, at this field or after it
@@ -118,7 +117,7 @@ module _ {A : Type 0} {m : Medium A} {Good : Kind → Item → Type 0} {Fault : 
     })
 
   ground : (f : Format) (at : ℕ) (s : List A) (r place : ℕ) → Ok s → read m f at s ≡ refused r place → Ground m Good Fault f at s r place
-  ground end at [] r place ok e = absurd (never (sym e))
+  ground end at [] r place ok e = cc
   ground end at (x ∷ s) r place ok e =
       let p : at ≡ place = cc in
       left_over (record { values = []; good = done; rest = x ∷ s; whole = refl; some = omega arith; number = cc; stands = omega arith })
@@ -173,9 +172,9 @@ module _ {A : Type 0} {m : Medium A} {Good : Kind → Item → Type 0} {Fault : 
 -- ---- the two media
 
 -- a field that was judged and refused
-stepped_stop : {A C : Type 0} (f : Field) (s : List A) (r : ℕ) → stepped f s ≡ stopped_with r → (f ≡ Refused r → C) → C
-stepped_stop (Is i) s r e k = absurd (let z : ◌≡◌ {A = ℕ} 0 1 = cc in omega arith)
-stepped_stop (Refused q) s r e k = let p : q ≡ r = cc in k (rw p)
+stepped_stop : {A C : Type 0} (f : Result Item ℕ) (s : List A) (r : ℕ) → stepped f s ≡ stopped_with r → (f ≡ Err r → C) → C
+stepped_stop (Ok i) s r e k = cc
+stepped_stop (Err q) s r e k = let p : q ≡ r = cc in k (rw p)
 
 -- bits
 
@@ -187,9 +186,9 @@ bits_stops k s r ok e =
     (λ d. let f : ◌≡◌ {A = FieldStep Bool} (stopped_with 6) (stopped_with r) = rw d at e in BitsFault.unfitting (ltb-true (length s) w d) (cc))
     λ d. stepped_stop (value_in_packet k v) (drop w s) r (rw d at e) λ p.
     by_cases (k.allowed v)
-    (λ a. let f : Is (record { sheet = k.raise v; packet = v }) ≡ Refused r = rw a at p in absurd (let z : ◌≡◌ {A = ℕ} 0 1 = cc in omega arith))
+    (λ a. let f : Ok (record { sheet = k.raise v; packet = v }) ≡ Err r = rw a at p in cc)
     λ a.
-    let f : Refused (k.refusal v) ≡ Refused r = rw a at p in
+    let f : Err (k.refusal v) ≡ Err r = rw a at p in
     let n : length (take w s) ≡ w = length-take-le w s (ltb-false (length s) w d) in
     let fits : v < 2 ^ w = rw n at (number_small (take w s)) in
     let bits : bits_of w v ≡ take w s = rw n at (bits_number (take w s)) in
@@ -215,20 +214,20 @@ bits_faulting = record { stops = bits_stops; faults = bits_faults }
 
 -- groups
 
-lowered_none : {C : Type 0} (k : Kind) (a : ℕ) (o : Option ℕ) (r : ℕ) → field_with k a o ≡ Refused r → (o ≡ none → r ≡ k.refusal a → C) → C
+lowered_none : {C : Type 0} (k : Kind) (a : ℕ) (o : Option ℕ) (r : ℕ) → field_with k a o ≡ Err r → (o ≡ none → r ≡ k.refusal a → C) → C
 lowered_none k a none r e f = f refl (cc)
-lowered_none k a (some v) r e f = absurd (let z : ◌≡◌ {A = ℕ} 0 1 = cc in omega arith)
+lowered_none k a (some v) r e f = cc
 
 groups_stops : (k : Kind) (s : List ℕ) (r : ℕ) → Bytes s → take_groups k s ≡ stopped_with r → GroupsFault k s r
 groups_stops k s r ok e = go (number_in s) refl
   where
-    go : (n : Number) → number_in s ≡ n → GroupsFault k s r
-    go Bad d =
+    go : (n : std.Option ℕ) → number_in s ≡ n → GroupsFault k s r
+    go None d =
         let f : ◌≡◌ {A = FieldStep ℕ} (stopped_with 9) (stopped_with r) = rw d at e in
         GroupsFault.numberless (λ a b.
-        let v : number_in s ≡ Value a = rw b.whole (number_again a b.more b.below) in
-        let z : ◌≡◌ {A = ℕ} 0 1 = cc in omega arith) (cc)
-    go (Value a) d =
+        let v : number_in s ≡ Some a = rw b.whole (number_again a b.more b.below) in
+        cc) (cc)
+    go (Some a) d =
         stepped_stop (number_in_sheet k a) (drop (length (groups_in a)) s) r (rw d at e) λ p.
         lowered_none k a (k.lower a) r p λ l q.
         let b = number_only s a ok d in
@@ -237,13 +236,13 @@ groups_stops k s r ok e = go (number_in s) refl
 groups_faults : (k : Kind) (s : List ℕ) (r : ℕ) → Bytes s → GroupsFault k s r → take_groups k s ≡ stopped_with r
 groups_faults k s r ok (GroupsFault.numberless n e) = go (number_in s) refl
   where
-    go : (n : Number) → number_in s ≡ n → take_groups k s ≡ stopped_with r
-    go Bad d = rw (d, e)
-    go (Value a) d =
+    go : (n : std.Option ℕ) → number_in s ≡ n → take_groups k s ≡ stopped_with r
+    go None d = rw (d, e)
+    go (Some a) d =
         let b = number_only s a ok d in
         absurd (n a (record { below = b.small; more = drop (length (groups_in a)) s; whole = b.bytes }))
 groups_faults k s r ok (GroupsFault.unallowed a b l e) =
-    let d : number_in s ≡ Value a = rw b.whole (number_again a b.more b.below) in
+    let d : number_in s ≡ Some a = rw b.whole (number_again a b.more b.below) in
     rw (d, l, e)
 
 pub groups_faulting : Faulting sheet GroupsFault Bytes

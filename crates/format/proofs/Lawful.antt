@@ -4,7 +4,6 @@ use mathlib.Core.Bool.{Bool, true}
 use mathlib.Core.List.{List, [], ◌∷◌, ◌++◌}
 use mathlib.Core.Logic.{◌↔◌}
 use Prim.Native.Nat.{ℕ}
-use native.Mathlib.Omega.{arith}
 use Rattle.bits.specs.Bits.{bits_of}
 use Rattle.kinds.specs.declared.Item.{Item}
 use Rattle.kinds.specs.Kind.{Kind}
@@ -49,8 +48,8 @@ lowered_values (also {i = i} g c) = ap (λ (s : List ℕ). i.packet ∷ s) (lowe
 pub same_bits : (f : Format) (l m : List Item) → packet_values l ≡ packet_values m → write packet f l ≡ write packet f m
 same_bits end l m e = refl
 same_bits (field k next) [] [] e = refl
-same_bits (field k next) [] (j ∷ m) e = absurd (let z : ◌≡◌ {A = ℕ} 0 1 = cc in omega arith)
-same_bits (field k next) (i ∷ l) [] e = absurd (let z : ◌≡◌ {A = ℕ} 0 1 = cc in omega arith)
+same_bits (field k next) [] (j ∷ m) e = cc
+same_bits (field k next) (i ∷ l) [] e = cc
 same_bits (field k next) (i ∷ l) (j ∷ m) e =
     let p : i.packet ≡ j.packet = cc in
     let q : packet_values l ≡ packet_values m = cc in
@@ -60,8 +59,8 @@ same_bits (field k next) (i ∷ l) (j ∷ m) e =
 pub same_lowered : (f : Format) (l m : List Item) → packet_values l ≡ packet_values m → given_back f l ≡ given_back f m
 same_lowered end l m e = refl
 same_lowered (field k next) [] [] e = refl
-same_lowered (field k next) [] (j ∷ m) e = absurd (let z : ◌≡◌ {A = ℕ} 0 1 = cc in omega arith)
-same_lowered (field k next) (i ∷ l) [] e = absurd (let z : ◌≡◌ {A = ℕ} 0 1 = cc in omega arith)
+same_lowered (field k next) [] (j ∷ m) e = cc
+same_lowered (field k next) (i ∷ l) [] e = cc
 same_lowered (field k next) (i ∷ l) (j ∷ m) e =
     let p : i.packet ≡ j.packet = cc in
     let q : packet_values l ≡ packet_values m = cc in

@@ -13,36 +13,32 @@ use lib.Seq.{take_at, drop_at, drop-append_seam, length-take-le}
 use Rattle.bits.specs.Bits.{Bytes, bits_of, number}
 use Rattle.bits.proofs.Tests.{by_cases}
 use Rattle.bits.proofs.Spelling.{length_bits, number_bits, number_small, bits_number}
-use Rattle.numbers.specs.declared.Number.{Number}
-use Rattle.numbers.specs.declared.Number.TheVariants.{Value, Bad}
+use Rattle.std.specs.Prelude as std
+use Rattle.std.specs.Prelude.{Some, None}
 use Rattle.numbers.specs.Numbers.{number_in, groups_in}
 use Rattle.numbers.proofs.Reading.{number_again, number_only}
 use Rattle.kinds.specs.declared.Item.{Item}
-use Rattle.kinds.specs.declared.Field.{Field}
-use Rattle.kinds.specs.declared.Field.TheVariants.{Is, Refused}
+use Rattle.std.specs.Prelude.{Result, Ok, Err}
 use Rattle.kinds.specs.Kind.{Kind}
 use Rattle.kinds.specs.Judged.{value_in_packet, number_in_sheet, field_with}
-use Rattle.format.specs.Format.{Format, accepted, FieldStep, step, stopped_with, read, write}
+use Rattle.format.specs.Format.{Format, accepted, step, read, write}
 use Rattle.format.specs.Media.{stepped, take_bits, put_bits, packet, take_groups, put_groups, sheet}
 use Rattle.format.specs.Conforming.{Conforming, InPacket, InSheet}
 use Rattle.format.proofs.Generic.{LawfulMedium, read_write, write_read}
 
-stopped : {A C : Type 0} {r : ℕ} {i : Item} {t : List A} → ◌≡◌ {A = FieldStep A} (stopped_with r) (step i t) → C
-stopped e = absurd (let z : ◌≡◌ {A = ℕ} 0 1 = cc in omega arith)
-
 -- a field judged that went on
-stepped_on : {A C : Type 0} (f : Field) (s : List A) (i : Item) (t : List A) → stepped f s ≡ step i t → (f ≡ Is i → s ≡ t → C) → C
-stepped_on (Is j) s i t e k = k (cc) (cc)
-stepped_on (Refused r) s i t e k = stopped e
+stepped_on : {A C : Type 0} (f : Result Item ℕ) (s : List A) (i : Item) (t : List A) → stepped f s ≡ step i t → (f ≡ Ok i → s ≡ t → C) → C
+stepped_on (Ok j) s i t e k = k (cc) (cc)
+stepped_on (Err r) s i t e k = cc
 
 -- ---- bits
 
-from_packet_lem : {C : Type 0} (k : Kind) (v : ℕ) (i : Item) → value_in_packet k v ≡ Is i
+from_packet_lem : {C : Type 0} (k : Kind) (v : ℕ) (i : Item) → value_in_packet k v ≡ Ok i
     → (k.allowed v ≡ true → i ≡ record { sheet = k.raise v; packet = v } → C) → C
 from_packet_lem k v i e f =
     by_cases (k.allowed v)
-    (λ a. let h : Is (record { sheet = k.raise v; packet = v }) ≡ Is i = rw a at e in f a (cc))
-    (λ a. let h : Refused (k.refusal v) ≡ Is i = rw a at e in absurd (let z : ◌≡◌ {A = ℕ} 0 1 = cc in omega arith))
+    (λ a. let h : Ok (record { sheet = k.raise v; packet = v }) ≡ Ok i = rw a at e in f a (cc))
+    (λ a. let h : Err (k.refusal v) ≡ Ok i = rw a at e in cc)
 
 bits_again : (k : Kind) (i : Item) (s : List Bool) → InPacket k i → take_bits k (put_bits k i ++ s) ≡ step i s
 bits_again k i s g =
@@ -63,7 +59,7 @@ bits_only : (k : Kind) (s : List Bool) (i : Item) (t : List Bool) → Unit {0} �
 bits_only k s i t ok e =
     let w = k.width in
     let v = number (take w s) in
-    by_cases (ltb (length s) w) (λ d. stopped (rw d at e)) λ d.
+    by_cases (ltb (length s) w) (λ d. cc (rw d at e)) λ d.
     stepped_on (value_in_packet k v) (drop w s) i t (rw d at e) λ p q.
     from_packet_lem k v i p λ a j.
     let n : length (take w s) ≡ w = length-take-le w s (ltb-false (length s) w d) in
@@ -81,9 +77,9 @@ bytes_drop zero s ok = ok
 bytes_drop (suc n) [] ok = ok
 bytes_drop (suc n) (b ∷ s) ok = bytes_drop n s ok.1
 
-pub from_sheet_lem : {C : Type 0} (k : Kind) (a : ℕ) (o : Option ℕ) (i : Item) → k.lower a ≡ o → field_with k a o ≡ Is i
+pub from_sheet_lem : {C : Type 0} (k : Kind) (a : ℕ) (o : Option ℕ) (i : Item) → k.lower a ≡ o → field_with k a o ≡ Ok i
     → ((v : ℕ) → k.lower a ≡ some v → i ≡ record { sheet = a; packet = v } → C) → C
-from_sheet_lem k a none i d e f = absurd (let z : ◌≡◌ {A = ℕ} 0 1 = cc in omega arith)
+from_sheet_lem k a none i d e f = cc
 from_sheet_lem k a (some v) i d e f = f v d (cc)
 
 groups_again : (k : Kind) (i : Item) (s : List ℕ) → InSheet k i → take_groups k (put_groups k i ++ s) ≡ step i s
@@ -92,9 +88,9 @@ groups_again k i s g = rw (number_again i.sheet s g.fits, g.lowered, drop-append
 groups_only : (k : Kind) (s : List ℕ) (i : Item) (t : List ℕ) → Bytes s → take_groups k s ≡ step i t → InSheet k i × (s ≡ put_groups k i ++ t) × Bytes t
 groups_only k s i t ok e = go (number_in s) refl
   where
-    go : (r : Number) → number_in s ≡ r → InSheet k i × (s ≡ put_groups k i ++ t) × Bytes t
-    go Bad d = stopped (rw d at e)
-    go (Value a) d =
+    go : (r : std.Option ℕ) → number_in s ≡ r → InSheet k i × (s ≡ put_groups k i ++ t) × Bytes t
+    go None d = cc (rw d at e)
+    go (Some a) d =
         stepped_on (number_in_sheet k a) (drop (length (groups_in a)) s) i t (rw d at e) λ p q.
         from_sheet_lem k a (k.lower a) i refl p λ v l j.
         let r = number_only s a ok d in

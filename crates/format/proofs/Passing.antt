@@ -11,12 +11,10 @@ use Rattle.bits.specs.Bits.{bits_of_bytes, field_at}
 use Rattle.bits.proofs.Tests.{by_cases}
 use Rattle.bits.proofs.Spelling.{length_bits}
 use Rattle.bits.proofs.Fields.{drop_take}
-use Rattle.numbers.specs.declared.Number.{Number}
-use Rattle.numbers.specs.declared.Number.TheVariants.{Value, Bad}
+use Rattle.std.specs.Prelude.{Some, None, Option}
 use Rattle.numbers.specs.Numbers.{number_in, groups_in}
 use Rattle.kinds.specs.declared.Item.{Item}
-use Rattle.kinds.specs.declared.Field.{Field}
-use Rattle.kinds.specs.declared.Field.TheVariants as Judged
+use Rattle.std.specs.Prelude.{Result, Ok, Err}
 use Rattle.kinds.specs.Kind.{Kind}
 use Rattle.kinds.specs.Judged.{value_in_packet, number_in_sheet}
 use Rattle.format.specs.Format.{Format, end, field, Read, accepted, refused, FieldStep, step, stopped_with, Medium, with, follow, read, answer_of}
@@ -75,14 +73,14 @@ module _ {A X B : Type 0} {m : Medium A} {view : ℕ → List A} {took : Kind �
 
 -- ---- a packet's bits
 
-stepped_taken : {A : Type 0} (view : ℕ → List A) (f : Field) (to : ℕ) → media.stepped f (view to) ≡ step_at view (taken_at f to)
-stepped_taken view (Judged.Is i) to = refl
-stepped_taken view (Judged.Refused r) to = refl
+stepped_taken : {A : Type 0} (view : ℕ → List A) (f : Result Item ℕ) (to : ℕ) → media.stepped f (view to) ≡ step_at view (taken_at f to)
+stepped_taken view (Ok i) to = refl
+stepped_taken view (Err r) to = refl
 
 -- a value judged and taken: the value, and the place after it
-taken_is : {C : Type 0} (f : Field) (next : ℕ) {i : Item} {to : ℕ} → taken_at f next ≡ Taken.Is i to → (f ≡ Judged.Is i → next ≡ to → C) → C
-taken_is (Judged.Is j) next e k = k (cc) (cc)
-taken_is (Judged.Refused r) next e k = absurd (let z : ◌≡◌ {A = ℕ} 0 1 = cc in omega arith)
+taken_is : {C : Type 0} (f : Result Item ℕ) (next : ℕ) {i : Item} {to : ℕ} → taken_at f next ≡ Taken.Is i to → (f ≡ Ok i → next ≡ to → C) → C
+taken_is (Ok j) next e k = k (cc) (cc)
+taken_is (Err r) next e k = cc
 
 module _ (s : List ℕ) (end : ℕ) where
   bits_sees : (k : Kind) (at : ℕ) → Placed s at end → take_bits k (bits_between s at end) ≡ step_at (λ n. bits_between s n end) (bits_taken k s at end)
@@ -105,7 +103,7 @@ module _ (s : List ℕ) (end : ℕ) where
   bits_moves : (k : Kind) (at : ℕ) → Placed s at end → {i : Item} {to : ℕ} → bits_taken k s at end ≡ Taken.Is i to → at + length (put_bits k i) ≡ to
   bits_moves k at h {i} e =
       by_cases (ltb (end - at) k.width)
-      (λ d. absurd (let z : ◌≡◌ {A = Taken} (Taken.Refused 6) (Taken.Is i _) = rw d at e in let y : ◌≡◌ {A = ℕ} 0 1 = cc in omega arith))
+      (λ d. let z = rw d at e in cc)
       (λ d. taken_is (value_in_packet k (field_at s at k.width)) (at + k.width) (rw d at e) λ f n. rw (length_bits k.width i.packet) n)
 
   pub packet_seen : Seen packet (λ at. bits_between s at end) (λ k at. bits_taken k s at end) (λ at. Placed s at end)
@@ -117,16 +115,16 @@ module _ (s : List ℕ) where
   groups_sees : (k : Kind) (at : ℕ) → Unit {0} → take_groups k (drop at s) ≡ step_at (λ n. drop n s) (number_taken k s at)
   groups_sees k at h = go (number_in (drop at s))
     where
-      go : (x : Number) → media.numbered k x (drop at s) ≡ step_at (λ n. drop n s) (places.taken_of k at x)
-      go (Value a) = rw drop-drop (stepped_taken (λ n. drop n s) (number_in_sheet k a) (at + length (groups_in a)))
-      go Bad = refl
+      go : (x : Option ℕ) → media.numbered k x (drop at s) ≡ step_at (λ n. drop n s) (places.taken_of k at x)
+      go (Some a) = rw drop-drop (stepped_taken (λ n. drop n s) (number_in_sheet k a) (at + length (groups_in a)))
+      go None = refl
 
   groups_moves : (k : Kind) (at : ℕ) → Unit {0} → {i : Item} {to : ℕ} → number_taken k s at ≡ Taken.Is i to → at + length (put_groups k i) ≡ to
   groups_moves k at h {i} {to} = go (number_in (drop at s))
     where
-      go : (x : Number) → places.taken_of k at x ≡ Taken.Is i to → at + length (groups_in i.sheet) ≡ to
-      go (Value a) e = taken_is (number_in_sheet k a) (at + length (groups_in a)) e λ f n. from_sheet_lem k a (k.lower a) i refl f λ v l j. rw j n
-      go Bad e = absurd (let z : ◌≡◌ {A = ℕ} 0 1 = cc in omega arith)
+      go : (x : Option ℕ) → places.taken_of k at x ≡ Taken.Is i to → at + length (groups_in i.sheet) ≡ to
+      go (Some a) e = taken_is (number_in_sheet k a) (at + length (groups_in a)) e λ f n. from_sheet_lem k a (k.lower a) i refl f λ v l j. rw j n
+      go None e = cc
 
   pub sheet_seen : Seen sheet (λ at. drop at s) (λ k at. number_taken k s at) (λ at. Unit {0})
   sheet_seen = record { sees = groups_sees; moves = groups_moves }

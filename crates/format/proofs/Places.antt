@@ -9,7 +9,7 @@ use lib.ListN.{length, drop, length-drop}
 use lib.Seq.{length-take-le}
 use Rattle.bits.specs.Bits.{bits_of_bytes, field_at}
 use Rattle.bits.proofs.Padding.{length_bytes_lem}
-use Rattle.numbers.specs.declared.Number.TheVariants.{Value, Bad}
+use Rattle.std.specs.Prelude.{Some, None}
 use Rattle.numbers.specs.Numbers.{number_in, groups_in}
 use Rattle.kinds.specs.Kind.{Kind}
 use Rattle.kinds.specs.Judged.{value_in_packet, number_in_sheet}
@@ -22,10 +22,10 @@ module _ (k : Kind) (s : List ℕ) (at : ℕ) where
   pub bits_whole : (stop : ℕ) → k.width ≤ stop - at → taken_at (value_in_packet k (field_at s at k.width)) (at + k.width) ≡ bits_taken k s at stop
   bits_whole stop h = rw (le-ltb (stop - at) k.width h)
 
-  pub number_found : {a : ℕ} → number_in (drop at s) ≡ Value a → taken_at (number_in_sheet k a) (at + length (groups_in a)) ≡ number_taken k s at
+  pub number_found : {a : ℕ} → number_in (drop at s) ≡ Some a → taken_at (number_in_sheet k a) (at + length (groups_in a)) ≡ number_taken k s at
   number_found e = rw e
 
-  pub number_none : number_in (drop at s) ≡ Bad → Taken.Refused 9 ≡ number_taken k s at
+  pub number_none : number_in (drop at s) ≡ None → Taken.Refused 9 ≡ number_taken k s at
   number_none e = rw e
 
 -- ---- a packet's bits

@@ -1,20 +1,16 @@
 -- The two media: a packet's bits, and a sheet's groups.
-use Rattle.std.specs.Prelude.{Bool, cond, List, ℕ, ltb, length, take, drop}
+use Rattle.std.specs.Prelude.{Bool, cond, List, ℕ, ltb, length, take, drop, Result, Ok, Err, Some, None, Option}
 use Rattle.bits.specs.Bits.{bits_of, number}
-use Rattle.numbers.specs.declared.Number.{Number}
-use Rattle.numbers.specs.declared.Number.TheVariants.{Value, Bad}
 use Rattle.numbers.specs.Numbers.{number_in, groups_in, refusal_of}
 use Rattle.kinds.specs.declared.Item.{Item}
-use Rattle.kinds.specs.declared.Field.{Field}
-use Rattle.kinds.specs.declared.Field.TheVariants.{Is, Refused}
 use Rattle.kinds.specs.Kind.{Kind}
 use Rattle.kinds.specs.Judged.{value_in_packet, number_in_sheet}
 use Rattle.format.specs.Format.{FieldStep, step, stopped_with, Medium}
 
 -- "field by field in order": a field judged, and what is left after it
-abbrev pub stepped : {A : Type 0} → Field → List A → FieldStep A
-stepped (Is i) s = step i s
-stepped (Refused r) s = stopped_with r
+abbrev pub stepped : {A : Type 0} → Result Item ℕ → List A → FieldStep A
+stepped (Ok i) s = step i s
+stepped (Err r) s = stopped_with r
 
 -- "6: a field doesn't fit in the body's remaining bits", "6 before 4 or 5"
 abbrev pub take_bits : Kind → List Bool → FieldStep Bool
@@ -29,9 +25,9 @@ abbrev pub packet : Medium Bool
 packet = record { take = take_bits; put = put_bits; left = 13 }
 
 -- "9: sheet ends too soon, .. or a number is not in its shortest form", "9 before 2, 4 or 5"
-abbrev pub numbered : Kind → Number → List ℕ → FieldStep ℕ
-numbered k (Value a) s = stepped (number_in_sheet k a) (drop (length (groups_in a)) s)
-numbered k Bad s = stopped_with (refusal_of Bad)
+abbrev pub numbered : Kind → Option ℕ → List ℕ → FieldStep ℕ
+numbered k (Some a) s = stepped (number_in_sheet k a) (drop (length (groups_in a)) s)
+numbered k None s = stopped_with (refusal_of None)
 
 -- "A sheet is judged number by number"
 abbrev pub take_groups : Kind → List ℕ → FieldStep ℕ

@@ -4,12 +4,13 @@ pub mod layout;
 ghost use Rattle.std.specs.Prelude.{◌≡◌};
 ghost use Rattle.grammar.specs.internal.journey.Parts.{segment_widths, segment_most, arrival_widths, arrival_most, stopping_widths, stopping_most};
 
+use kinds::UpTo;
 use kinds::body::{MSpVersion, NidC, NidSp};
 use kinds::journey::{
     NidTp, QAutomaticClosing, QCentralisedOpening, QDayLightSaving, QOpeningDoorSide,
     QRelaxedCoupler, QSpDir, QStopSkipPasses, QTpAlignment, QTpInformation, QTrainHold,
     TArrivalWindow, TDepartureDate, TDepartureSeconds, TLatestArrivalDate, TLatestArrivalSeconds,
-    TMinimumDwellTime,
+    TMinimumDwellTime, UnlessPassing,
 };
 
 // Most temporary constraints: "up to 31 constraints per segment".
@@ -90,7 +91,7 @@ pub fn stopping_most(stop_skip_passes: u32) -> [u32; 10]
     ensures { result ≡ stopping_most stop_skip_passes }
 {
     if stop_skip_passes == QStopSkipPasses::PASSING {
-        return [
+        [
             QTpInformation::LARGEST,
             QDayLightSaving::LARGEST,
             0,
@@ -101,18 +102,19 @@ pub fn stopping_most(stop_skip_passes: u32) -> [u32; 10]
             0,
             0,
             0,
-        ];
+        ]
+    } else {
+        [
+            QTpInformation::LARGEST,
+            QDayLightSaving::LARGEST,
+            QOpeningDoorSide::LARGEST,
+            QCentralisedOpening::LARGEST,
+            QRelaxedCoupler::LARGEST,
+            QTrainHold::LARGEST,
+            TDepartureDate::LARGEST,
+            TDepartureSeconds::LARGEST,
+            TMinimumDwellTime::LARGEST,
+            QAutomaticClosing::LARGEST,
+        ]
     }
-    [
-        QTpInformation::LARGEST,
-        QDayLightSaving::LARGEST,
-        QOpeningDoorSide::LARGEST,
-        QCentralisedOpening::LARGEST,
-        QRelaxedCoupler::LARGEST,
-        QTrainHold::LARGEST,
-        TDepartureDate::LARGEST,
-        TDepartureSeconds::LARGEST,
-        TMinimumDwellTime::LARGEST,
-        QAutomaticClosing::LARGEST,
-    ]
 }

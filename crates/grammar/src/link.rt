@@ -5,7 +5,7 @@ ghost use Rattle.grammar.specs.link.Link.{tree_number, tree_of};
 use kinds::header;
 
 // The tree of a packet or sheet, which the packet number chooses.
-#[derive(Clone, Copy)]
+#[derive(Clone, Copy, Debug, PartialEq, Eq)]
 pub enum Tree {
     Segment,
     Journey,
@@ -14,7 +14,7 @@ pub enum Tree {
 // Most bits of a body: L_PACKET_ATO, which counts them, has 16 bits.
 pub const MOST_BITS: usize = 65535;
 
-// Returns the packet number of `tree`.
+// Returns the packet number of `tree`. No `From`: docs/CONTRACTS.md names this function, and `From` would only stand beside it.
 pub fn number(tree: Tree) -> u32
     ensures { result ≡ tree_number tree }
 {
@@ -24,12 +24,13 @@ pub fn number(tree: Tree) -> u32
     }
 }
 
-// Returns the tree of packet number `number`: a journey for 4, else a segment.
+// Returns the tree of packet number `number`: a journey for 4, else a segment. No `From`, since a number other than 4 and 6 is lost.
 pub fn tree_of(number: u32) -> Tree
     ensures { result ≡ tree_of number }
 {
     if number == header::NidPacketAto::JOURNEY {
-        return Tree::Journey;
+        Tree::Journey
+    } else {
+        Tree::Segment
     }
-    Tree::Segment
 }

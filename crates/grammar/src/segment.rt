@@ -4,11 +4,12 @@ pub mod layout;
 ghost use Rattle.std.specs.Prelude.{◌≡◌};
 ghost use Rattle.grammar.specs.internal.segment.Parts.{header_widths, header_most, identity_widths, identity_most, offset_widths, offset_most};
 
+use kinds::UpTo;
 use kinds::body::{DEoAOffset, MSpAltitude, MSpVersion, NidC, NidSp, QUtcOffset};
 use kinds::header::{NPacketCounter, NidEngine, TTimestampDate, TTimestampSeconds};
 
 // A part with a list of changes: the speed profile, the rated voltage, or the current limitation.
-#[derive(Clone, Copy)]
+#[derive(Clone, Copy, Debug, PartialEq, Eq)]
 pub enum Part {
     Speeds,
     Volts,

@@ -15,8 +15,7 @@ use Rattle.format.specs.Media.{sheet}
 use Rattle.grammar.specs.segment.Frame.{packet_number}
 use Rattle.grammar.specs.link.Link.{tree_of, from_either_packet}
 use Rattle.grammar.specs.internal.link.Trees.{tree_sheet_fields}
-use Rattle.verdict.specs.declared.PacketVerdict.{PacketVerdict}
-use Rattle.verdict.specs.internal.Verdict.{verdict_of, size_from, packet_verdict}
+use Rattle.verdict.specs.internal.Verdict.{Verdict, verdict_of, size_from, packet_verdict}
 use Rattle.convert.specs.declared.Converted.{Converted}
 use Rattle.convert.specs.Convert.{Outcome, packet_to_sheet}
 use Rattle.intake.specs.declared.Intake.{Intake}
@@ -68,22 +67,22 @@ module _ (i : Intake) (d room : List ℕ) where
 
 -- the state with the verdict follows from the judge's verdict
 module _ (n : ℕ) (s : List ℕ) where
-  abbrev said : Read → PacketVerdict
-  said q = verdict_of PacketVerdict.SheetBytes PacketVerdict.Refused (size_from sheet (tree_sheet_fields (tree_of (packet_number s))) 0) q
+  abbrev said : Read → Verdict
+  said q = verdict_of Verdict.sized Verdict.refused (size_from sheet (tree_sheet_fields (tree_of (packet_number s))) 0) q
 
-  refusing : {r place : ℕ} (q : Read) → PacketVerdict.Refused r place ≡ said q → judged_as n r place ≡ judged_of n q
+  refusing : {r place : ℕ} (q : Read) → Verdict.refused r place ≡ said q → judged_as n r place ≡ judged_of n q
   refusing {r} {place} (refused a b) e = let f : r ≡ a = cc in let g : place ≡ b = cc in rw (f, g)
   refusing (accepted l) e = absurd (let z : ◌≡◌ {A = ℕ} 0 1 = cc in omega arith)
 
-  accepting : {m : ℕ} (q : Read) → PacketVerdict.SheetBytes m ≡ said q → judged_as n 0 0 ≡ judged_of n q
+  accepting : {m : ℕ} (q : Read) → Verdict.sized m ≡ said q → judged_as n 0 0 ≡ judged_of n q
   accepting (refused a b) e = absurd (let z : ◌≡◌ {A = ℕ} 0 1 = cc in omega arith)
   accepting (accepted l) e = refl
 
-  pub refused_judged : {r place : ℕ} → PacketVerdict.Refused r place ≡ packet_verdict (tree_of (packet_number s)) s → judged_as n r place ≡ judged_of n (from_either_packet s)
+  pub refused_judged : {r place : ℕ} → Verdict.refused r place ≡ packet_verdict (tree_of (packet_number s)) s → judged_as n r place ≡ judged_of n (from_either_packet s)
   unfolding packet_verdict from_either_packet
   refused_judged e = refusing (from_either_packet s) e
 
-  pub accepted_judged : {m : ℕ} → PacketVerdict.SheetBytes m ≡ packet_verdict (tree_of (packet_number s)) s → judged_as n 0 0 ≡ judged_of n (from_either_packet s)
+  pub accepted_judged : {m : ℕ} → Verdict.sized m ≡ packet_verdict (tree_of (packet_number s)) s → judged_as n 0 0 ≡ judged_of n (from_either_packet s)
   unfolding packet_verdict from_either_packet
   accepted_judged e = accepting (from_either_packet s) e
 

@@ -7,8 +7,7 @@ ghost use Rattle.intake.specs.Intake.{gathering, passed, judged_as, gathered, ga
 
 use convert::{Converted, refused};
 use convert_packet::tree_of;
-use kinds::refusals::{BITS_LEFT, PACKET_LENGTH, SHORT_ROOM, TOO_EARLY};
-use verdict::PacketVerdict;
+use kinds::refusals::{Refusal, Refused};
 
 // State of an intake: its phase; how many bytes of a packet are in the room or were judged; the refusal of the verdict and its place, a bit of the packet.
 #[repr(C)]
@@ -20,7 +19,7 @@ pub struct Intake {
     pub place: u32,
 }
 
-// Phase in which the deliveries have passed the room's end.
+// Phase in which the deliveries have passed the room's end. A number and no enum: C keeps the state, and `gathered` takes every phase above 2 for 0.
 const PASSED: u32 = 1;
 
 // Phase after a verdict. In a phase that is neither 1 nor 2 the intake gathers bytes.
@@ -121,12 +120,12 @@ fn verdict(n: u32, room: &[u8]) -> Intake
     ensures { result ≡ completed (gathering n) room.now }
 {
     if room.len() < n as usize {
-        return judge(0, SHORT_ROOM, 0);
+        return judge(0, Refusal::ShortRoom as u32, 0);
     }
     let packet = &room[..n as usize];
     match packet_judge::judge_packet(tree_of(packet), packet) {
-        PacketVerdict::Refused(r, place) => judge(n, r, place),
-        PacketVerdict::SheetBytes(_) => judge(n, 0, 0),
+        Err(Refused(refusal, place)) => judge(n, u32::from(refusal), place),
+        Ok(_) => judge(n, 0, 0),
     }
 }
 
@@ -137,22 +136,18 @@ pub fn complete(intake: Intake, room: &[u8]) -> Intake
     if intake.phase != PASSED {
         return verdict(in_room(intake), room);
     }
-    judge(0, SHORT_ROOM, 0)
+    judge(0, Refusal::ShortRoom as u32, 0)
 }
 
 // Returns whether a completion can give this refusal at this place: 0 to 8 or 13, and with 0, 1, 2, 3 and 8 only the place 0.
 fn is_verdict(refusal: u32, place: u32) -> bool
     ensures { result ≡ is_verdict refusal place }
 {
-    if SHORT_ROOM < refusal {
-        return refusal == BITS_LEFT;
+    match refusal {
+        0..=3 | 8 => place == 0,
+        4..=7 | 13 => true,
+        _ => false,
     }
-    if PACKET_LENGTH < refusal {
-        if refusal < SHORT_ROOM {
-            return true;
-        }
-    }
-    place == 0
 }
 
 // Writes the sheet of the judged packet, the first `n` bytes of `taken`, into `room`; refuses with 14 if `taken` is shorter.
@@ -160,7 +155,7 @@ fn judged_sheet(n: u32, taken: &[u8], room: &mut [u8]) -> Converted
     ensures { record { answer = result; room = room.new } ≡ judged_sheet n taken.now room.old }
 {
     if taken.len() < n as usize {
-        return refused(TOO_EARLY, 0);
+        return refused(Refusal::TooEarly as u32, 0);
     }
     convert_packet::packet_to_sheet(&taken[..n as usize], room)
 }
@@ -171,7 +166,7 @@ pub fn sheet(intake: Intake, taken: &[u8], room: &mut [u8]) -> Converted
     ensures { record { answer = result; room = room.new } ≡ asked intake taken.now room.old }
 {
     if intake.phase != JUDGED {
-        return refused(TOO_EARLY, 0);
+        return refused(Refusal::TooEarly as u32, 0);
     }
     if is_verdict(intake.refusal, intake.place) {
         if intake.refusal == 0 {
@@ -179,5 +174,5 @@ pub fn sheet(intake: Intake, taken: &[u8], room: &mut [u8]) -> Converted
         }
         return refused(intake.refusal, intake.place);
     }
-    refused(TOO_EARLY, 0)
+    refused(Refusal::TooEarly as u32, 0)
 }

@@ -9,41 +9,41 @@ use native.Mathlib.Omega.{arith}
 use borrow.Author.Tests.{le-ltb, lt-leb}
 use lib.Dec.{ltb, leb-zero}
 use Rattle.bits.proofs.Tests.{by_cases}
-use Rattle.kinds.specs.declared.Field.TheVariants.{Is, Refused}
+use Rattle.std.specs.Prelude.{Ok, Err}
 use Rattle.kinds.specs.Tables.{place}
 use Rattle.kinds.specs.Kinds.{digit, digits, speed, nc_cd_diff, d_location, m_voltage, nid_c_traction, m_current}
 use Rattle.kinds.specs.Judged.{number_in_sheet}
 
 -- "604 gives 120 and 605 is refused"
-pub speed_604 : number_in_sheet speed 604 ≡ Is (record { sheet = 604; packet = 120 })
+pub speed_604 : number_in_sheet speed 604 ≡ Ok (record { sheet = 604; packet = 120 })
 speed_604 = refl
 
-pub speed_605 : number_in_sheet speed 605 ≡ Refused 4
+pub speed_605 : number_in_sheet speed 605 ≡ Err 4
 speed_605 = refl
 
 -- "84 must give 80, also 83"
-pub speed_84 : number_in_sheet speed 84 ≡ Is (record { sheet = 84; packet = 16 })
+pub speed_84 : number_in_sheet speed 84 ≡ Ok (record { sheet = 84; packet = 16 })
 speed_84 = refl
 
-pub speed_83 : number_in_sheet speed 83 ≡ Is (record { sheet = 83; packet = 16 })
+pub speed_83 : number_in_sheet speed 83 ≡ Ok (record { sheet = 83; packet = 16 })
 speed_83 = refl
 
 -- "10,009 A gives 1,000 and 10,010 A is refused": amperes + 1
-pub current_10009 : number_in_sheet m_current 10010 ≡ Is (record { sheet = 10010; packet = 1000 })
+pub current_10009 : number_in_sheet m_current 10010 ≡ Ok (record { sheet = 10010; packet = 1000 })
 current_10009 = refl
 
-pub current_10010 : number_in_sheet m_current 10011 ≡ Refused 4
+pub current_10010 : number_in_sheet m_current 10011 ≡ Err 4
 current_10010 = refl
 
 -- 0 A, "as 0 forbids all traction", against no limit
-pub current_0 : number_in_sheet m_current 1 ≡ Is (record { sheet = 1; packet = 0 })
+pub current_0 : number_in_sheet m_current 1 ≡ Ok (record { sheet = 1; packet = 0 })
 current_0 = refl
 
-pub current_none : number_in_sheet m_current 0 ≡ Is (record { sheet = 0; packet = 1023 })
+pub current_none : number_in_sheet m_current 0 ≡ Ok (record { sheet = 0; packet = 1023 })
 current_none = refl
 
 -- "002 also maps 600 V to 5; we have no such wire and refuse it"
-pub volts_600 : number_in_sheet m_voltage 600 ≡ Refused 4
+pub volts_600 : number_in_sheet m_voltage 600 ≡ Err 4
 unfolding place
 volts_600 = refl
 
@@ -67,12 +67,12 @@ operational_digit (suc i) (suc n) v h e =
     rw (operational_digit i n (v / 16) (omega arith) (rw d at e)) (and-false (digit (v % 16)))
 
 -- "NID_CTRACTION .. is 0 where the voltage is 0"
-pub traction_0 : (v : ℕ) → number_in_sheet (nid_c_traction 0) (suc v) ≡ Refused 4
+pub traction_0 : (v : ℕ) → number_in_sheet (nid_c_traction 0) (suc v) ≡ Err 4
 traction_0 v = rw (leb-zero (suc v), lt-leb (suc v) 0 (omega arith))
 
 -- "5: a change's location that does not rise, is 0, or is at or past L_SP, however large"
-pub location_low : (last lsp x : ℕ) → x ≤ last → number_in_sheet (d_location last lsp) x ≡ Refused 5
+pub location_low : (last lsp x : ℕ) → x ≤ last → number_in_sheet (d_location last lsp) x ≡ Err 5
 location_low last lsp x h = rw (le-ltb last x h)
 
-pub location_high_lem : (last lsp x : ℕ) → lsp ≤ x → number_in_sheet (d_location last lsp) x ≡ Refused 5
+pub location_high_lem : (last lsp x : ℕ) → lsp ≤ x → number_in_sheet (d_location last lsp) x ≡ Err 5
 location_high_lem last lsp x h = by_cases (ltb last x) (λ d. rw (d, le-ltb x lsp h)) (λ d. rw d)

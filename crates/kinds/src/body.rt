@@ -1,61 +1,63 @@
 // Field kinds of a segment's body, in packet order. `WIDTH` is in bits, `LARGEST` is the largest packet value.
-ghost use Rattle.std.specs.Prelude.{◌≡◌};
+ghost use Rattle.std.specs.Prelude.{◌≡◌, refl};
 ghost use Rattle.kinds.specs.Kinds.{nid_c, nid_sp, m_sp_version, l_sp, d_eoa_offset, q_utc_offset, m_sp_altitude, speed, q_front, n_iter, q_diff, nc_cd_diff, nc_diff, class, d_location, m_voltage, most_traction, nid_c_traction, m_current};
 ghost use Rattle.kinds.specs.internal.Rules.{Keeps, meaning};
 
-use crate::refusals::FIELD_VALUE;
-use crate::{Rule, up_to};
+use crate::refusals::Refusal;
+use crate::{Rule, UpTo, up_to};
 
 // NID_C, the number of the country or region.
-#[derive(Drop)]
 pub struct NidC;
 
-impl NidC {
-    pub const WIDTH: u32 = 10;
+impl UpTo for NidC {
+    const WIDTH: u32 = 10;
 
-    pub const LARGEST: u32 = 1023;
+    const LARGEST: u32 = 1023;
 
-    pub fn rule() -> Rule
-        ensures { Keeps nid_c Self.WIDTH Self.LARGEST result }
-    {
-        up_to(Self::WIDTH, Self::LARGEST)
-    }
+    ghost WIDTH = { 10 };
+
+    ghost LARGEST = { 1023 };
+
+    ghost kind = { nid_c };
+
+    ghost is = { refl };
 }
 
 // NID_SP, the number of the segment.
-#[derive(Drop)]
 pub struct NidSp;
 
-impl NidSp {
-    pub const WIDTH: u32 = 32;
+impl UpTo for NidSp {
+    const WIDTH: u32 = 32;
 
-    pub const LARGEST: u32 = 4294967295;
+    const LARGEST: u32 = 4294967295;
 
-    pub fn rule() -> Rule
-        ensures { Keeps nid_sp Self.WIDTH Self.LARGEST result }
-    {
-        up_to(Self::WIDTH, Self::LARGEST)
-    }
+    ghost WIDTH = { 32 };
+
+    ghost LARGEST = { 4294967295 };
+
+    ghost kind = { nid_sp };
+
+    ghost is = { refl };
 }
 
 // Half of M_SP_Version: the major or the minor version.
-#[derive(Drop)]
 pub struct MSpVersion;
 
-impl MSpVersion {
-    pub const WIDTH: u32 = 8;
+impl UpTo for MSpVersion {
+    const WIDTH: u32 = 8;
 
-    pub const LARGEST: u32 = 255;
+    const LARGEST: u32 = 255;
 
-    pub fn rule() -> Rule
-        ensures { Keeps m_sp_version Self.WIDTH Self.LARGEST result }
-    {
-        up_to(Self::WIDTH, Self::LARGEST)
-    }
+    ghost WIDTH = { 8 };
+
+    ghost LARGEST = { 255 };
+
+    ghost kind = { m_sp_version };
+
+    ghost is = { refl };
 }
 
 // L_SP, the length of the segment in cm.
-#[derive(Drop)]
 pub struct LSp;
 
 impl LSp {
@@ -73,61 +75,63 @@ impl LSp {
             width: Self::WIDTH,
             least: Self::LEAST,
             largest: Self::LARGEST,
-            refusal: FIELD_VALUE,
+            refusal: Refusal::FieldValue,
         }
     }
 }
 
 // D_EoA_Offset, in cm.
-#[derive(Drop)]
 pub struct DEoAOffset;
 
-impl DEoAOffset {
-    pub const WIDTH: u32 = 24;
+impl UpTo for DEoAOffset {
+    const WIDTH: u32 = 24;
 
-    pub const LARGEST: u32 = 16777215;
+    const LARGEST: u32 = 16777215;
 
-    pub fn rule() -> Rule
-        ensures { Keeps d_eoa_offset Self.WIDTH Self.LARGEST result }
-    {
-        up_to(Self::WIDTH, Self::LARGEST)
-    }
+    ghost WIDTH = { 24 };
+
+    ghost LARGEST = { 16777215 };
+
+    ghost kind = { d_eoa_offset };
+
+    ghost is = { refl };
 }
 
 // Q_UTC_Offset, a number without a unit.
-#[derive(Drop)]
 pub struct QUtcOffset;
 
-impl QUtcOffset {
-    pub const WIDTH: u32 = 7;
+impl UpTo for QUtcOffset {
+    const WIDTH: u32 = 7;
 
-    pub const LARGEST: u32 = 112;
+    const LARGEST: u32 = 112;
 
-    pub fn rule() -> Rule
-        ensures { Keeps q_utc_offset Self.WIDTH Self.LARGEST result }
-    {
-        up_to(Self::WIDTH, Self::LARGEST)
-    }
+    ghost WIDTH = { 7 };
+
+    ghost LARGEST = { 112 };
+
+    ghost kind = { q_utc_offset };
+
+    ghost is = { refl };
 }
 
 // M_SP_Altitude, in cm, with 100,000 added.
-#[derive(Drop)]
 pub struct MSpAltitude;
 
-impl MSpAltitude {
-    pub const WIDTH: u32 = 20;
+impl UpTo for MSpAltitude {
+    const WIDTH: u32 = 20;
 
-    pub const LARGEST: u32 = 1048575;
+    const LARGEST: u32 = 1048575;
 
-    pub fn rule() -> Rule
-        ensures { Keeps m_sp_altitude Self.WIDTH Self.LARGEST result }
-    {
-        up_to(Self::WIDTH, Self::LARGEST)
-    }
+    ghost WIDTH = { 20 };
+
+    ghost LARGEST = { 1048575 };
+
+    ghost kind = { m_sp_altitude };
+
+    ghost is = { refl };
 }
 
 // V_STATIC, or V_DIFF of a specific entry, in steps of 5 km/h.
-#[derive(Drop)]
 pub struct VStatic;
 
 impl VStatic {
@@ -145,23 +149,23 @@ impl VStatic {
 }
 
 // Q_FRONT of an element: 0 delays its end by the length of the train, 1 does not.
-#[derive(Drop)]
 pub struct QFront;
 
-impl QFront {
-    pub const WIDTH: u32 = 1;
+impl UpTo for QFront {
+    const WIDTH: u32 = 1;
 
-    pub const LARGEST: u32 = 1;
+    const LARGEST: u32 = 1;
 
-    pub fn rule() -> Rule
-        ensures { Keeps q_front Self.WIDTH Self.LARGEST result }
-    {
-        up_to(Self::WIDTH, Self::LARGEST)
-    }
+    ghost WIDTH = { 1 };
+
+    ghost LARGEST = { 1 };
+
+    ghost kind = { q_front };
+
+    ghost is = { refl };
 }
 
 // N_ITER, a count of entries, changes, timing points or temporary constraints, up to the limit of its list.
-#[derive(Drop)]
 pub struct NIter;
 
 impl NIter {
@@ -177,23 +181,23 @@ impl NIter {
 }
 
 // Q_DIFF of a specific entry, which says what the class of the entry means.
-#[derive(Drop)]
 pub struct QDiff;
 
-impl QDiff {
-    pub const WIDTH: u32 = 2;
+impl UpTo for QDiff {
+    const WIDTH: u32 = 2;
 
-    pub const LARGEST: u32 = 2;
+    const LARGEST: u32 = 2;
 
-    pub fn rule() -> Rule
-        ensures { Keeps q_diff Self.WIDTH Self.LARGEST result }
-    {
-        up_to(Self::WIDTH, Self::LARGEST)
-    }
+    ghost WIDTH = { 2 };
+
+    ghost LARGEST = { 2 };
+
+    ghost kind = { q_diff };
+
+    ghost is = { refl };
 }
 
 // NC_CDDIFF, the class of an entry with Q_DIFF 0: a place in the table of cant figures, from 0.
-#[derive(Drop)]
 pub struct NcCdDiff;
 
 impl NcCdDiff {
@@ -209,23 +213,23 @@ impl NcCdDiff {
 }
 
 // NC_DIFF, the class of an entry with Q_DIFF 1 or 2: a train category.
-#[derive(Drop)]
 pub struct NcDiff;
 
-impl NcDiff {
-    pub const WIDTH: u32 = 4;
+impl UpTo for NcDiff {
+    const WIDTH: u32 = 4;
 
-    pub const LARGEST: u32 = 2;
+    const LARGEST: u32 = 2;
 
-    pub fn rule() -> Rule
-        ensures { Keeps nc_diff Self.WIDTH Self.LARGEST result }
-    {
-        up_to(Self::WIDTH, Self::LARGEST)
-    }
+    ghost WIDTH = { 4 };
+
+    ghost LARGEST = { 2 };
+
+    ghost kind = { nc_diff };
+
+    ghost is = { refl };
 }
 
 // D_Location of a change, in cm: above the last location and below L_SP.
-#[derive(Drop)]
 pub struct DLocation;
 
 impl DLocation {
@@ -241,7 +245,6 @@ impl DLocation {
 }
 
 // M_VOLTAGE, a place in the table of volts, from 0.
-#[derive(Drop)]
 pub struct MVoltage;
 
 impl MVoltage {
@@ -257,7 +260,7 @@ impl MVoltage {
 }
 
 // NID_CTRACTION, which is 0 where M_VOLTAGE is 0.
-#[derive(Drop)]
+// It and three of a journey's constraint have a `most` of their own, and no trait: it would ask five members of each for one call in common.
 pub struct NidCTraction;
 
 impl NidCTraction {
@@ -269,10 +272,7 @@ impl NidCTraction {
     pub fn most(voltage: u32) -> u32
         ensures { result ≡ most_traction voltage }
     {
-        if voltage == 0 {
-            return 0;
-        }
-        Self::LARGEST
+        if voltage == 0 { 0 } else { Self::LARGEST }
     }
 
     // Returns the rule at M_VOLTAGE `voltage`.
@@ -284,7 +284,6 @@ impl NidCTraction {
 }
 
 // M_CURRENT, in steps of 10 A up to `HIGHEST`, or `NO_LIMIT`.
-#[derive(Drop)]
 pub struct MCurrent;
 
 impl MCurrent {

@@ -1,12 +1,12 @@
 // Field kinds of a packet's header, in packet order. `WIDTH` is in bits, `LARGEST` is the largest packet value.
+ghost use Rattle.std.specs.Prelude.{refl};
 ghost use Rattle.kinds.specs.Kinds.{nid_packet_ato, l_packet_ato, nid_operational, nid_engine, t_timestamp_date, t_timestamp_seconds, n_packet_counter};
 ghost use Rattle.kinds.specs.internal.Rules.{Keeps};
 
-use crate::refusals::PACKET_NUMBER;
-use crate::{Rule, up_to};
+use crate::refusals::Refusal;
+use crate::{Rule, UpTo};
 
 // NID_PACKET_ATO, the packet number.
-#[derive(Drop)]
 pub struct NidPacketAto;
 
 impl NidPacketAto {
@@ -28,29 +28,29 @@ impl NidPacketAto {
             width: Self::WIDTH,
             least: Self::SEGMENT,
             largest: Self::LARGEST,
-            refusal: PACKET_NUMBER,
+            refusal: Refusal::PacketNumber,
         }
     }
 }
 
 // L_PACKET_ATO, the bits of the body, without header and padding.
-#[derive(Drop)]
 pub struct LPacketAto;
 
-impl LPacketAto {
-    pub const WIDTH: u32 = 16;
+impl UpTo for LPacketAto {
+    const WIDTH: u32 = 16;
 
-    pub const LARGEST: u32 = 65535;
+    const LARGEST: u32 = 65535;
 
-    pub fn rule() -> Rule
-        ensures { Keeps l_packet_ato Self.WIDTH Self.LARGEST result }
-    {
-        up_to(Self::WIDTH, Self::LARGEST)
-    }
+    ghost WIDTH = { 16 };
+
+    ghost LARGEST = { 65535 };
+
+    ghost kind = { l_packet_ato };
+
+    ghost is = { refl };
 }
 
 // NID_OPERATIONAL, eight digits of four bits, each 0 to 9 or F.
-#[derive(Drop)]
 pub struct NidOperational;
 
 impl NidOperational {
@@ -66,65 +66,69 @@ impl NidOperational {
 }
 
 // NID_ENGINE, the number of the engine.
-#[derive(Drop)]
 pub struct NidEngine;
 
-impl NidEngine {
-    pub const WIDTH: u32 = 24;
+impl UpTo for NidEngine {
+    const WIDTH: u32 = 24;
 
-    pub const LARGEST: u32 = 16777215;
+    const LARGEST: u32 = 16777215;
 
-    pub fn rule() -> Rule
-        ensures { Keeps nid_engine Self.WIDTH Self.LARGEST result }
-    {
-        up_to(Self::WIDTH, Self::LARGEST)
-    }
+    ghost WIDTH = { 24 };
+
+    ghost LARGEST = { 16777215 };
+
+    ghost kind = { nid_engine };
+
+    ghost is = { refl };
 }
 
 // T_Timestamp_Date, in days from 1 January 2010.
-#[derive(Drop)]
 pub struct TTimestampDate;
 
-impl TTimestampDate {
-    pub const WIDTH: u32 = 15;
+impl UpTo for TTimestampDate {
+    const WIDTH: u32 = 15;
 
-    pub const LARGEST: u32 = 32767;
+    const LARGEST: u32 = 32767;
 
-    pub fn rule() -> Rule
-        ensures { Keeps t_timestamp_date Self.WIDTH Self.LARGEST result }
-    {
-        up_to(Self::WIDTH, Self::LARGEST)
-    }
+    ghost WIDTH = { 15 };
+
+    ghost LARGEST = { 32767 };
+
+    ghost kind = { t_timestamp_date };
+
+    ghost is = { refl };
 }
 
 // T_Timestamp_Seconds, in seconds of the day, before 24:00:00.
-#[derive(Drop)]
 pub struct TTimestampSeconds;
 
-impl TTimestampSeconds {
-    pub const WIDTH: u32 = 17;
+impl UpTo for TTimestampSeconds {
+    const WIDTH: u32 = 17;
 
-    pub const LARGEST: u32 = 86399;
+    const LARGEST: u32 = 86399;
 
-    pub fn rule() -> Rule
-        ensures { Keeps t_timestamp_seconds Self.WIDTH Self.LARGEST result }
-    {
-        up_to(Self::WIDTH, Self::LARGEST)
-    }
+    ghost WIDTH = { 17 };
+
+    ghost LARGEST = { 86399 };
+
+    ghost kind = { t_timestamp_seconds };
+
+    ghost is = { refl };
 }
 
 // N_Packet_Counter, the packet counter.
-#[derive(Drop)]
 pub struct NPacketCounter;
 
-impl NPacketCounter {
-    pub const WIDTH: u32 = 8;
+impl UpTo for NPacketCounter {
+    const WIDTH: u32 = 8;
 
-    pub const LARGEST: u32 = 255;
+    const LARGEST: u32 = 255;
 
-    pub fn rule() -> Rule
-        ensures { Keeps n_packet_counter Self.WIDTH Self.LARGEST result }
-    {
-        up_to(Self::WIDTH, Self::LARGEST)
-    }
+    ghost WIDTH = { 8 };
+
+    ghost LARGEST = { 255 };
+
+    ghost kind = { n_packet_counter };
+
+    ghost is = { refl };
 }

@@ -1,383 +1,420 @@
 // Field kinds of a journey's body, in packet order. `WIDTH` is in bits, `LARGEST` is the largest packet value.
-ghost use Rattle.std.specs.Prelude.{◌||◌, ◌≡◌, eqb};
-ghost use Rattle.kinds.specs.Kind.{up_to};
-ghost use Rattle.kinds.specs.internal.Rules.{Keeps, meaning};
+ghost use Rattle.std.specs.Prelude.{◌||◌, ◌≡◌, ℕ, eqb, refl};
+ghost use Rattle.kinds.specs.Kind.{Kind, up_to};
+ghost use Rattle.kinds.specs.internal.Rules.{meaning};
 ghost use Rattle.kinds.specs.journey.Kinds as kind;
 ghost use Rattle.kinds.specs.journey.Kinds.{most_at, most_where};
 
-use crate::{Rule, up_to};
+use crate::{Rule, UpTo, up_to};
 
 // Q_JP_Status: 0 invalid, 1 valid, 2 unavailable, 3 update, 4 overwrite.
-#[derive(Drop)]
 pub struct QJpStatus;
 
-impl QJpStatus {
-    pub const WIDTH: u32 = 3;
+impl UpTo for QJpStatus {
+    const WIDTH: u32 = 3;
 
-    pub const LARGEST: u32 = 4;
+    const LARGEST: u32 = 4;
 
-    pub fn rule() -> Rule
-        ensures { Keeps kind.q_jp_status Self.WIDTH Self.LARGEST result }
-    {
-        up_to(Self::WIDTH, Self::LARGEST)
-    }
+    ghost WIDTH = { 3 };
+
+    ghost LARGEST = { 4 };
+
+    ghost kind = { kind.q_jp_status };
+
+    ghost is = { refl };
 }
 
 // N_ITER_SP, the count of segments.
-#[derive(Drop)]
 pub struct NIterSp;
 
-impl NIterSp {
-    pub const WIDTH: u32 = 8;
+impl UpTo for NIterSp {
+    const WIDTH: u32 = 8;
 
-    pub const LARGEST: u32 = 255;
+    const LARGEST: u32 = 255;
 
-    pub fn rule() -> Rule
-        ensures { Keeps kind.n_iter_sp Self.WIDTH Self.LARGEST result }
-    {
-        up_to(Self::WIDTH, Self::LARGEST)
-    }
+    ghost WIDTH = { 8 };
+
+    ghost LARGEST = { 255 };
+
+    ghost kind = { kind.n_iter_sp };
+
+    ghost is = { refl };
 }
 
 // Q_SP_DIR: 0 reverse, 1 nominal.
-#[derive(Drop)]
 pub struct QSpDir;
 
-impl QSpDir {
-    pub const WIDTH: u32 = 1;
+impl UpTo for QSpDir {
+    const WIDTH: u32 = 1;
 
-    pub const LARGEST: u32 = 1;
+    const LARGEST: u32 = 1;
 
-    pub fn rule() -> Rule
-        ensures { Keeps kind.q_sp_dir Self.WIDTH Self.LARGEST result }
-    {
-        up_to(Self::WIDTH, Self::LARGEST)
-    }
+    ghost WIDTH = { 1 };
+
+    ghost LARGEST = { 1 };
+
+    ghost kind = { kind.q_sp_dir };
+
+    ghost is = { refl };
 }
 
 // NID_TP, the number of the timing point.
-#[derive(Drop)]
 pub struct NidTp;
 
-impl NidTp {
-    pub const WIDTH: u32 = 32;
+impl UpTo for NidTp {
+    const WIDTH: u32 = 32;
 
-    pub const LARGEST: u32 = 4294967295;
+    const LARGEST: u32 = 4294967295;
 
-    pub fn rule() -> Rule
-        ensures { Keeps kind.nid_tp Self.WIDTH Self.LARGEST result }
-    {
-        up_to(Self::WIDTH, Self::LARGEST)
-    }
+    ghost WIDTH = { 32 };
+
+    ghost LARGEST = { 4294967295 };
+
+    ghost kind = { kind.nid_tp };
+
+    ghost is = { refl };
 }
 
 // T_Latest_Arrival_Date, in days from 1 January 2010.
-#[derive(Drop)]
 pub struct TLatestArrivalDate;
 
-impl TLatestArrivalDate {
-    pub const WIDTH: u32 = 15;
+impl UpTo for TLatestArrivalDate {
+    const WIDTH: u32 = 15;
 
-    pub const LARGEST: u32 = 32767;
+    const LARGEST: u32 = 32767;
 
-    pub fn rule() -> Rule
-        ensures { Keeps kind.t_latest_arrival_date Self.WIDTH Self.LARGEST result }
-    {
-        up_to(Self::WIDTH, Self::LARGEST)
-    }
+    ghost WIDTH = { 15 };
+
+    ghost LARGEST = { 32767 };
+
+    ghost kind = { kind.t_latest_arrival_date };
+
+    ghost is = { refl };
 }
 
 // T_Latest_Arrival_Seconds, in seconds of the day, up to 24:00:00.
-#[derive(Drop)]
 pub struct TLatestArrivalSeconds;
 
-impl TLatestArrivalSeconds {
-    pub const WIDTH: u32 = 17;
+impl UpTo for TLatestArrivalSeconds {
+    const WIDTH: u32 = 17;
 
-    pub const LARGEST: u32 = 86400;
+    const LARGEST: u32 = 86400;
 
-    pub fn rule() -> Rule
-        ensures { Keeps kind.t_latest_arrival_seconds Self.WIDTH Self.LARGEST result }
-    {
-        up_to(Self::WIDTH, Self::LARGEST)
-    }
+    ghost WIDTH = { 17 };
+
+    ghost LARGEST = { 86400 };
+
+    ghost kind = { kind.t_latest_arrival_seconds };
+
+    ghost is = { refl };
 }
 
 // T_Arrival_Window, in seconds.
-#[derive(Drop)]
 pub struct TArrivalWindow;
 
-impl TArrivalWindow {
-    pub const WIDTH: u32 = 10;
+impl UpTo for TArrivalWindow {
+    const WIDTH: u32 = 10;
 
-    pub const LARGEST: u32 = 1023;
+    const LARGEST: u32 = 1023;
 
-    pub fn rule() -> Rule
-        ensures { Keeps kind.t_arrival_window Self.WIDTH Self.LARGEST result }
-    {
-        up_to(Self::WIDTH, Self::LARGEST)
-    }
+    ghost WIDTH = { 10 };
+
+    ghost LARGEST = { 1023 };
+
+    ghost kind = { kind.t_arrival_window };
+
+    ghost is = { refl };
 }
 
 // Q_TP_Alignment: 0 front, 1 middle, 2 rear.
-#[derive(Drop)]
 pub struct QTpAlignment;
 
-impl QTpAlignment {
-    pub const WIDTH: u32 = 2;
+impl UpTo for QTpAlignment {
+    const WIDTH: u32 = 2;
 
-    pub const LARGEST: u32 = 2;
+    const LARGEST: u32 = 2;
 
-    pub fn rule() -> Rule
-        ensures { Keeps kind.q_tp_alignment Self.WIDTH Self.LARGEST result }
-    {
-        up_to(Self::WIDTH, Self::LARGEST)
-    }
+    ghost WIDTH = { 2 };
+
+    ghost LARGEST = { 2 };
+
+    ghost kind = { kind.q_tp_alignment };
+
+    ghost is = { refl };
 }
 
 // Q_Stop_Skip_Passes: 0 stopping point, 1 skipped stopping point, 2 passing point.
-#[derive(Drop)]
 pub struct QStopSkipPasses;
 
 impl QStopSkipPasses {
-    pub const WIDTH: u32 = 2;
-
-    pub const LARGEST: u32 = 2;
-
     pub const PASSING: u32 = 2;
+}
 
-    pub fn rule() -> Rule
-        ensures { Keeps kind.q_stop_skip_passes Self.WIDTH Self.LARGEST result }
-    {
-        up_to(Self::WIDTH, Self::LARGEST)
-    }
+impl UpTo for QStopSkipPasses {
+    const WIDTH: u32 = 2;
+
+    const LARGEST: u32 = 2;
+
+    ghost WIDTH = { 2 };
+
+    ghost LARGEST = { 2 };
+
+    ghost kind = { kind.q_stop_skip_passes };
+
+    ghost is = { refl };
 }
 
 // Q_TP_Information: 0 none, 1 end of journey.
-#[derive(Drop)]
 pub struct QTpInformation;
 
-impl QTpInformation {
-    pub const WIDTH: u32 = 2;
+impl UpTo for QTpInformation {
+    const WIDTH: u32 = 2;
 
-    pub const LARGEST: u32 = 1;
+    const LARGEST: u32 = 1;
 
-    pub fn rule() -> Rule
-        ensures { Keeps kind.q_tp_information Self.WIDTH Self.LARGEST result }
-    {
-        up_to(Self::WIDTH, Self::LARGEST)
-    }
+    ghost WIDTH = { 2 };
+
+    ghost LARGEST = { 1 };
+
+    ghost kind = { kind.q_tp_information };
+
+    ghost is = { refl };
 }
 
 // Q_Day_Light_Saving, 0 or 1.
-#[derive(Drop)]
 pub struct QDayLightSaving;
 
-impl QDayLightSaving {
-    pub const WIDTH: u32 = 1;
+impl UpTo for QDayLightSaving {
+    const WIDTH: u32 = 1;
 
-    pub const LARGEST: u32 = 1;
+    const LARGEST: u32 = 1;
 
-    pub fn rule() -> Rule
-        ensures { Keeps kind.q_day_light_saving Self.WIDTH Self.LARGEST result }
+    ghost WIDTH = { 1 };
+
+    ghost LARGEST = { 1 };
+
+    ghost kind = { kind.q_day_light_saving };
+
+    ghost is = { refl };
+}
+
+// A field kind of a timing point: numbers from 0 to `LARGEST`, but 0 alone at a passing point.
+pub trait UnlessPassing {
+    // Bits in a packet.
+    const WIDTH: u32;
+
+    const LARGEST: u32;
+
+    ghost WIDTH: { ℕ };
+
+    ghost LARGEST: { ℕ };
+
+    // The document's kind, by Q_Stop_Skip_Passes.
+    ghost kind: { ℕ → Kind };
+
+    ghost is: { (stop_skip_passes : ℕ) → kind stop_skip_passes ≡ up_to WIDTH (most_at stop_skip_passes LARGEST) };
+
+    // Returns the rule at a Q_Stop_Skip_Passes of `stop_skip_passes`.
+    final fn rule(stop_skip_passes: u32) -> Rule
+        ensures { meaning result ≡ kind stop_skip_passes }
     {
-        up_to(Self::WIDTH, Self::LARGEST)
+        if stop_skip_passes == QStopSkipPasses::PASSING {
+            up_to(Self::WIDTH, 0)
+        } else {
+            up_to(Self::WIDTH, Self::LARGEST)
+        }
     }
-}
-
-// Returns the largest value, by Q_Stop_Skip_Passes, of a field that is at most `most`, and 0 at a passing point.
-fn most_at(stop_skip_passes: u32, most: u32) -> u32
-    ensures { result ≡ most_at stop_skip_passes most }
-{
-    if stop_skip_passes == QStopSkipPasses::PASSING {
-        return 0;
-    }
-    most
-}
-
-// Returns the rule, by Q_Stop_Skip_Passes, of a field of `width` bits that is at most `largest`, and 0 at a passing point.
-fn unless_passing(stop_skip_passes: u32, width: u32, largest: u32) -> Rule
-    ensures { meaning result ≡ up_to width (most_at stop_skip_passes largest) }
-{
-    up_to(width, most_at(stop_skip_passes, largest))
 }
 
 // Q_Opening_Door_Side: 0 none, 1 right, 2 left, 3 both; 0 at a passing point.
-#[derive(Drop)]
 pub struct QOpeningDoorSide;
 
-impl QOpeningDoorSide {
-    pub const WIDTH: u32 = 2;
+impl UnlessPassing for QOpeningDoorSide {
+    const WIDTH: u32 = 2;
 
-    pub const LARGEST: u32 = 3;
+    const LARGEST: u32 = 3;
 
-    pub fn rule(stop_skip_passes: u32) -> Rule
-        ensures { meaning result ≡ kind.q_opening_door_side stop_skip_passes }
-    {
-        unless_passing(stop_skip_passes, Self::WIDTH, Self::LARGEST)
-    }
+    ghost WIDTH = { 2 };
+
+    ghost LARGEST = { 3 };
+
+    ghost kind = { kind.q_opening_door_side };
+
+    ghost is = { λ _. refl };
 }
 
 // Q_Centralised_Opening, 0 or 1; 0 at a passing point.
-#[derive(Drop)]
 pub struct QCentralisedOpening;
 
-impl QCentralisedOpening {
-    pub const WIDTH: u32 = 1;
+impl UnlessPassing for QCentralisedOpening {
+    const WIDTH: u32 = 1;
 
-    pub const LARGEST: u32 = 1;
+    const LARGEST: u32 = 1;
 
-    pub fn rule(stop_skip_passes: u32) -> Rule
-        ensures { meaning result ≡ kind.q_centralised_opening stop_skip_passes }
-    {
-        unless_passing(stop_skip_passes, Self::WIDTH, Self::LARGEST)
-    }
+    ghost WIDTH = { 1 };
+
+    ghost LARGEST = { 1 };
+
+    ghost kind = { kind.q_centralised_opening };
+
+    ghost is = { λ _. refl };
 }
 
 // Q_Relaxed_Coupler, 0 or 1; 0 at a passing point.
-#[derive(Drop)]
 pub struct QRelaxedCoupler;
 
-impl QRelaxedCoupler {
-    pub const WIDTH: u32 = 1;
+impl UnlessPassing for QRelaxedCoupler {
+    const WIDTH: u32 = 1;
 
-    pub const LARGEST: u32 = 1;
+    const LARGEST: u32 = 1;
 
-    pub fn rule(stop_skip_passes: u32) -> Rule
-        ensures { meaning result ≡ kind.q_relaxed_coupler stop_skip_passes }
-    {
-        unless_passing(stop_skip_passes, Self::WIDTH, Self::LARGEST)
-    }
+    ghost WIDTH = { 1 };
+
+    ghost LARGEST = { 1 };
+
+    ghost kind = { kind.q_relaxed_coupler };
+
+    ghost is = { λ _. refl };
 }
 
 // Q_Train_Hold, 0 or 1; 0 at a passing point.
-#[derive(Drop)]
 pub struct QTrainHold;
 
-impl QTrainHold {
-    pub const WIDTH: u32 = 1;
+impl UnlessPassing for QTrainHold {
+    const WIDTH: u32 = 1;
 
-    pub const LARGEST: u32 = 1;
+    const LARGEST: u32 = 1;
 
-    pub fn rule(stop_skip_passes: u32) -> Rule
-        ensures { meaning result ≡ kind.q_train_hold stop_skip_passes }
-    {
-        unless_passing(stop_skip_passes, Self::WIDTH, Self::LARGEST)
-    }
+    ghost WIDTH = { 1 };
+
+    ghost LARGEST = { 1 };
+
+    ghost kind = { kind.q_train_hold };
+
+    ghost is = { λ _. refl };
 }
 
 // T_Departure_Date, in days from 1 January 2010; 0 at a passing point.
-#[derive(Drop)]
 pub struct TDepartureDate;
 
-impl TDepartureDate {
-    pub const WIDTH: u32 = 15;
+impl UnlessPassing for TDepartureDate {
+    const WIDTH: u32 = 15;
 
-    pub const LARGEST: u32 = 32767;
+    const LARGEST: u32 = 32767;
 
-    pub fn rule(stop_skip_passes: u32) -> Rule
-        ensures { meaning result ≡ kind.t_departure_date stop_skip_passes }
-    {
-        unless_passing(stop_skip_passes, Self::WIDTH, Self::LARGEST)
-    }
+    ghost WIDTH = { 15 };
+
+    ghost LARGEST = { 32767 };
+
+    ghost kind = { kind.t_departure_date };
+
+    ghost is = { λ _. refl };
 }
 
 // T_Departure_Seconds, in seconds of the day, before 24:00:00; 0 at a passing point.
-#[derive(Drop)]
 pub struct TDepartureSeconds;
 
-impl TDepartureSeconds {
-    pub const WIDTH: u32 = 17;
+impl UnlessPassing for TDepartureSeconds {
+    const WIDTH: u32 = 17;
 
-    pub const LARGEST: u32 = 86399;
+    const LARGEST: u32 = 86399;
 
-    pub fn rule(stop_skip_passes: u32) -> Rule
-        ensures { meaning result ≡ kind.t_departure_seconds stop_skip_passes }
-    {
-        unless_passing(stop_skip_passes, Self::WIDTH, Self::LARGEST)
-    }
+    ghost WIDTH = { 17 };
+
+    ghost LARGEST = { 86399 };
+
+    ghost kind = { kind.t_departure_seconds };
+
+    ghost is = { λ _. refl };
 }
 
 // T_Minimum_Dwell_Time, in seconds; 0 at a passing point.
-#[derive(Drop)]
 pub struct TMinimumDwellTime;
 
-impl TMinimumDwellTime {
-    pub const WIDTH: u32 = 10;
+impl UnlessPassing for TMinimumDwellTime {
+    const WIDTH: u32 = 10;
 
-    pub const LARGEST: u32 = 1023;
+    const LARGEST: u32 = 1023;
 
-    pub fn rule(stop_skip_passes: u32) -> Rule
-        ensures { meaning result ≡ kind.t_minimum_dwell_time stop_skip_passes }
-    {
-        unless_passing(stop_skip_passes, Self::WIDTH, Self::LARGEST)
-    }
+    ghost WIDTH = { 10 };
+
+    ghost LARGEST = { 1023 };
+
+    ghost kind = { kind.t_minimum_dwell_time };
+
+    ghost is = { λ _. refl };
 }
 
 // Q_Automatic_Closing, 0 or 1; 0 at a passing point.
-#[derive(Drop)]
 pub struct QAutomaticClosing;
 
-impl QAutomaticClosing {
-    pub const WIDTH: u32 = 1;
+impl UnlessPassing for QAutomaticClosing {
+    const WIDTH: u32 = 1;
 
-    pub const LARGEST: u32 = 1;
+    const LARGEST: u32 = 1;
 
-    pub fn rule(stop_skip_passes: u32) -> Rule
-        ensures { meaning result ≡ kind.q_automatic_closing stop_skip_passes }
-    {
-        unless_passing(stop_skip_passes, Self::WIDTH, Self::LARGEST)
-    }
+    ghost WIDTH = { 1 };
+
+    ghost LARGEST = { 1 };
+
+    ghost kind = { kind.q_automatic_closing };
+
+    ghost is = { λ _. refl };
 }
 
 // ---- fields of a temporary constraint
 
 // Q_TC_Type: 0 additional speed restriction, 1 low adhesion, 2 and 3 driving modes.
-#[derive(Drop)]
 pub struct QTcType;
 
 impl QTcType {
-    pub const WIDTH: u32 = 2;
-
-    pub const LARGEST: u32 = 3;
-
     // Type of an additional speed restriction.
     pub const SPEED: u32 = 0;
 
     // Type of a low adhesion.
     pub const ADHESION: u32 = 1;
+}
 
-    pub fn rule() -> Rule
-        ensures { Keeps kind.q_tc_type Self.WIDTH Self.LARGEST result }
-    {
-        up_to(Self::WIDTH, Self::LARGEST)
-    }
+impl UpTo for QTcType {
+    const WIDTH: u32 = 2;
+
+    const LARGEST: u32 = 3;
+
+    ghost WIDTH = { 2 };
+
+    ghost LARGEST = { 3 };
+
+    ghost kind = { kind.q_tc_type };
+
+    ghost is = { refl };
 }
 
 // Q_TC_Range: 0 has a start, 1 an end, 2 both, 3 neither, for the whole segment.
-#[derive(Drop)]
 pub struct QTcRange;
 
 impl QTcRange {
-    pub const WIDTH: u32 = 2;
-
-    pub const LARGEST: u32 = 3;
-
     pub const STARTS: u32 = 0;
 
     pub const ENDS: u32 = 1;
 
     pub const BOTH: u32 = 2;
+}
 
-    pub fn rule() -> Rule
-        ensures { Keeps kind.q_tc_range Self.WIDTH Self.LARGEST result }
-    {
-        up_to(Self::WIDTH, Self::LARGEST)
-    }
+impl UpTo for QTcRange {
+    const WIDTH: u32 = 2;
+
+    const LARGEST: u32 = 3;
+
+    ghost WIDTH = { 2 };
+
+    ghost LARGEST = { 3 };
+
+    ghost kind = { kind.q_tc_range };
+
+    ghost is = { refl };
 }
 
 // D_TC_Start_Location, in cm; 0 where Q_TC_Range has no start.
-#[derive(Drop)]
 pub struct DTcStartLocation;
 
 impl DTcStartLocation {
@@ -389,13 +426,11 @@ impl DTcStartLocation {
     pub fn most(range: u32) -> u32
         ensures { result ≡ most_where (eqb range 0 || eqb range 2) 16777215 }
     {
-        if range == QTcRange::STARTS {
-            return Self::LARGEST;
+        if range == QTcRange::STARTS || range == QTcRange::BOTH {
+            Self::LARGEST
+        } else {
+            0
         }
-        if range == QTcRange::BOTH {
-            return Self::LARGEST;
-        }
-        0
     }
 
     pub fn rule(range: u32) -> Rule
@@ -406,7 +441,6 @@ impl DTcStartLocation {
 }
 
 // D_TC_End_Location, in cm; 0 where Q_TC_Range has no end.
-#[derive(Drop)]
 pub struct DTcEndLocation;
 
 impl DTcEndLocation {
@@ -419,9 +453,10 @@ impl DTcEndLocation {
         ensures { result ≡ most_where (eqb range 1) 16777215 }
     {
         if range == QTcRange::ENDS {
-            return Self::LARGEST;
+            Self::LARGEST
+        } else {
+            0
         }
-        0
     }
 
     // Returns the rule at Q_TC_Range `range`: with `BOTH` the end is above `start`, in cm.
@@ -429,14 +464,14 @@ impl DTcEndLocation {
         ensures { meaning result ≡ kind.d_tc_end_location range start }
     {
         if range == QTcRange::BOTH {
-            return Rule::After { start };
+            Rule::After { start }
+        } else {
+            up_to(Self::WIDTH, Self::most(range))
         }
-        up_to(Self::WIDTH, Self::most(range))
     }
 }
 
 // Q_FRONT of a temporary constraint; 0 unless it is a speed restriction.
-#[derive(Drop)]
 pub struct QTcFront;
 
 impl QTcFront {
@@ -449,9 +484,10 @@ impl QTcFront {
         ensures { result ≡ most_where (eqb of 0) 1 }
     {
         if of == QTcType::SPEED {
-            return Self::LARGEST;
+            Self::LARGEST
+        } else {
+            0
         }
-        0
     }
 
     pub fn rule(of: u32) -> Rule
@@ -462,7 +498,6 @@ impl QTcFront {
 }
 
 // V_Speed_Level of a temporary constraint, in steps of 5 km/h; 0 unless it is a speed restriction.
-#[derive(Drop)]
 pub struct VSpeedLevel;
 
 impl VSpeedLevel {
@@ -475,14 +510,14 @@ impl VSpeedLevel {
         ensures { meaning result ≡ kind.v_speed_level of }
     {
         if of == QTcType::SPEED {
-            return Rule::Speed;
+            Rule::Speed
+        } else {
+            up_to(Self::WIDTH, 0)
         }
-        up_to(Self::WIDTH, 0)
     }
 }
 
 // Q_Low_Adhesion_Rate of a temporary constraint; 0 unless it is a low adhesion.
-#[derive(Drop)]
 pub struct QLowAdhesionRate;
 
 impl QLowAdhesionRate {
@@ -495,9 +530,10 @@ impl QLowAdhesionRate {
         ensures { result ≡ most_where (eqb of 1) 5 }
     {
         if of == QTcType::ADHESION {
-            return Self::LARGEST;
+            Self::LARGEST
+        } else {
+            0
         }
-        0
     }
 
     pub fn rule(of: u32) -> Rule

@@ -7,35 +7,28 @@ pub mod header;
 pub mod journey;
 pub mod refusals;
 
-ghost use Rattle.std.specs.Prelude.{◌≡◌};
-ghost use Rattle.kinds.specs.Kind.{up_to};
-ghost use Rattle.kinds.specs.internal.Rules.{meaning};
+ghost use Rattle.std.specs.Prelude.{◌≡◌, ℕ};
+ghost use Rattle.kinds.specs.Kind.{Kind, up_to};
+ghost use Rattle.kinds.specs.internal.Rules.{Keeps, meaning};
 
-use crate::refusals::FIELD_VALUE;
+use crate::refusals::Refusal;
 
 // A field's value: `sheet` is the sheet's number, `packet` the packet's value.
-#[derive(Clone, Copy)]
+#[derive(Clone, Copy, Debug, PartialEq, Eq)]
 pub struct Item {
     pub sheet: u32,
     pub packet: u32,
 }
 
-// A judged field: `Is(item)`, or `Refused(number)`.
-#[derive(Clone, Copy)]
-pub enum Field {
-    Is(Item),
-    Refused(u32),
-}
-
 // The rule of a field kind. Widths are in bits, locations in cm.
-#[derive(Clone, Copy)]
+#[derive(Clone, Copy, Debug, PartialEq, Eq)]
 pub enum Rule {
     // A sheet's number from `least` to `largest`, which is also the packet's value; `refusal` for any other number.
     Range {
         width: u32,
         least: u32,
         largest: u32,
-        refusal: u32,
+        refusal: Refusal,
     },
     // D_Location of a change: above `last` and below `lsp`.
     Location {
@@ -68,6 +61,30 @@ pub fn up_to(width: u32, largest: u32) -> Rule
         width,
         least: 0,
         largest,
-        refusal: FIELD_VALUE,
+        refusal: Refusal::FieldValue,
+    }
+}
+
+// A field kind whose values are the numbers from 0 to `LARGEST`, in a sheet as in a packet. Each type has its own constants and `rule`.
+pub trait UpTo {
+    // Bits in a packet.
+    const WIDTH: u32;
+
+    const LARGEST: u32;
+
+    ghost WIDTH: { ℕ };
+
+    ghost LARGEST: { ℕ };
+
+    // The document's kind.
+    ghost kind: { Kind };
+
+    ghost is: { kind ≡ up_to WIDTH LARGEST };
+
+    // Returns the rule that judges values of the kind.
+    final fn rule() -> Rule
+        ensures { Keeps kind WIDTH LARGEST result }
+    {
+        up_to(Self::WIDTH, Self::LARGEST)
     }
 }

@@ -14,6 +14,7 @@ ghost use Rattle.leg_packet.specs.internal.Asking.{AcceptedJourney, numbers_of_j
 use fields::raise;
 use grammar::journey::layout;
 use grammar::segment::layout::{COUNT, COUNTRY, IDENTITY, MAJOR};
+use kinds::UpTo;
 use kinds::body::{MSpVersion, NIter, NidC, NidSp};
 use kinds::journey::DTcEndLocation;
 use leg_parts::{ConstraintAt, Identity, LegHead, Legs};

@@ -7,17 +7,8 @@ ghost use Rattle.legs.specs.Restricted.{uses_start, uses_end, begins_at, stops_a
 ghost use Rattle.legs.specs.Travelled.{outside};
 ghost use Rattle.leg_parts.specs.internal.Reading.{constraint_with, same_identity};
 
+use kinds::journey::{QTcRange, QTcType};
 use speed::Train;
-
-// Q_TC_Type of a constraint that restricts the speed.
-const SPEED: u32 = 0;
-
-// Q_TC_Range of a constraint that starts, that ends, and that does both.
-const STARTS: u32 = 0;
-
-const ENDS: u32 = 1;
-
-const BOTH: u32 = 2;
 
 // The segments of a journey: how many, and the place of the first.
 #[derive(Clone, Copy)]
@@ -27,7 +18,7 @@ pub struct Legs {
 }
 
 // NID_C, NID_SP and version of a segment.
-#[derive(Clone, Copy)]
+#[derive(Clone, Copy, Debug, PartialEq, Eq)]
 pub struct Identity {
     pub nid_c: u32,
     pub nid_sp: u32,
@@ -44,7 +35,8 @@ pub struct LegHead {
     pub constraints: usize,
 }
 
-// A temporary constraint from Q_TC_Type, `of`, to V_Speed_Level, and the place after it.
+// A temporary constraint from Q_TC_Type, `of`, to V_Speed_Level, and the place after it. `of` and `range` are the numbers that stand there, as in
+// `constraint_of`: each reader would turn them into an enum, and `constraint_with` would turn it back.
 #[derive(Clone, Copy)]
 pub struct ConstraintAt {
     pub of: u32,
@@ -60,16 +52,7 @@ pub struct ConstraintAt {
 pub fn same(a: Identity, b: Identity) -> bool
     ensures { result ≡ same_identity a b }
 {
-    if a.nid_c != b.nid_c {
-        return false;
-    }
-    if a.nid_sp != b.nid_sp {
-        return false;
-    }
-    if a.major != b.major {
-        return false;
-    }
-    a.minor == b.minor
+    a == b
 }
 
 impl ConstraintAt {
@@ -77,66 +60,50 @@ impl ConstraintAt {
     fn uses(self, alone: u32) -> bool
         ensures { result ≡ (eqb self.range alone || eqb self.range 2) }
     {
-        if self.range == alone {
-            return true;
-        }
-        self.range == BOTH
+        self.range == alone || self.range == QTcRange::BOTH
     }
 
     // Returns whether the start, if it is used, is at or past `lsp`, the length of the segment.
     fn start_outside(self, lsp: u32) -> bool
         ensures { result ≡ (uses_start (constraint_with self) && leb lsp self.start) }
     {
-        if self.uses(STARTS) {
-            return lsp <= self.start;
-        }
-        false
+        self.uses(QTcRange::STARTS) && lsp <= self.start
     }
 
     // Returns whether the end, if it is used, is 0 or past `lsp`, the length of the segment.
     fn end_outside(self, lsp: u32) -> bool
         ensures { result ≡ (uses_end (constraint_with self) && (eqb self.end 0 || ltb lsp self.end)) }
     {
-        if self.uses(ENDS) {
-            if self.end == 0 {
-                return true;
-            }
-            return lsp < self.end;
-        }
-        false
+        self.uses(QTcRange::ENDS) && (self.end == 0 || lsp < self.end)
     }
 
     // Returns whether this is a restriction of the speed that uses a location outside the segment of the length `lsp`.
     pub fn misplaced(self, lsp: u32) -> bool
         ensures { result ≡ (eqb self.of 0 && outside lsp (constraint_with self)) }
     {
-        if self.of != SPEED {
-            return false;
-        }
-        if self.start_outside(lsp) {
-            return true;
-        }
-        self.end_outside(lsp)
+        self.of == QTcType::SPEED && (self.start_outside(lsp) || self.end_outside(lsp))
     }
 
     // Returns where the constraint begins.
     fn begins_at(self) -> u32
         ensures { result ≡ begins_at (constraint_with self) }
     {
-        if self.uses(STARTS) {
-            return self.start;
+        if self.uses(QTcRange::STARTS) {
+            self.start
+        } else {
+            0
         }
-        0
     }
 
     // Returns where the constraint stops in a segment of the length `lsp`.
     fn stops_at(self, lsp: u32) -> u32
         ensures { result ≡ stops_at lsp (constraint_with self) }
     {
-        if self.uses(ENDS) {
-            return self.end;
+        if self.uses(QTcRange::ENDS) {
+            self.end
+        } else {
+            lsp
         }
-        lsp
     }
 
     // Returns the place before which the constraint holds: with Q_FRONT 0 the train's length further on.
@@ -145,22 +112,19 @@ impl ConstraintAt {
     {
         let stop = self.stops_at(lsp) as u64;
         if self.q_front == 0 {
-            return stop + train.length as u64;
+            stop + train.length as u64
+        } else {
+            stop
         }
-        stop
     }
 
     // Returns whether the constraint holds for `train` at the place `y`, counted from the start of its segment of the length `lsp`.
     fn holds(self, train: Train, lsp: u32, y: u32) -> bool
         ensures { result ≡ holds_at train lsp y (constraint_with self) }
     {
-        if self.of != SPEED {
-            return false;
-        }
-        if y < self.begins_at() {
-            return false;
-        }
-        (y as u64) < self.held_until(train, lsp)
+        self.of == QTcType::SPEED
+            && self.begins_at() <= y
+            && (y as u64) < self.held_until(train, lsp)
     }
 
     // Returns the lower of the speed `held` and the constraint's, if the constraint holds at `y`, else `held`.
@@ -168,8 +132,9 @@ impl ConstraintAt {
         ensures { result ≡ cond (holds_at train lsp y (constraint_with self)) (min held self.speed) held }
     {
         if self.holds(train, lsp, y) {
-            return speed_element::lower(held, self.speed);
+            held.min(self.speed)
+        } else {
+            held
         }
-        held
     }
 }

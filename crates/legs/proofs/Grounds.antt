@@ -157,10 +157,10 @@ module _ (s : List ℕ) (g : Leg) where
 
 -- ---- of the run's segments, in order
 
-first_none : (a b : ℕ) → a ≡ 0 → test.first_of a b ≡ b
+first_none : (a b : ℕ) → a ≡ 0 → test.first_refusal a b ≡ b
 first_none a b e = rw (eq-eqb a 0 e)
 
-first_some : (a b : ℕ) → 1 ≤ a → test.first_of a b ≡ a
+first_some : (a b : ℕ) → 1 ≤ a → test.first_refusal a b ≡ a
 first_some a b h = rw (ne_eqb a 0 (λ e. omega arith))
 
 -- all segments fit, or there is a ground and the run is refused on it

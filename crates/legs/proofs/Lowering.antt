@@ -18,7 +18,7 @@ use Rattle.speed.proofs.Lowering.{same_is, length_stays}
 use Rattle.speed.proofs.Runs.{SheetValues, start_same, lowered_as_long}
 use Rattle.legs.specs.Legs.{Constraint, Leg}
 use Rattle.legs.specs.Restricted.{holds_at, held_in, held_restrictions}
-use Rattle.legs.specs.Travelled.{on_journey, travelled_legs, same_segment, outside, all_inside, leg_refusal, first_of, legs_refusal, tail_before}
+use Rattle.legs.specs.Travelled.{on_journey, travelled_legs, same_segment, outside, all_inside, leg_refusal, first_refusal, legs_refusal, tail_before}
 use Rattle.legs.specs.internal.Lowered.{constraint_in_fives, leg_in_fives}
 use Rattle.legs.proofs.Opened.{opened}
 
@@ -102,7 +102,7 @@ leg_stays l g c =
 pub refusal_lowered : (r : List (List Item)) (g : List Leg) → Each SheetValues r → legs_refusal (numbers_of (each_given_back r)) (map leg_in_fives g) ≡ legs_refusal (numbers_of r) g
 refusal_lowered [] g c = refl
 refusal_lowered (l ∷ r) [] c = refl
-refusal_lowered (l ∷ r) (h ∷ g) c = ap₂ first_of (leg_stays l h c.0) (refusal_lowered r g c.1)
+refusal_lowered (l ∷ r) (h ∷ g) c = ap₂ first_refusal (leg_stays l h c.0) (refusal_lowered r g c.1)
 
 pub tail_lowered : (count leg : ℕ) (t : Train) (x : ℕ) (r : List (List Item)) → Each SheetValues r → tail_before count leg t x (numbers_of (each_given_back r)) ≡ tail_before count leg t x (numbers_of r)
 tail_lowered count leg t x r c = rw (start_lowered r c)

@@ -10,7 +10,7 @@ use Rattle.speed.specs.Speed.{limited, lowest, segment_length}
 use Rattle.speed.specs.Run.{last_start, speed_in_run}
 use Rattle.legs.specs.Legs.{Constraint, Leg}
 use Rattle.legs.specs.Restricted.{holds_at, held_in, held_restrictions, restricted_in_run}
-use Rattle.legs.specs.Travelled.{leg_refusal, first_of, legs_refusal}
+use Rattle.legs.specs.Travelled.{leg_refusal, first_refusal, legs_refusal}
 use Rattle.legs.specs.internal.Passing.{passed_over, LegsPassed, over, one}
 
 lowest_append : (v : ℕ) (l m : List ℕ) → lowest v (l ++ m) ≡ lowest (lowest v l) m
@@ -52,4 +52,4 @@ pub refusal_taken : (n : ℕ) (r : List (List ℕ)) (g : List Leg) → length r 
 refusal_taken n [] g h = refl
 refusal_taken zero (s ∷ r) g h = absurd (omega arith)
 refusal_taken (suc n) (s ∷ r) [] h = refl
-refusal_taken (suc n) (s ∷ r) (g ∷ l) h = ap (first_of (leg_refusal s g)) (refusal_taken n r l (omega arith))
+refusal_taken (suc n) (s ∷ r) (g ∷ l) h = ap (first_refusal (leg_refusal s g)) (refusal_taken n r l (omega arith))

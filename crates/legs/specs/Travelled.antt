@@ -34,14 +34,14 @@ abbrev pub leg_refusal : List ℕ → Leg → ℕ
 leg_refusal s g = cond (same_segment s g) (cond (eqb g.direction 1) (cond (all_inside (segment_length s) g.constraints) 0 25) 24) 23
 
 -- the first refusal, 0 for none
-abbrev pub first_of : ℕ → ℕ → ℕ
-first_of a b = cond (eqb a 0) b a
+abbrev pub first_refusal : ℕ → ℕ → ℕ
+first_refusal a b = cond (eqb a 0) b a
 
 -- "then for each segment of the run, in order", with its leg: the first refusal, 0 for none
 abbrev pub legs_refusal : List (List ℕ) → List Leg → ℕ
 legs_refusal [] g = 0
 legs_refusal (s ∷ r) [] = 23
-legs_refusal (s ∷ r) (g ∷ l) = first_of (leg_refusal s g) (legs_refusal r l)
+legs_refusal (s ∷ r) (g ∷ l) = first_refusal (leg_refusal s g) (legs_refusal r l)
 
 -- ---- the train's tail
 

@@ -3,31 +3,15 @@
 
 #![tactic(auto)]
 
-ghost use Rattle.std.specs.Prelude.{◌≤◌, length};
-
 use std::env::{Env, FillError};
 use std::io;
-use std::io::{Input, Read};
-
-// Reads until the buffer is full, the input ends or a read fails. Returns how many bytes it has put at the start of the buffer.
-fn read_full(input: &mut impl Read, buffer: &mut [u8]) -> usize
-    ensures { result ≤ length buffer.new }
-{
-    let mut done = 0;
-    while done < buffer.len() {
-        match input.read(&mut buffer[done..]) {
-            Ok(n) if n > 0 => done += n,
-            _ => break,
-        }
-    }
-    done
-}
+use std::io::Input;
 
 // Reads a packet from standard input and writes its listing to standard output.
 fn list(rt: &(impl Input + Print)) -> io::Result<()> {
     // The largest packet has 8,207 bytes: longer input is refused with 2 or 3 by its first 8,208 bytes, so the rest is not read.
     let mut packet = [0u8; 8208];
-    let n = read_full(&mut rt.reader(), &mut packet);
+    let n = input::read_full(&mut rt.reader(), &mut packet);
     let mut room = [0u8; text::ROOM];
     let length = text::listing(&packet[..n], &mut room);
     rt.write_all(&room[..length])

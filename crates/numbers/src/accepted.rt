@@ -1,10 +1,10 @@
 // Reads the numbers of an accepted sheet. Their form and size are not judged again.
 ghost use Rattle.numbers.specs.internal.accepted.Accepted.{There, Single, Reads};
 
-use bits::wide;
+use crate::MOST;
 
 // A number, and the place of the byte after it.
-#[derive(Clone, Copy)]
+#[derive(Clone, Copy, Debug, PartialEq, Eq)]
 pub struct ReadNumber {
     pub value: u32,
     pub next: usize,
@@ -16,7 +16,7 @@ pub fn single(s: &[u8], from: usize) -> ReadNumber
     ensures { Reads s.now from result }
 {
     ReadNumber {
-        value: wide(s[from]),
+        value: u32::from(s[from]),
         next: from + 1,
     }
 }
@@ -26,20 +26,20 @@ fn longer(s: &[u8], from: usize) -> ReadNumber
     requires { There s.now from }
     ensures { Reads s.now from result }
 {
-    let mut at = from;
-    let mut value: u32 = 0;
-    let mut scale: u32 = 1;
-    let mut b = wide(s[at]);
-    while 128 <= b {
+    let mut value = 0;
+    let mut scale = 1;
+    for i in 0..MOST as usize {
+        let b = u32::from(s[from + i]);
+        if b < 128 {
+            return ReadNumber {
+                value: value + b * scale,
+                next: from + i + 1,
+            };
+        }
         value += (b - 128) * scale;
         scale *= 128;
-        at += 1;
-        b = wide(s[at]);
     }
-    ReadNumber {
-        value: value + b * scale,
-        next: at + 1,
-    }
+    unreachable!()
 }
 
 // Reads the number at byte `from`.
@@ -48,9 +48,9 @@ pub fn number(s: &[u8], from: usize) -> ReadNumber
     requires { There s.now from }
     ensures { Reads s.now from result }
 {
-    let b = wide(s[from]);
+    let b = u32::from(s[from]);
     let more = b / 128;
-    let last = wide(s[from + more as usize]);
+    let last = u32::from(s[from + more as usize]);
     if last < 128 {
         return ReadNumber {
             value: b % 128 + last * (more * 128),

@@ -14,7 +14,7 @@ pub fn groups(v: u32) -> u32
     }
 }
 
-// Writes `v` at byte `at` and returns the next byte's place.
+// Writes `v` at byte `at` and returns the next byte's place. What is left of `v`, not a count, ends the loop.
 pub fn put_number(s: &mut [u8], at: usize, v: u32) -> usize
     requires { at + length (groups_in v) ≤ length s.old }
     ensures { record { next = result; bytes = s.new } ≡ put_number s.old at v }
@@ -23,7 +23,7 @@ pub fn put_number(s: &mut [u8], at: usize, v: u32) -> usize
     let mut i = at;
     while 128 <= x {
         s[i] = (x % 128 + 128) as u8;
-        x = x / 128;
+        x /= 128;
         i += 1;
     }
     s[i] = x as u8;

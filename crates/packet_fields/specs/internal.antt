@@ -1,3 +1,4 @@
 -- Definitions that contracts of the code use; no promise names them.
 pub mod Judging
 pub mod row
+pub mod times

@@ -4,28 +4,17 @@ ghost use Rattle.grammar.specs.internal.rows.Rows as rows;
 ghost use Rattle.grammar.specs.internal.rows.Rows.{fits};
 ghost use Rattle.packet_fields.specs.internal.Judging.{Standing, Over};
 
-use crate::PacketStep;
+use crate::{Judged, Spot};
 
-// Judges fields from bit `at` on, one after another: field i has `widths[i]` bits and is at most `most[i]`.
-// The fields of the packet end at bit `stop`; `n` sheet bytes are counted before the row.
-pub fn row(s: &[u8], stop: usize, at: usize, n: usize, widths: &[u32], most: &[u32]) -> PacketStep
-    requires { Standing s.now stop at n × (fits widths.now most.now ≡ true) }
-    ensures { Over (rows.row widths.now most.now) s.now stop at n result }
+// Judges fields from `spot` on, one after another: field i has `widths[i]` bits and is at most `most[i]`.
+// The fields of the packet end at bit `stop`.
+pub fn row(s: &[u8], stop: usize, spot: Spot, widths: &[u32], most: &[u32]) -> Judged<Spot>
+    requires { Standing s.now stop spot.at spot.n × (fits widths.now most.now ≡ true) }
+    ensures { Over (rows.row widths.now most.now) s.now stop spot.at spot.n result }
 {
-    let mut to = at;
-    let mut m = n;
-    let mut i = 0;
-    while i < widths.len() {
-        match crate::plain(s, stop, to, m, kinds::up_to(widths[i], most[i])) {
-            PacketStep::Refused(r, place) => {
-                return PacketStep::Refused(r, place);
-            }
-            PacketStep::On(a, b) => {
-                to = a;
-                m = b;
-                i += 1;
-            }
-        }
+    let mut next = spot;
+    for (width, largest) in widths.iter().zip(most) {
+        next = crate::plain(s, stop, next, kinds::up_to(*width, *largest))?;
     }
-    PacketStep::On(to, m)
+    Ok(next)
 }

@@ -17,9 +17,8 @@ use Rattle.format.proofs.Ways.{gave_on, gave_took}
 use Rattle.grammar.specs.internal.rows.Rows.{row}
 use Rattle.grammar.specs.internal.journey.Parts.{segment_widths, segment_most}
 use Rattle.grammar.proofs.journey.Parts.{segment_fits}
-use Rattle.packet_fields.specs.declared.PacketStep.TheVariants.{On}
-use Rattle.packet_fields.specs.declared.PacketValue.TheVariants as PacketValue
-use Rattle.packet_fields.specs.internal.Judging.{Standing, Over, Took, Gave}
+use Rattle.format.specs.internal.Ways.{Went, Got, Over, Took, Gave}
+use Rattle.packet_fields.specs.internal.Judging.{judge, Standing}
 use Rattle.packet_fields.proofs.Steps.{took_some}
 use Rattle.packet_fields.specs.internal.row.Values.{row_bytes}
 use Rattle.packet_fields.proofs.row.Whole.{bytes_some}
@@ -47,15 +46,15 @@ module _ (s : List ℕ) (stop : ℕ) {at n : ℕ} (h : Standing s stop at n) (ro
       (omega (arith, window_small s at 10 {v = field_at s at 10} refl), (omega (arith, window_small s (at + 10) 32 {v = field_at s (at + 10) 32} refl), (omega (arith, window_small s (at + 10 + 32) 8 {v = field_at s (at + 10 + 32) 8} refl), (omega (arith, window_small s (at + 10 + 32 + 8) 8 {v = field_at s (at + 10 + 32 + 8) 8} refl), (omega (arith, l), tt)))))
       (rw (← part values 0, ← part values 1) (omega (arith, ea, eb, ec, ed, counts.one_byte direction (omega (arith, l)))))
 
-  head_over : Over (row segment_widths segment_most) s stop at n (On (at + 59) (n + (a + b + c + d + 1)))
+  head_over : Over (judge s stop) (row segment_widths segment_most) at n (Went.on (at + 59) (n + (a + b + c + d + 1)))
   head_over = bytes_some s stop 10 1023 (32 ∷ 8 ∷ 8 ∷ 1 ∷ []) (4294967295 ∷ 255 ∷ 255 ∷ 1 ∷ []) segment_fits h (omega arith) head_bytes (λ z. omega (arith, z))
 
-  count_took : Took (n_iter 31) s stop (at + 59) (n + (a + b + c + d + 1)) (PacketValue.Is (t % 32) (at + 59 + 5) (n + (a + b + c + d + 1) + 1))
+  count_took : Took (judge s stop) (n_iter 31) (at + 59) (n + (a + b + c + d + 1)) (Got.is (t % 32) (at + 59 + 5) (n + (a + b + c + d + 1) + 1))
   count_took =
       took_some s stop (n_iter 31) 5 refl head_over.stands (lit≤ tt) (omega arith) (let p : at + 10 + 32 + 8 + 8 + 1 ≡ at + 59 = omega arith in rw p at (part values 3))
       (counts.bytes_some (n_iter 31) (t % 32) (counts.both_in 0 31 (t % 32) (omega arith) (omega arith)) (counts.one_byte (t % 32) (omega arith))) (λ u. omega arith)
 
-  pub head_on : Gave segment_head s stop at n (PacketValue.Is (t % 32) (at + 64) (n + (a + b + c + d + 2)))
+  pub head_on : Gave (judge s stop) segment_head at n (Got.is (t % 32) (at + 64) (n + (a + b + c + d + 2)))
   head_on =
       let p : at + 59 + 5 ≡ at + 64 = omega arith in
       let q : n + (a + b + c + d + 1) + 1 ≡ n + (a + b + c + d + 2) = omega arith in

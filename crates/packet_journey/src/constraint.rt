@@ -1,5 +1,5 @@
 // Judges the temporary constraints of a journey's packet, and counts the bytes of their numbers in the sheet.
-// Parameters: `s` is the packet, `stop` the bit where its fields end, `at` the bit where a part begins, `n` the sheet bytes before it.
+// Parameters: `s` is the packet, `stop` the bit where its fields end, `spot` the bit where a part begins and the sheet bytes before it.
 ghost use Rattle.std.specs.Prelude.{◌-◌, ◌≤◌};
 ghost use Rattle.format.specs.Format.{times};
 ghost use Rattle.grammar.specs.journey.Journey as journey;
@@ -7,128 +7,82 @@ ghost use Rattle.grammar.specs.journey.Journey.{temporary_constraint};
 ghost use Rattle.packet_fields.specs.internal.Judging.{Standing, Over};
 
 use grammar::journey::layout::{CONSTRAINT, END, FRONT};
-use kinds::Rule;
 use kinds::journey::{
     DTcEndLocation, DTcStartLocation, QLowAdhesionRate, QTcFront, QTcRange, QTcType, VSpeedLevel,
 };
-use packet_fields::{PacketStep, PacketValue};
+use kinds::{Rule, UpTo};
+use packet_fields::times::times;
+use packet_fields::{Judged, Spot};
 
 // Judges the start and the end, at Q_TC_Range `range`.
-fn stretch(s: &[u8], stop: usize, at: usize, n: usize, range: u32) -> PacketStep
-    requires { Standing s.now stop at n }
-    ensures { Over (journey.stretch range) s.now stop at n result }
+fn stretch(s: &[u8], stop: usize, spot: Spot, range: u32) -> Judged<Spot>
+    requires { Standing s.now stop spot.at spot.n }
+    ensures { Over (journey.stretch range) s.now stop spot.at spot.n result }
 {
-    match packet_fields::field(s, stop, at, n, DTcStartLocation::rule(range)) {
-        PacketValue::Refused(r, place) => PacketStep::Refused(r, place),
-        PacketValue::Is(start, at2, n2) => {
-            packet_fields::plain(s, stop, at2, n2, DTcEndLocation::rule(range, start))
-        }
-    }
+    let (start, end) = packet_fields::field(s, stop, spot, DTcStartLocation::rule(range))?;
+    packet_fields::plain(s, stop, end, DTcEndLocation::rule(range, start))
 }
 
 // Judges Q_FRONT, V_Speed_Level, Q_Low_Adhesion_Rate and M_CURRENT, at Q_TC_Type `of`.
-fn restriction(s: &[u8], stop: usize, at: usize, n: usize, of: u32) -> PacketStep
-    requires { Standing s.now stop at n }
-    ensures { Over (journey.restriction of) s.now stop at n result }
+fn restriction(s: &[u8], stop: usize, spot: Spot, of: u32) -> Judged<Spot>
+    requires { Standing s.now stop spot.at spot.n }
+    ensures { Over (journey.restriction of) s.now stop spot.at spot.n result }
 {
-    match packet_fields::plain(s, stop, at, n, QTcFront::rule(of)) {
-        PacketStep::Refused(r, place) => PacketStep::Refused(r, place),
-        PacketStep::On(at2, n2) => match packet_fields::plain(
-            s,
-            stop,
-            at2,
-            n2,
-            VSpeedLevel::rule(of),
-        ) {
-            PacketStep::Refused(r, place) => PacketStep::Refused(r, place),
-            PacketStep::On(at3, n3) => {
-                match packet_fields::plain(s, stop, at3, n3, QLowAdhesionRate::rule(of)) {
-                    PacketStep::Refused(r, place) => PacketStep::Refused(r, place),
-                    PacketStep::On(at4, n4) => packet_fields::plain(
-                        s,
-                        stop,
-                        at4,
-                        n4,
-                        Rule::NoCurrent,
-                    ),
-                }
-            }
-        },
-    }
+    let speed = packet_fields::plain(s, stop, spot, QTcFront::rule(of))?;
+    let rate = packet_fields::plain(s, stop, speed, VSpeedLevel::rule(of))?;
+    let current = packet_fields::plain(s, stop, rate, QLowAdhesionRate::rule(of))?;
+    packet_fields::plain(s, stop, current, Rule::NoCurrent)
 }
 
 // Judges a temporary constraint field by field, and finds the field at fault.
-fn cut_constraint(s: &[u8], stop: usize, at: usize, n: usize) -> PacketStep
-    requires { Standing s.now stop at n }
-    ensures { Over temporary_constraint s.now stop at n result }
+fn cut_constraint(s: &[u8], stop: usize, spot: Spot) -> Judged<Spot>
+    requires { Standing s.now stop spot.at spot.n }
+    ensures { Over temporary_constraint s.now stop spot.at spot.n result }
 {
-    match packet_fields::field(s, stop, at, n, QTcType::rule()) {
-        PacketValue::Refused(r, place) => PacketStep::Refused(r, place),
-        PacketValue::Is(of, at2, n2) => match packet_fields::field(
-            s,
-            stop,
-            at2,
-            n2,
-            QTcRange::rule(),
-        ) {
-            PacketValue::Refused(r, place) => PacketStep::Refused(r, place),
-            PacketValue::Is(range, at3, n3) => match stretch(s, stop, at3, n3, range) {
-                PacketStep::Refused(r, place) => PacketStep::Refused(r, place),
-                PacketStep::On(at4, n4) => restriction(s, stop, at4, n4, of),
-            },
-        },
-    }
+    let (of, second) = packet_fields::field(s, stop, spot, QTcType::rule())?;
+    let (range, start) = packet_fields::field(s, stop, second, QTcRange::rule())?;
+    let front = stretch(s, stop, start, range)?;
+    restriction(s, stop, front, of)
 }
 
 // Fast path: all 73 bits are present. On a refusal, calls `cut_constraint` to find the field at fault.
-fn whole_constraint(s: &[u8], stop: usize, at: usize, n: usize) -> PacketStep
-    requires { Standing s.now stop at n × (73 ≤ stop - at) }
-    ensures { Over temporary_constraint s.now stop at n result }
+fn whole_constraint(s: &[u8], stop: usize, spot: Spot) -> Judged<Spot>
+    requires { Standing s.now stop spot.at spot.n × (73 ≤ stop - spot.at) }
+    ensures { Over temporary_constraint s.now stop spot.at spot.n result }
 {
-    let t = bits::read_window(s, at, 28);
-    let end = bits::read_window(s, at + END, DTcEndLocation::WIDTH);
+    let t = bits::read_window(s, spot.at, 28);
+    let end = bits::read_window(s, spot.at + END, DTcEndLocation::WIDTH);
     let stretch = crate::constraint_bytes::stretch_bytes(t / 16777216 % 4, t % 16777216, end);
     if stretch == 0 {
-        return cut_constraint(s, stop, at, n);
+        return cut_constraint(s, stop, spot);
     }
-    let uses = bits::read_window(s, at + FRONT, 21);
+    let uses = bits::read_window(s, spot.at + FRONT, 21);
     let restriction = crate::constraint_bytes::restriction_bytes(t / 67108864, uses);
     if restriction == 0 {
-        return cut_constraint(s, stop, at, n);
+        return cut_constraint(s, stop, spot);
     }
-    PacketStep::On(at + CONSTRAINT, n + (stretch + restriction + 2) as usize)
+    let bytes = stretch + restriction + 2;
+    Ok(Spot {
+        at: spot.at + CONSTRAINT,
+        n: spot.n + bytes as usize,
+    })
 }
 
 // Judges a temporary constraint.
-fn constraint(s: &[u8], stop: usize, at: usize, n: usize) -> PacketStep
-    requires { Standing s.now stop at n }
-    ensures { Over temporary_constraint s.now stop at n result }
+fn constraint(s: &[u8], stop: usize, spot: Spot) -> Judged<Spot>
+    requires { Standing s.now stop spot.at spot.n }
+    ensures { Over temporary_constraint s.now stop spot.at spot.n result }
 {
-    if stop - at < CONSTRAINT {
-        return cut_constraint(s, stop, at, n);
+    if stop - spot.at < CONSTRAINT {
+        return cut_constraint(s, stop, spot);
     }
-    whole_constraint(s, stop, at, n)
+    whole_constraint(s, stop, spot)
 }
 
 // Judges `count` temporary constraints, one after another.
-pub fn constraints(s: &[u8], stop: usize, at: usize, n: usize, count: u32) -> PacketStep
-    requires { Standing s.now stop at n }
-    ensures { Over (times temporary_constraint count) s.now stop at n result }
+pub fn constraints(s: &[u8], stop: usize, spot: Spot, count: u32) -> Judged<Spot>
+    requires { Standing s.now stop spot.at spot.n }
+    ensures { Over (times temporary_constraint count) s.now stop spot.at spot.n result }
 {
-    let mut to = at;
-    let mut m = n;
-    let mut left = count;
-    while 0 < left {
-        match constraint(s, stop, to, m) {
-            PacketStep::Refused(r, place) => {
-                return PacketStep::Refused(r, place);
-            }
-            PacketStep::On(a, b) => {
-                to = a;
-                m = b;
-                left -= 1;
-            }
-        }
-    }
-    PacketStep::On(to, m)
+    times(count, spot, |at| constraint(s, stop, at))
 }

@@ -1,5 +1,5 @@
 // Judges the fields of a journey's packet, and counts the bytes of its sheet. Nothing is written.
-// Parameters: `s` is the packet, `stop` the bit where its fields end, `at` the bit where a part begins, `n` the sheet bytes before it.
+// Parameters: `s` is the packet, `stop` the bit where its fields end, `spot` the bit where a part begins and the sheet bytes before it.
 
 #![tactic(auto)]
 
@@ -17,117 +17,99 @@ ghost use Rattle.packet_journey.specs.internal.Head.{segment_head};
 
 use grammar::journey::CONSTRAINTS;
 use grammar::journey::layout::{IDENTITY, SEGMENT_HEAD, VERSIONS, VERSIONS_WIDTH};
-use kinds::body;
 use kinds::journey::{NIterSp, QJpStatus};
-use packet_fields::{PacketStep, PacketValue};
+use kinds::{UpTo, body};
+use packet_fields::times::times;
+use packet_fields::{Judged, Spot};
 
 // Judges NID_C to Q_SP_DIR and N_ITER of a segment, field by field, and returns N_ITER.
-fn cut_head(s: &[u8], stop: usize, at: usize, n: usize) -> PacketValue
-    requires { Standing s.now stop at n }
-    ensures { Gave segment_head s.now stop at n result }
+fn cut_head(s: &[u8], stop: usize, spot: Spot) -> Judged<(u32, Spot)>
+    requires { Standing s.now stop spot.at spot.n }
+    ensures { Gave segment_head s.now stop spot.at spot.n result }
 {
     let widths = grammar::journey::segment_widths();
     let most = grammar::journey::segment_most();
-    match packet_fields::row::row(s, stop, at, n, &widths, &most) {
-        PacketStep::Refused(r, place) => PacketValue::Refused(r, place),
-        PacketStep::On(at2, n2) => packet_fields::count(s, stop, at2, n2, body::NIter::LARGEST),
-    }
+    let count = packet_fields::row::row(s, stop, spot, &widths, &most)?;
+    packet_fields::count(s, stop, count, body::NIter::LARGEST)
 }
 
 // Fast path: all 64 bits are present. No value of these fields is refused.
-fn whole_head(s: &[u8], stop: usize, at: usize, n: usize) -> PacketValue
-    requires { Standing s.now stop at n × (64 ≤ stop - at) }
-    ensures { Gave segment_head s.now stop at n result }
+fn whole_head(s: &[u8], stop: usize, spot: Spot) -> Judged<(u32, Spot)>
+    requires { Standing s.now stop spot.at spot.n × (64 ≤ stop - spot.at) }
+    ensures { Gave segment_head s.now stop spot.at spot.n result }
 {
-    let country = fields::size::short(bits::read_window(s, at, body::NidC::WIDTH));
-    let identity = numbers::write::groups(bits::read_window(s, at + IDENTITY, body::NidSp::WIDTH));
-    let t = bits::read_window(s, at + VERSIONS, VERSIONS_WIDTH);
+    let country = fields::size::short(bits::read_window(s, spot.at, body::NidC::WIDTH));
+    let identity = numbers::write::groups(bits::read_window(
+        s,
+        spot.at + IDENTITY,
+        body::NidSp::WIDTH,
+    ));
+    let t = bits::read_window(s, spot.at + VERSIONS, VERSIONS_WIDTH);
     let major = fields::size::short(t / 16384);
     let minor = fields::size::short(t / 64 % 256);
     let bytes = country + identity + major + minor + 2;
-    PacketValue::Is(t % 32, at + SEGMENT_HEAD, n + bytes as usize)
+    Ok((
+        t % 32,
+        Spot {
+            at: spot.at + SEGMENT_HEAD,
+            n: spot.n + bytes as usize,
+        },
+    ))
 }
 
 // Judges NID_C to Q_SP_DIR and N_ITER of a segment, and returns N_ITER, the count of its timing points.
-fn segment_head(s: &[u8], stop: usize, at: usize, n: usize) -> PacketValue
-    requires { Standing s.now stop at n }
-    ensures { Gave segment_head s.now stop at n result }
+fn segment_head(s: &[u8], stop: usize, spot: Spot) -> Judged<(u32, Spot)>
+    requires { Standing s.now stop spot.at spot.n }
+    ensures { Gave segment_head s.now stop spot.at spot.n result }
 {
-    if stop - at < SEGMENT_HEAD {
-        return cut_head(s, stop, at, n);
+    if stop - spot.at < SEGMENT_HEAD {
+        return cut_head(s, stop, spot);
     }
-    whole_head(s, stop, at, n)
+    whole_head(s, stop, spot)
 }
 
 // Judges the count of a segment's temporary constraints, and the constraints.
-fn constraint_list(s: &[u8], stop: usize, at: usize, n: usize) -> PacketStep
-    requires { Standing s.now stop at n }
-    ensures { Over (constraint_list constraints) s.now stop at n result }
+fn constraint_list(s: &[u8], stop: usize, spot: Spot) -> Judged<Spot>
+    requires { Standing s.now stop spot.at spot.n }
+    ensures { Over (constraint_list constraints) s.now stop spot.at spot.n result }
 {
-    match packet_fields::count(s, stop, at, n, CONSTRAINTS) {
-        PacketValue::Refused(r, place) => PacketStep::Refused(r, place),
-        PacketValue::Is(count, at2, n2) => crate::constraint::constraints(s, stop, at2, n2, count),
-    }
+    let (count, first) = packet_fields::count(s, stop, spot, CONSTRAINTS)?;
+    crate::constraint::constraints(s, stop, first, count)
 }
 
 // Judges a segment: its head, its timing points, its temporary constraints.
-fn segment(s: &[u8], stop: usize, at: usize, n: usize) -> PacketStep
-    requires { Standing s.now stop at n }
-    ensures { Over (journey_segment constraints) s.now stop at n result }
+fn segment(s: &[u8], stop: usize, spot: Spot) -> Judged<Spot>
+    requires { Standing s.now stop spot.at spot.n }
+    ensures { Over (journey_segment constraints) s.now stop spot.at spot.n result }
 {
-    match segment_head(s, stop, at, n) {
-        PacketValue::Refused(r, place) => PacketStep::Refused(r, place),
-        PacketValue::Is(count, at2, n2) => match crate::point::points(s, stop, at2, n2, count) {
-            PacketStep::Refused(r, place) => PacketStep::Refused(r, place),
-            PacketStep::On(at3, n3) => constraint_list(s, stop, at3, n3),
-        },
-    }
+    let (count, first) = segment_head(s, stop, spot)?;
+    let list = crate::point::points(s, stop, first, count)?;
+    constraint_list(s, stop, list)
 }
 
 // Judges `count` segments, one after another.
-fn segments(s: &[u8], stop: usize, at: usize, n: usize, count: u32) -> PacketStep
-    requires { Standing s.now stop at n }
-    ensures { Over (times (journey_segment constraints) count) s.now stop at n result }
+fn segments(s: &[u8], stop: usize, spot: Spot, count: u32) -> Judged<Spot>
+    requires { Standing s.now stop spot.at spot.n }
+    ensures { Over (times (journey_segment constraints) count) s.now stop spot.at spot.n result }
 {
-    let mut to = at;
-    let mut m = n;
-    let mut left = count;
-    while 0 < left {
-        match segment(s, stop, to, m) {
-            PacketStep::Refused(r, place) => {
-                return PacketStep::Refused(r, place);
-            }
-            PacketStep::On(a, b) => {
-                to = a;
-                m = b;
-                left -= 1;
-            }
-        }
-    }
-    PacketStep::On(to, m)
+    times(count, spot, |at| segment(s, stop, at))
 }
 
 // Judges the body: Q_JP_Status, N_ITER_SP and the segments.
-fn body(s: &[u8], stop: usize, at: usize, n: usize) -> PacketStep
-    requires { Standing s.now stop at n }
-    ensures { Over journey_body_part s.now stop at n result }
+fn body(s: &[u8], stop: usize, spot: Spot) -> Judged<Spot>
+    requires { Standing s.now stop spot.at spot.n }
+    ensures { Over journey_body_part s.now stop spot.at spot.n result }
 {
-    match packet_fields::plain(s, stop, at, n, QJpStatus::rule()) {
-        PacketStep::Refused(r, place) => PacketStep::Refused(r, place),
-        PacketStep::On(at2, n2) => match packet_fields::field(s, stop, at2, n2, NIterSp::rule()) {
-            PacketValue::Refused(r, place) => PacketStep::Refused(r, place),
-            PacketValue::Is(count, at3, n3) => segments(s, stop, at3, n3, count),
-        },
-    }
+    let count = packet_fields::plain(s, stop, spot, QJpStatus::rule())?;
+    let (segment_count, first) = packet_fields::field(s, stop, count, NIterSp::rule())?;
+    segments(s, stop, first, segment_count)
 }
 
 // Judges every field after L_PACKET_ATO.
-pub fn fields(s: &[u8], stop: usize) -> PacketStep
+pub fn fields(s: &[u8], stop: usize) -> Judged<Spot>
     requires { Standing s.now stop 24 1 }
     ensures { Over journey_part s.now stop 24 1 result }
 {
-    match packet_fields::header::header(s, stop) {
-        PacketStep::Refused(r, place) => PacketStep::Refused(r, place),
-        PacketStep::On(at, n) => body(s, stop, at, n),
-    }
+    let status = packet_fields::header::header(s, stop)?;
+    body(s, stop, status)
 }

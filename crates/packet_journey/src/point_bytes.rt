@@ -4,8 +4,10 @@ ghost use Rattle.bits.specs.internal.Windows.{low_parts};
 ghost use Rattle.packet_fields.specs.internal.row.Values.{row_bytes};
 ghost use Rattle.packet_journey.specs.internal.point_bytes.Windows.{latest_widths, latest_most, marks_widths, marks_most, doors_widths, leaving_widths, eight_most};
 
+use kinds::UpTo;
 use kinds::journey::{
     QStopSkipPasses, QTpAlignment, QTpInformation, TDepartureSeconds, TLatestArrivalSeconds,
+    UnlessPassing,
 };
 
 // Bytes of T_Latest_Arrival_Date and T_Latest_Arrival_Seconds in the sheet, or 0 if one is refused. `t` is their 32 bits.

@@ -1,5 +1,5 @@
 // The fields of a segment's packet before its lists judged, with the bytes of their sheet counted. Nothing is written.
-// Parameters: `s` is the packet, `stop` the bit where its fields end, `at` the bit of the part, `n` the sheet bytes before it.
+// Parameters: `s` is the packet, `stop` the bit where its fields end, `spot` the bit of the part and the sheet bytes before it.
 ghost use Rattle.std.specs.Prelude.{◌≡◌, ◌≤◌, length};
 ghost use Rattle.grammar.specs.internal.rows.Rows.{row};
 ghost use Rattle.bits.specs.internal.Windows.{fields_at};
@@ -9,49 +9,41 @@ ghost use Rattle.packet_fields.specs.internal.row.Values.{groups_all, row_bytes}
 ghost use Rattle.packet_segment.specs.internal.head.Head.{body_head, head_part};
 
 use grammar::segment::layout;
-use kinds::{body, header};
-use packet_fields::{PacketStep, PacketValue};
+use kinds::{UpTo, body, header};
+use packet_fields::{Judged, Spot};
 
 // ---- field by field
 
 // Judges D_EoA_Offset, Q_UTC_Offset and M_SP_Altitude.
-fn cut_offsets(s: &[u8], stop: usize, at: usize, n: usize) -> PacketStep
-    requires { Standing s.now stop at n }
-    ensures { Over (row offset_widths offset_most) s.now stop at n result }
+fn cut_offsets(s: &[u8], stop: usize, spot: Spot) -> Judged<Spot>
+    requires { Standing s.now stop spot.at spot.n }
+    ensures { Over (row offset_widths offset_most) s.now stop spot.at spot.n result }
 {
     let widths = grammar::segment::offset_widths();
     let most = grammar::segment::offset_most();
-    packet_fields::row::row(s, stop, at, n, &widths, &most)
+    packet_fields::row::row(s, stop, spot, &widths, &most)
 }
 
 // Judges the body's fields before the lists and returns the value of L_SP.
-fn cut_body(s: &[u8], stop: usize, at: usize, n: usize) -> PacketValue
-    requires { Standing s.now stop at n }
-    ensures { Gave body_head s.now stop at n result }
+fn cut_body(s: &[u8], stop: usize, spot: Spot) -> Judged<(u32, Spot)>
+    requires { Standing s.now stop spot.at spot.n }
+    ensures { Gave body_head s.now stop spot.at spot.n result }
 {
     let widths = grammar::segment::identity_widths();
     let most = grammar::segment::identity_most();
-    match packet_fields::row::row(s, stop, at, n, &widths, &most) {
-        PacketStep::Refused(r, place) => PacketValue::Refused(r, place),
-        PacketStep::On(at2, n2) => match packet_fields::field(s, stop, at2, n2, body::LSp::rule()) {
-            PacketValue::Refused(r, place) => PacketValue::Refused(r, place),
-            PacketValue::Is(lsp, at3, n3) => match cut_offsets(s, stop, at3, n3) {
-                PacketStep::Refused(r, place) => PacketValue::Refused(r, place),
-                PacketStep::On(at4, n4) => PacketValue::Is(lsp, at4, n4),
-            },
-        },
-    }
+    let length = packet_fields::row::row(s, stop, spot, &widths, &most)?;
+    let (lsp, offset) = packet_fields::field(s, stop, length, body::LSp::rule())?;
+    let profile = cut_offsets(s, stop, offset)?;
+    Ok((lsp, profile))
 }
 
 // Judges the header and the body's fields before the lists and returns the value of L_SP.
-fn cut_head(s: &[u8], stop: usize) -> PacketValue
+fn cut_head(s: &[u8], stop: usize) -> Judged<(u32, Spot)>
     requires { Standing s.now stop 24 1 }
     ensures { Gave head_part s.now stop 24 1 result }
 {
-    match packet_fields::header::header(s, stop) {
-        PacketStep::Refused(r, place) => PacketValue::Refused(r, place),
-        PacketStep::On(at, n) => cut_body(s, stop, at, n),
-    }
+    let country = packet_fields::header::header(s, stop)?;
+    cut_body(s, stop, country)
 }
 
 // ---- fast path: the bits are all present, and each field stands at a constant place from the packet's start
@@ -132,7 +124,7 @@ fn offset_bytes(s: &[u8]) -> usize
 }
 
 // Judges the head, whose bits are all present, and returns the value of L_SP. On a refusal, calls `cut_head` to find the field at fault.
-fn whole_head(s: &[u8], stop: usize) -> PacketValue
+fn whole_head(s: &[u8], stop: usize) -> Judged<(u32, Spot)>
     requires { Standing s.now stop 24 1 × (38 ≤ length s.now) × (253 ≤ stop) }
     ensures { Gave head_part s.now stop 24 1 result }
 {
@@ -158,15 +150,18 @@ fn whole_head(s: &[u8], stop: usize) -> PacketValue
     }
     let identity = identity_bytes(s);
     let length = numbers::write::groups(lsp);
-    PacketValue::Is(
+    let bytes = 1 + operational as usize + header + identity + length as usize + offsets;
+    Ok((
         lsp,
-        layout::PROFILE,
-        1 + operational as usize + header + identity + length as usize + offsets,
-    )
+        Spot {
+            at: layout::PROFILE,
+            n: bytes,
+        },
+    ))
 }
 
 // Judges the thirteen fields before the lists and returns the value of L_SP.
-pub fn head(s: &[u8], stop: usize) -> PacketValue
+pub fn head(s: &[u8], stop: usize) -> Judged<(u32, Spot)>
     requires { Standing s.now stop 24 1 }
     ensures { Gave head_part s.now stop 24 1 result }
 {

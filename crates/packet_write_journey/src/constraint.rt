@@ -17,23 +17,17 @@ fn location(sheet: &[u8], room: &mut [u8], p: PacketSpot) -> Given
     let of = numbers::accepted::number(sheet, p.from);
     let range = numbers::accepted::number(sheet, of.next);
     let start = numbers::accepted::number(sheet, range.next);
-    let end = numbers::accepted::number(sheet, start.next);
     let bits = of.value * 67108864 + range.value * 16777216 + start.value;
-    let wait = bits::write::put(room, p.at, p.wait, 28, bits);
-    let at = p.at + 28;
-    let last = bits::write::put(room, at, wait, DTcEndLocation::WIDTH, end.value);
+    let next = p.put(room, 28, bits, start.next);
+    let end = next.copy_number(sheet, room, DTcEndLocation::WIDTH);
     Given {
         value: of.value,
-        next: PacketSpot {
-            from: end.next,
-            at: at + DTcEndLocation::WIDTH as usize,
-            wait: last,
-        },
+        next: end.next,
     }
 }
 
 // Writes Q_FRONT, the speed, the adhesion and the current at once; the current is no limit, and an unused speed is 0.
-// `of`, the Q_TC_Type, is for the contract alone.
+// `of`, the Q_TC_Type, is for the contract alone. It is no ghost value: a call picks one from its arguments or a constant, and `location` returned it.
 fn restriction(sheet: &[u8], room: &mut [u8], p: PacketSpot, of: u32) -> PacketSpot
     requires { Ready (tree.restriction of) sheet.now room.old p }
     ensures { Wrote (tree.restriction of) sheet.now room.old p room.new result }
@@ -45,12 +39,7 @@ fn restriction(sheet: &[u8], room: &mut [u8], p: PacketSpot, of: u32) -> PacketS
     let speed = level.value;
     let steps = fields::lower::speed_steps(speed);
     let bits = front.value * 1048576 + steps * 8192 + adhesion.value * 1024 + MCurrent::NO_LIMIT;
-    let wait = bits::write::put(room, p.at, p.wait, 21, bits);
-    PacketSpot {
-        from: current.next,
-        at: p.at + 21,
-        wait,
-    }
+    p.put(room, 21, bits, current.next)
 }
 
 // Writes a temporary constraint.
@@ -59,6 +48,5 @@ pub fn constraint(sheet: &[u8], room: &mut [u8], p: PacketSpot) -> PacketSpot
     ensures { Wrote tree.temporary_constraint sheet.now room.old p room.new result }
 {
     let first = location(sheet, room, p);
-    let next = first.next;
-    restriction(sheet, room, next, first.value)
+    restriction(sheet, room, first.next, first.value)
 }

@@ -5,11 +5,12 @@ ghost use Rattle.grammar.specs.journey.Journey.{timing_point};
 ghost use Rattle.grammar.specs.internal.journey.Parts.{arrival_widths, arrival_most, stopping_widths, stopping_most};
 ghost use Rattle.packet_write_segment.specs.internal.elements.Writing.{Ready, Wrote};
 
+use kinds::UpTo;
 use kinds::journey::{
     NidTp, QAutomaticClosing, QCentralisedOpening, QDayLightSaving, QOpeningDoorSide,
     QRelaxedCoupler, QStopSkipPasses, QTpAlignment, QTpInformation, QTrainHold, TArrivalWindow,
     TDepartureDate, TDepartureSeconds, TLatestArrivalDate, TLatestArrivalSeconds,
-    TMinimumDwellTime,
+    TMinimumDwellTime, UnlessPassing,
 };
 use packet_write_segment::elements::PacketSpot;
 use packet_write_segment::row::{number, piece};
@@ -35,6 +36,7 @@ const DEPARTURE: u32 = TDepartureDate::WIDTH + TDepartureSeconds::WIDTH;
 const DWELL: u32 = TMinimumDwellTime::WIDTH + QAutomaticClosing::WIDTH;
 
 // Writes NID_TP to Q_TP_Alignment.
+// A function of its own, as `stopping` and `names` are: one for the three rows misses a bar of speed (docs/PERFORMANCE.md).
 fn arrival(sheet: &[u8], room: &mut [u8], p: PacketSpot) -> PacketSpot
     requires { Ready (row arrival_widths arrival_most) sheet.now room.old p }
     ensures { Wrote (row arrival_widths arrival_most) sheet.now room.old p room.new result }
@@ -47,6 +49,7 @@ fn arrival(sheet: &[u8], room: &mut [u8], p: PacketSpot) -> PacketSpot
 }
 
 // Writes Q_TP_Information to Q_Automatic_Closing, by Q_Stop_Skip_Passes, which is for the contract alone.
+// It is no ghost value: a call picks one from its arguments or a constant, and this is what a call in `point` returned.
 fn stopping(sheet: &[u8], room: &mut [u8], p: PacketSpot, stop_skip_passes: u32) -> PacketSpot
     requires { Ready (row stopping_widths (stopping_most stop_skip_passes)) sheet.now room.old p }
     ensures { Wrote (row stopping_widths (stopping_most stop_skip_passes)) sheet.now room.old p room.new result }
@@ -71,6 +74,5 @@ pub fn point(sheet: &[u8], room: &mut [u8], p: PacketSpot) -> PacketSpot
         QStopSkipPasses::WIDTH,
         QStopSkipPasses::LARGEST,
     );
-    let next = stop_skip_passes.next;
-    stopping(sheet, room, next, stop_skip_passes.value)
+    stopping(sheet, room, stop_skip_passes.next, stop_skip_passes.value)
 }

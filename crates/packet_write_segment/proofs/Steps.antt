@@ -1,11 +1,8 @@
 -- The header, the body and a list, step by step: the field that is next, what may be put after it, and what is put once all steps are taken.
 use mathlib.Core.Path.{refl}
 use mathlib.Core.List.{List}
-use Prim.Native.Nat.{ℕ, ◌-◌, ◌+◌, ◌^◌, ◌<◌}
+use Prim.Native.Nat.{ℕ, ◌-◌, ◌^◌, ◌<◌}
 use lib.Dec.{lit<}
-use Rattle.bits.specs.internal.write.Filling.{Filling}
-use Rattle.numbers.specs.declared.accepted.ReadNumber.{ReadNumber}
-use Rattle.numbers.specs.internal.accepted.Accepted.{Reads}
 use Rattle.kinds.specs.Kinds.{nid_operational, l_sp, n_iter, d_location}
 use Rattle.fields.proofs.Lawful.{narrow, range_lawful, up_to_lawful, operational_lawful, location_lawful}
 use Rattle.format.specs.Format.{Format, field}
@@ -16,6 +13,8 @@ use Rattle.grammar.specs.internal.segment.Parts.{start_of, three_lists, header_w
 use Rattle.grammar.proofs.segment.Parts.{changes_more}
 use Rattle.packet_write_segment.specs.declared.elements.PacketSpot.{PacketSpot}
 use Rattle.packet_write_segment.specs.internal.elements.Writing.{Ready, Wrote}
+use Rattle.packet_write_segment.specs.declared.row.Given.{Given}
+use Rattle.packet_write_segment.specs.internal.row.Alone.{Copied}
 use Rattle.packet_write_segment.proofs.elements.Writing.{Along, along_all, along_as, along_next, along_on, along_none, Next, next_on}
 
 -- ---- the header
@@ -27,12 +26,12 @@ module _ {s room : List ℕ} {p : PacketSpot} (h : Ready header_rows s room p) w
   pub operational_next : Next header_rows nid_operational (λ v. header_row) s room p room p
   operational_next = record { ready = h; along = along_all h; lawful = operational_lawful; same = λ n. refl }
 
-  module _ {t : ReadNumber} (d : Reads s p.from t) {mid : List ℕ} {r : ℕ} (f : Filling room p.at p.wait 32 t.value mid r) where
-    pub header_row_ready : Ready header_row s mid (record { from = t.next; at = p.at + 32; wait = r })
-    header_row_ready = along_next header_row (λ f. f) (next_on operational_next d refl f) h
+  module _ {mid : List ℕ} {r : Given} (d : Copied s room p 32 mid r) where
+    pub header_row_ready : Ready header_row s mid r.next
+    header_row_ready = along_next header_row (λ f. f) (next_on operational_next refl d) h
 
-    pub header_wrote : {end : List ℕ} {q : PacketSpot} → Wrote header_row s mid (record { from = t.next; at = p.at + 32; wait = r }) end q → Wrote header_rows s room p end q
-    header_wrote w = along_none (along_on header_row (λ f. f) (next_on operational_next d refl f) w)
+    pub header_wrote : {end : List ℕ} {q : PacketSpot} → Wrote header_row s mid r.next end q → Wrote header_rows s room p end q
+    header_wrote w = along_none (along_on header_row (λ f. f) (next_on operational_next refl d) w)
 
 -- ---- the body
 
@@ -53,19 +52,19 @@ module _ {s room : List ℕ} {p : PacketSpot} (h : Ready body_rows s room p) whe
     pub length_next : Next body_rows l_sp offset_rows s room p mid q
     length_next = record { ready = h; along = along_on identity rest (along_all h) a; lawful = range_lawful 24 1 16777215 4 (narrow tt) (lit< tt); same = λ n. refl }
 
-    module _ {t : ReadNumber} (d : Reads s q.from t) {far : List ℕ} {r : ℕ} (f : Filling mid q.at q.wait 24 t.value far r) where
-      pub offsets_ready : Ready offsets s far (record { from = t.next; at = q.at + 24; wait = r })
-      offsets_ready = along_next offsets (three_lists t.value) (next_on length_next d refl f) h
+    module _ {far : List ℕ} {r : Given} (d : Copied s mid q 24 far r) where
+      pub offsets_ready : Ready offsets s far r.next
+      offsets_ready = along_next offsets (three_lists r.value) (next_on length_next refl d) h
 
-      module _ {last : List ℕ} {v : PacketSpot} (o : Wrote offsets s far (record { from = t.next; at = q.at + 24; wait = r }) last v) where
-        after_offsets : Along body_rows (three_lists t.value) s room p last v
-        after_offsets = along_on offsets (three_lists t.value) (next_on length_next d refl f) o
+      module _ {last : List ℕ} {v : PacketSpot} (o : Wrote offsets s far r.next last v) where
+        after_offsets : Along body_rows (three_lists r.value) s room p last v
+        after_offsets = along_on offsets (three_lists r.value) (next_on length_next refl d) o
 
-        pub lists_ready : Ready (three_lists t.value) s last v
-        lists_ready = along_next (three_lists t.value) (λ f. f) after_offsets h
+        pub lists_ready : Ready (three_lists r.value) s last v
+        lists_ready = along_next (three_lists r.value) (λ f. f) after_offsets h
 
-        pub body_wrote : {end : List ℕ} {w : PacketSpot} → Wrote (three_lists t.value) s last v end w → Wrote body_rows s room p end w
-        body_wrote w = along_none (along_on (three_lists t.value) (λ f. f) after_offsets w)
+        pub body_wrote : {end : List ℕ} {w : PacketSpot} → Wrote (three_lists r.value) s last v end w → Wrote body_rows s room p end w
+        body_wrote w = along_none (along_on (three_lists r.value) (λ f. f) after_offsets w)
 
 -- ---- a list
 
@@ -87,12 +86,12 @@ module _ (part : Part) (lsp : ℕ) where
       pub count_next : Next (segment.part (start_of part) limit lsp) (n_iter limit) (changes 0) s room p mid q
       count_next = record { ready = h; along = along_on start counted (along_all h) a; lawful = up_to_lawful 5 limit (narrow tt) few; same = λ n. refl }
 
-      module _ {t : ReadNumber} (d : Reads s q.from t) {far : List ℕ} {r : ℕ} (f : Filling mid q.at q.wait 5 t.value far r) where
-        pub changes_ready : Ready (changes 0 t.value) s far (record { from = t.next; at = q.at + 5; wait = r })
-        changes_ready = along_next (changes 0 t.value) (λ f. f) (next_on count_next d refl f) h
+      module _ {far : List ℕ} {r : Given} (d : Copied s mid q 5 far r) where
+        pub changes_ready : Ready (changes 0 r.value) s far r.next
+        changes_ready = along_next (changes 0 r.value) (λ f. f) (next_on count_next refl d) h
 
-        pub list_wrote : {end : List ℕ} {w : PacketSpot} → Wrote (changes 0 t.value) s far (record { from = t.next; at = q.at + 5; wait = r }) end w → Wrote (segment.part (start_of part) limit lsp) s room p end w
-        list_wrote w = along_none (along_on (changes 0 t.value) (λ f. f) (next_on count_next d refl f) w)
+        pub list_wrote : {end : List ℕ} {w : PacketSpot} → Wrote (changes 0 r.value) s far r.next end w → Wrote (segment.part (start_of part) limit lsp) s room p end w
+        list_wrote w = along_none (along_on (changes 0 r.value) (λ f. f) (next_on count_next refl d) w)
 
   -- the next change, after the location last: n are left
   module _ (count last n : ℕ) {s room mid : List ℕ} {u v : PacketSpot} (h : Ready (changes 0 count) s room u) (small : lsp < 2 ^ 24) (l : Along (changes 0 count) (changes last n) s room u mid v) (some : 0 < n) where
@@ -102,9 +101,9 @@ module _ (part : Part) (lsp : ℕ) where
     pub location_next : Next (changes 0 count) (d_location last lsp) after s room u mid v
     location_next = record { ready = h; along = along_as (λ f. field (d_location last lsp) λ x. after x f) (changes_more (start_of part) lsp last n some) l; lawful = location_lawful last lsp small; same = λ n. refl }
 
-    module _ {t : ReadNumber} (d : Reads s v.from t) {far : List ℕ} {r : ℕ} (f : Filling mid v.at v.wait 24 t.value far r) where
-      pub change_ready : Ready start s far (record { from = t.next; at = v.at + 24; wait = r })
-      change_ready = along_next start (changes t.value (n - 1)) (next_on location_next d refl f) h
+    module _ {far : List ℕ} {r : Given} (d : Copied s mid v 24 far r) where
+      pub change_ready : Ready start s far r.next
+      change_ready = along_next start (changes r.value (n - 1)) (next_on location_next refl d) h
 
-      pub change_on : {end : List ℕ} {w : PacketSpot} → Wrote start s far (record { from = t.next; at = v.at + 24; wait = r }) end w → Along (changes 0 count) (changes t.value (n - 1)) s room u end w
-      change_on w = along_on start (changes t.value (n - 1)) (next_on location_next d refl f) w
+      pub change_on : {end : List ℕ} {w : PacketSpot} → Wrote start s far r.next end w → Along (changes 0 count) (changes r.value (n - 1)) s room u end w
+      change_on w = along_on start (changes r.value (n - 1)) (next_on location_next refl d) w

@@ -1,4 +1,5 @@
 // Fields of an accepted sheet whose numbers are their values, put into a packet: one field alone, the fields of a row in one piece, and a whole row field by field.
+// `most` is no ghost value: docs/CONTRACTS.md names `number`, `piece` and `row`, so they take what they took.
 ghost use Rattle.std.specs.Prelude.{◌≡◌, true, ◌+◌, ◌^◌, ◌≤◌, ◌<◌};
 ghost use Rattle.bits.specs.internal.Windows.{bits_in};
 ghost use Rattle.kinds.specs.Kind.{up_to};
@@ -21,16 +22,7 @@ pub fn number(sheet: &[u8], room: &mut [u8], p: PacketSpot, width: u32, most: u3
     requires { Offers (up_to width most) sheet.now room.old p × (1 ≤ width) × (width ≤ 32) × (most < 2 ^ width) }
     ensures { Gives (up_to width most) sheet.now room.old p room.new result }
 {
-    let a = numbers::accepted::number(sheet, p.from);
-    let wait = bits::write::put(room, p.at, p.wait, width, a.value);
-    Given {
-        value: a.value,
-        next: PacketSpot {
-            from: a.next,
-            at: p.at + width as usize,
-            wait,
-        },
-    }
+    p.copy_number(sheet, room, width)
 }
 
 // Puts the fields of a row from number `first` up to before number `end` at once: `total` bits, at most 32. `most` are the largest values of the row, named for the contract only.
@@ -50,19 +42,12 @@ pub fn piece(
     let part = &widths[first..end];
     let mut from = p.from;
     let mut bits: u64 = 0;
-    let mut i: usize = 0;
-    while i < part.len() {
+    for width in part {
         let a = numbers::accepted::number(sheet, from);
-        bits = (bits << part[i]) + a.value as u64;
+        bits = (bits << *width) + a.value as u64;
         from = a.next;
-        i += 1;
     }
-    let wait = bits::write::put(room, p.at, p.wait, total, bits as u32);
-    PacketSpot {
-        from,
-        at: p.at + total as usize,
-        wait,
-    }
+    p.put(room, total, bits as u32, from)
 }
 
 // Puts all fields of a row, one after the other. `most` are their largest values, named for the contract only.
@@ -77,17 +62,8 @@ pub fn row(
     ensures { Wrote (rows.row widths.now most.now) sheet.now room.old from room.new result × (result.at ≡ from.at + bits_in widths.now) }
 {
     let mut p = from;
-    let mut i = 0;
-    while i < widths.len() {
-        let a = numbers::accepted::number(sheet, p.from);
-        let width = widths[i];
-        let wait = bits::write::put(room, p.at, p.wait, width, a.value);
-        p = PacketSpot {
-            from: a.next,
-            at: p.at + width as usize,
-            wait,
-        };
-        i += 1;
+    for width in widths {
+        p = p.copy_number(sheet, room, *width).next;
     }
     p
 }

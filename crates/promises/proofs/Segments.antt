@@ -9,8 +9,7 @@ use borrow.Author.Tests.{ne_eqb, le-ltb}
 use lib.Dec.{lit≤}
 use lib.ListN.{length}
 use Rattle.bits.specs.Bits.{Bytes}
-use Rattle.numbers.specs.declared.Number.{Number}
-use Rattle.numbers.specs.declared.Number.TheVariants.{Value, Bad}
+use Rattle.std.specs.Prelude.{Some, None, Option}
 use Rattle.numbers.specs.Numbers.{number_in}
 use Rattle.kinds.specs.declared.Item.{Item}
 use Rattle.format.specs.Format.{Read, accepted, refused}
@@ -72,15 +71,15 @@ module _ (s room : List ℕ) (ok : Bytes s) where
           never_8 (rw d at (among_member g)) d
 
   -- a sheet whose first number is not 4 is never refused with 8 if the room has 2,073 bytes
-  pub largest_segment_packet_room : (number_in s ≡ Value 4 → ⊥) → 2073 ≤ length room → (sheet_to_packet s room).answer.refusal ≡ 8 → ⊥
+  pub largest_segment_packet_room : (number_in s ≡ Some 4 → ⊥) → 2073 ≤ length room → (sheet_to_packet s room).answer.refusal ≡ 8 → ⊥
   unfolding sheet_to_packet from_either_sheet from_sheet sheet_fields fields
   largest_segment_packet_room n h e =
       go (from_sheet wire_changes s) refl
       (sym (ap (λ (r : Read). (converted to_either_packet (within_count r) room).answer.refusal) (sheet_by_tree s ∙ ap (λ (t : Tree). tree_sheet t s) (tree (number_in s) n))) ∙ e)
     where
-      tree : (m : Number) → (m ≡ Value 4 → ⊥) → by_number m ≡ Segment
-      tree Bad d = refl
-      tree (Value a) d = rw (ne_eqb a 4 (λ q. d (ap Value q)))
+      tree : (m : Option ℕ) → (m ≡ Some 4 → ⊥) → by_number m ≡ Segment
+      tree None d = refl
+      tree (Some a) d = rw (ne_eqb a 4 (λ q. d (ap Some q)))
 
       go : (r : Read) → from_sheet wire_changes s ≡ r → (converted to_either_packet (within_count r) room).answer.refusal ≡ 8 → ⊥
       go (accepted l) a d =

@@ -1,29 +1,63 @@
 -- The answer, from the refusal of the legs, the permitted speed's answer, the train's tail and the lowest speed; and by the journey's verdict.
 use mathlib.Core.Path.{◌≡◌, refl, sym, ap, ap₂, ◌∙◌}
 use mathlib.Core.Bool.{Bool, true, false, cond, ◌&&◌}
-use mathlib.Core.List.{List, [], ◌∷◌, map}
-use Prim.Native.Nat.{ℕ, zero, suc, ◌+◌, ◌-◌, ◌≤◌, ◌<◌}
+use mathlib.Core.List.{List}
+use Prim.Native.Nat.{ℕ, ◌+◌, ◌-◌, ◌≤◌, ◌<◌}
 use native.Mathlib.Omega.{arith}
 use borrow.Author.Tests.{eq-eqb, ne_eqb, ltb-true, ltb-false, lt-ltb, le-ltb, le-leb, lt-leb}
 use lib.Dec.{eqb, ltb}
 use lib.ListN.{length, take, drop}
+use Rattle.std.proofs.lemmas.List.{length-map}
 use Rattle.bits.proofs.Tests.{by_cases}
 use Rattle.kinds.specs.declared.Item.{Item}
-use Rattle.format.specs.Format.{Read, values_of, answer_of, sheet_numbers}
+use Rattle.kinds.specs.declared.refusals.Refusal.{Refusal}
+use Rattle.kinds.specs.declared.refusals.Refusal.TheVariants.{ShortPacket, PacketNumber, PacketLength, FieldValue, ChangeLocation, BodyBits, PaddingBit, ShortRoom, SheetForm, TrainValue, PastEnd, LongBody, BitsLeft, TooEarly, UnknownKind, RunCount, NotKept, Steps, WrongSpeed, CardList, NoShelf, NoLeg, OtherSegment, ReverseLeg, ConstraintPlace, TailBefore}
+use Rattle.kinds.specs.Refusals.{refusal_number}
+use Rattle.format.specs.Format.{Read, answer_of, sheet_numbers}
 use Rattle.speed.specs.declared.Train.{Train}
 use Rattle.speed.specs.Speed.{valid_train, limited, lowest, segment_length}
 use Rattle.speed.specs.Run.{numbers_of, last_of, last_start, speed_in_run}
 use Rattle.speed_question.specs.declared.Speed.{Speed}
-use Rattle.speed_question.specs.Question.{Brought, no_speed, lent, run_asked, judged_speed, speed_of_run}
-use Rattle.speed_question.specs.declared.run.Judged.TheVariants.{Accepted, Refused}
-use Rattle.speed_question.specs.internal.Run.{brought_of, judged_of, values_in, numbers_as, numbers_in}
-use Rattle.speed_question.proofs.Runs.{numbers_in_lem, lent_answer}
+use Rattle.speed_question.specs.Question.{Brought, medium_of, no_speed, judged_speed, speed_of_run, run_asked, lent}
+use Rattle.speed_question.specs.internal.Run.{values_in, numbers_as, numbers_in}
+use Rattle.speed_question.proofs.Runs.{numbers_in_lem, run_answer}
 use Rattle.legs.specs.Legs.{Leg, journey_legs}
 use Rattle.legs.specs.Restricted.{held_restrictions}
 use Rattle.legs.specs.Travelled.{on_journey, travelled_legs, legs_refusal, tail_before}
 use Rattle.legs.proofs.Passing.{held_taken, refusal_taken}
 use Rattle.restricted.specs.Question.{journey_as, journey_read, under_restrictions, restricted_along, restricted_on, restricted_of_run, restricted_speed}
 use Rattle.restricted.specs.internal.Travelling.{JourneyAccepted, legs_in}
+use Rattle.restricted.specs.internal.Travelled.{legs_of}
+use Rattle.restricted.specs.declared.accepted.Journey.{Journey}
+
+-- no refusal has the number 0
+pub numbered_lem : (r : Refusal) → refusal_number r ≡ 0 → ⊥
+numbered_lem ShortPacket e = omega arith
+numbered_lem PacketNumber e = omega arith
+numbered_lem PacketLength e = omega arith
+numbered_lem FieldValue e = omega arith
+numbered_lem ChangeLocation e = omega arith
+numbered_lem BodyBits e = omega arith
+numbered_lem PaddingBit e = omega arith
+numbered_lem ShortRoom e = omega arith
+numbered_lem SheetForm e = omega arith
+numbered_lem TrainValue e = omega arith
+numbered_lem PastEnd e = omega arith
+numbered_lem LongBody e = omega arith
+numbered_lem BitsLeft e = omega arith
+numbered_lem TooEarly e = omega arith
+numbered_lem UnknownKind e = omega arith
+numbered_lem RunCount e = omega arith
+numbered_lem NotKept e = omega arith
+numbered_lem Steps e = omega arith
+numbered_lem WrongSpeed e = omega arith
+numbered_lem CardList e = omega arith
+numbered_lem NoShelf e = omega arith
+numbered_lem NoLeg e = omega arith
+numbered_lem OtherSegment e = omega arith
+numbered_lem ReverseLeg e = omega arith
+numbered_lem ConstraintPlace e = omega arith
+numbered_lem TailBefore e = omega arith
 
 -- the answer of its parts
 abbrev pub answered : ℕ → Bool → List ℕ → Speed → Speed
@@ -54,17 +88,6 @@ judged_inside t x lsp v e =
     (λ a. let n : (judged_speed t x lsp v).refusal ≡ 11 = rw (a, d) in omega (arith, e, n))
     (λ a. let n : (judged_speed t x lsp v).refusal ≡ 10 = rw a in omega (arith, e, n)))
 
--- ---- as many legs as segments
-
-taken_length : (n : ℕ) (l : List (List ℕ)) → length (take n l) ≤ n
-taken_length zero l = omega arith
-taken_length (suc n) [] = omega arith
-taken_length (suc n) (s ∷ l) = omega (arith, taken_length n l)
-
-mapped_length : (f : List ℕ → List ℕ) (l : List (List ℕ)) → length (map f l) ≡ length l
-mapped_length f [] = refl
-mapped_length f (s ∷ l) = ap suc (mapped_length f l)
-
 -- ---- the train's tail
 
 -- legs stand before the run where it does not begin at leg 0
@@ -74,15 +97,15 @@ begins_later count before some =
     (λ d. lt-ltb count (before + count - 1 + 1) (omega (arith, ltb-true 0 before d)) ∙ sym d)
     (λ d. le-ltb count (before + count - 1 + 1) (omega (arith, ltb-false 0 before d)) ∙ sym d)
 
-module _ (b : Brought) (p q u v : List ℕ) (count : ℕ) (s : List ℕ) (before : ℕ) (t : Train) (x : ℕ) where
-  abbrev all : List (List ℕ)
-  all = lent count p q u v
+module _ (b : Brought) (all : List (List ℕ)) (s : Journey) (before : ℕ) (t : Train) (x : ℕ) where
+  abbrev count : ℕ
+  count = length all
 
   abbrev legs : List Leg
-  legs = drop before (legs_in b s)
+  legs = drop before (legs_of s)
 
   few_numbers : length (numbers_in b all) ≤ count
-  few_numbers = omega (arith, mapped_length (numbers_as b) all, taken_length count (p ∷ q ∷ u ∷ v ∷ []))
+  few_numbers = omega (arith, length-map all (numbers_as b))
 
   along_answer : 1 ≤ count → {start : ℕ} → start ≡ last_start 0 (numbers_in b all)
       → answered (legs_refusal (numbers_in b all) legs) (ltb 0 before && ltb (start + x) t.length) (held_restrictions t x (numbers_in b all) legs) (speed_of_run t x (values_in b all))
@@ -120,9 +143,9 @@ module _ (b : Brought) (p q u v : List ℕ) (count : ℕ) (s : List ℕ) (before
       along_permitted n = permitted_refused (tail start) held permitted z n ∙ known
 
       module _ (g : permitted.refusal ≡ 0) where
-        pub along_inside : count ≤ 4 → {lsp : ℕ} → lsp ≡ segment_length (numbers_as b (last_of all)) → x < lsp
-        along_inside few {lsp} d =
-            let f : lsp ≡ segment_length (last_of (numbers_of (values_in b all))) = lent_answer b p q u v count few some (λ n r. n) d in
+        pub along_inside : {lsp : ℕ} → lsp ≡ segment_length (numbers_as b (last_of all)) → x < lsp
+        along_inside {lsp} d =
+            let f : lsp ≡ segment_length (last_of (numbers_of (values_in b all))) = run_answer b all some (λ n r. n) d in
             rw f (judged_inside t x (segment_length (last_of (numbers_of (values_in b all)))) (limited t (speed_in_run t x (numbers_of (values_in b all)))) (sym (ap (λ (v : Speed). v.refusal) o) ∙ g))
 
         pub along_tail : {d : Bool} → d ≡ tail start → d ≡ true → no_speed 26 0 ≡ whole
@@ -155,30 +178,19 @@ module _ (count leg : ℕ) (t : Train) (x : ℕ) (r : List (List Item)) (l : Lis
 
 -- ---- the journey's verdict
 
-read_as_lem : (medium : ℕ) (s : List ℕ) → journey_read medium s ≡ journey_as (brought_of medium) s
-read_as_lem medium s = by_cases (eqb medium 0) (λ d. rw d) (λ d. rw d)
+module _ (b : Brought) (s : List ℕ) (count leg : ℕ) (t : Train) (x : ℕ) (r : List (List Item)) where
+  read_as_lem : journey_read (medium_of b) s ≡ journey_as b s
+  read_as_lem = go b
+    where
+      go : (c : Brought) → journey_read (medium_of c) s ≡ journey_as c s
+      go Brought.packet = refl
+      go Brought.sheet = refl
 
-judged_refused : (o : Read) {n place : ℕ} → Refused n place ≡ judged_of o → o ≡ Read.refused n place
-judged_refused (Read.refused a p) {n} {place} e = let i : n ≡ a = cc in let j : place ≡ p = cc in rw (i, j)
-judged_refused (Read.accepted l) e = absurd (let z : ◌≡◌ {A = ℕ} 0 1 = cc in omega arith)
+  pub journey_refused : {n place : ℕ} → journey_as b s ≡ Read.refused n place → no_speed n place ≡ restricted_of_run (medium_of b) count s leg t x r
+  journey_refused e = sym (ap (answer_of no_speed (λ l. restricted_on count leg t x r (journey_legs (sheet_numbers l)))) (read_as_lem ∙ e))
 
-judged_accepted : (o : Read) → Accepted ≡ judged_of o → o ≡ Read.accepted (values_of o)
-judged_accepted (Read.accepted l) e = refl
-judged_accepted (Read.refused a p) e = absurd (let z : ◌≡◌ {A = ℕ} 0 1 = cc in omega arith)
-
-module _ (medium : ℕ) (s : List ℕ) where
-  pub journey_accepted : Accepted ≡ judged_of (journey_as (brought_of medium) s) → JourneyAccepted (brought_of medium) s
-  journey_accepted e = judged_accepted (journey_as (brought_of medium) s) e
-
-  module _ (count leg : ℕ) (t : Train) (x : ℕ) (all : List (List ℕ)) where
-    pub journey_refused : {n place : ℕ} → Refused n place ≡ judged_of (journey_as (brought_of medium) s) → no_speed n place ≡ restricted_of_run medium count s leg t x (values_in (brought_of medium) all)
-    journey_refused e =
-        sym (ap (answer_of no_speed (λ l. restricted_on count leg t x (values_in (brought_of medium) all) (journey_legs (sheet_numbers l)))) (read_as_lem medium s ∙ judged_refused (journey_as (brought_of medium) s) e))
-
-    pub journey_answered : JourneyAccepted (brought_of medium) s
-        → restricted_on count leg t x (values_in (brought_of medium) all) (legs_in (brought_of medium) s) ≡ restricted_of_run medium count s leg t x (values_in (brought_of medium) all)
-    journey_answered e =
-        sym (ap (answer_of no_speed (λ l. restricted_on count leg t x (values_in (brought_of medium) all) (journey_legs (sheet_numbers l)))) (read_as_lem medium s ∙ e))
+  pub journey_answered : JourneyAccepted b s → restricted_on count leg t x r (legs_in b s) ≡ restricted_of_run (medium_of b) count s leg t x r
+  journey_answered e = sym (ap (answer_of no_speed (λ l. restricted_on count leg t x r (journey_legs (sheet_numbers l)))) (read_as_lem ∙ e))
 
 -- the question as it is lent
 pub lent_restricted : (medium count : ℕ) (first second third fourth journey : List ℕ) (leg : ℕ) (t : Train) (x : ℕ)

@@ -1,2 +1,3 @@
 -- What the code needs and no promise names.
 pub mod Travelling
+pub mod Travelled

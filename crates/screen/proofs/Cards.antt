@@ -1,28 +1,31 @@
 -- The cards of a file's numbers.
-use mathlib.Core.Path.{◌≡◌, refl, ap, ap₂, ◌∙◌}
-use mathlib.Core.List.{List, ◌∷◌}
+use mathlib.Core.Path.{◌≡◌, refl, sym, ap, ap₂, ◌∙◌}
+use mathlib.Core.List.{List, [], ◌∷◌, ◌++◌}
 use Prim.Native.Nat.{ℕ, zero, suc, ◌+◌, ◌*◌, ◌/◌, ◌≤◌, ◌<◌}
 use native.Mathlib.Omega.{arith}
 use borrow.Author.Tests.{le-ltb}
 use lib.Dec.{eqb}
-use lib.ListN.{length, take, get_or}
-use lib.Seq.{get_or-take, length-take-le}
+use lib.ListN.{length, take, get_or, set}
+use lib.Seq.{get_or-take, length-take-le, take-suc-set}
 use Rattle.fleet.specs.declared.Card.{Card}
-use Rattle.fleet.specs.Fleet.{no_card, asked_of}
+use Rattle.fleet.specs.Fleet.{asked_of}
 use Rattle.screen.specs.File.{card_at, cards_from, cards_of}
 
 pub cards_count : (n i : ℕ) (l : List ℕ) → length (cards_from n i l) ≡ n
 cards_count zero i l = refl
 cards_count (suc n) i l = ap suc (cards_count n (suc i) l)
 
--- card j of those from card i on is card i + j
-card_from : (n i j : ℕ) (l : List ℕ) → j < n → get_or (cards_from n i l) j no_card ≡ card_at l (i + j)
-card_from zero i j l h = absurd (omega arith)
-card_from (suc n) i zero l h = let e : i ≡ i + 0 = omega arith in ap (card_at l) e
-card_from (suc n) i (suc j) l h = let e : suc i + j ≡ i + suc j = omega arith in card_from n (suc i) j l (omega arith) ∙ ap (card_at l) e
+-- one card more
+pub cards_snoc : (n i : ℕ) (l : List ℕ) → cards_from n i l ++ card_at l (i + n) ∷ [] ≡ cards_from (suc n) i l
+cards_snoc zero i l = let e : i + 0 ≡ i = omega arith in ap (λ (k : ℕ). card_at l k ∷ []) e
+cards_snoc (suc n) i l = let e : suc i + n ≡ i + suc n = omega arith in ap (λ (r : List Card). card_at l i ∷ r) (ap (λ (k : ℕ). cards_from n (suc i) l ++ card_at l k ∷ []) (sym e) ∙ cards_snoc n (suc i) l)
 
-pub card_is : (n i : ℕ) (l : List ℕ) → i < n → get_or (cards_from n 0 l) i no_card ≡ card_at l i
-card_is n i l h = let e : 0 + i ≡ i = omega arith in card_from n 0 i l h ∙ ap (card_at l) e
+-- the first n cards of an array are those of a file's numbers, and one more is put
+pub cards_put : (n : ℕ) (l : List ℕ) (cards : List Card) {c : Card} → n < length cards → take n cards ≡ cards_from n 0 l → c ≡ card_at l n → take (n + 1) (set cards n c) ≡ cards_from (n + 1) 0 l
+cards_put n l cards {c} h e q =
+    let z : n + 1 ≡ suc n = omega arith in
+    let y : n ≡ 0 + n = omega arith in
+    rw (z, take-suc-set cards n c h) (ap₂ (λ (r : List Card) (k : Card). r ++ k ∷ []) e (q ∙ ap (card_at l) y) ∙ cards_snoc n 0 l)
 
 -- ---- the cards of an array that begins with a file's numbers
 

@@ -10,8 +10,7 @@ use lib.ListN.{length, drop, length-append}
 use lib.Seq.{drop-append_seam}
 use Rattle.bits.specs.Bits.{Bytes}
 use Rattle.bits.proofs.Tests.{by_cases}
-use Rattle.numbers.specs.declared.Number.{Number}
-use Rattle.numbers.specs.declared.Number.TheVariants.{Value, Bad}
+use Rattle.std.specs.Prelude.{Some, None, Option}
 use Rattle.numbers.specs.Numbers.{number_in, groups_in}
 use Rattle.numbers.proofs.Counting.{count_some}
 use Rattle.numbers.proofs.Reading.{number_again, number_only}
@@ -48,9 +47,9 @@ only (suc left) k at (b ∷ s) l ok e =
     rest v = numbers_from left (suc k) (at + length (groups_in v)) (drop (length (groups_in v)) (b ∷ s))
 
     go : ((v : ℕ) (m : List ℕ) → rest v ≡ accepted m → Taken left (suc k) (drop (length (groups_in v)) (b ∷ s)) m)
-        → (n : Number) → number_in (b ∷ s) ≡ n → judged n k at rest ≡ accepted l → Taken (suc left) k (b ∷ s) l
-    go next Bad d f = absurd (let z : ◌≡◌ {A = ℕ} 0 1 = cc in omega arith)
-    go next (Value v) d f =
+        → (n : Option ℕ) → number_in (b ∷ s) ≡ n → judged n k at rest ≡ accepted l → Taken (suc left) k (b ∷ s) l
+    go next None d f = absurd (let z : ◌≡◌ {A = ℕ} 0 1 = cc in omega arith)
+    go next (Some v) d f =
         by_cases (wrong k v)
         (λ w. let g : refused 4 at ≡ accepted l = rw w at f in absurd (let z : ◌≡◌ {A = ℕ} 0 1 = cc in omega arith))
         (λ w. front_taken v (rest v) l (rw w at f) λ m h p.

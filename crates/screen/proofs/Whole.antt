@@ -17,7 +17,9 @@ use Rattle.fleet.specs.declared.Board.{Board}
 use Rattle.fleet.specs.declared.Card.{Card}
 use Rattle.fleet.specs.Fleet.{asked_of, board_after, board}
 use Rattle.fleet.proofs.Facts.{came_accepted, came_last}
-use Rattle.screen.specs.declared.file.FileRead.TheVariants.{Cards, Refused}
+use Rattle.std.specs.Prelude.{Ok, Err}
+use Rattle.kinds.specs.declared.refusals.Refused.{Refused}
+use Rattle.kinds.specs.Refusals.{refusal_number}
 use Rattle.screen.specs.File.{Numbers, accepted, refused, file_numbers, cards_from, cards_of}
 use Rattle.screen.specs.Screen.{lines_after, text_of, shown_of, screen_of, screen_in}
 use Rattle.screen.specs.internal.Reading.{Read}
@@ -26,41 +28,37 @@ use Rattle.screen.proofs.Lines.{lines_short}
 
 -- ---- the text from the board
 
-module _ (packet : List ℕ) (n : ℕ) (l : List ℕ) (few : n ≤ 64) where
-  abbrev cards : List Card
-  cards = cards_from n 0 l
+-- all cards of the file are asked
+pub board_all : (packet : List ℕ) (n : ℕ) (l : List ℕ) → n ≤ 64 → board packet (cards_from n 0 l) ≡ board_after packet (cards_from n 0 l) n
+board_all packet n l few = ap (board_after packet (cards_from n 0 l)) (ap asked_of (cards_count n 0 l) ∙ asked_count n few)
 
-  -- all cards of the file are asked
-  pub board_all : board packet cards ≡ board_after packet cards n
-  board_all = ap (board_after packet cards) (ap asked_of (cards_count n 0 l) ∙ asked_count n few)
+module _ (packet : List ℕ) (cards : List Card) {b : Board} (e : b ≡ board packet cards) where
+  pub refused_text : (b.refusal ≡ 0 → ⊥) → refused_line b.refusal b.place ≡ text_of packet cards
+  refused_text h = ap (λ (d : Board). refused_line d.refusal d.place) e ∙ sym (off (λ z. h (ap (λ (d : Board). d.refusal) e ∙ z)))
+    where
+      off : ((board packet cards).refusal ≡ 0 → ⊥) → text_of packet cards ≡ refused_line (board packet cards).refusal (board packet cards).place
+      off m = rw (ne_eqb (board packet cards).refusal 0 m)
 
-  module _ {b : Board} (e : b ≡ board packet cards) where
-    pub refused_text : (b.refusal ≡ 0 → ⊥) → refused_line b.refusal b.place ≡ text_of packet cards
-    refused_text h = ap (λ (d : Board). refused_line d.refusal d.place) e ∙ sym (off (λ z. h (ap (λ (d : Board). d.refusal) e ∙ z)))
+  module _ (z : b.refusal ≡ 0) where
+    none : (board packet cards).refusal ≡ 0
+    none = sym (ap (λ (d : Board). d.refusal) e) ∙ z
+
+    pub accepted_packet : AcceptedPacket packet
+    accepted_packet = let n = asked_of (length cards) in came_accepted n packet cards n (ap (λ (d : Board). d.refusal) (came_last packet cards n) ∙ none)
+
+    pub accepted_text : lines_after packet cards (length cards) ≡ text_of packet cards
+    accepted_text = sym on
       where
-        off : ((board packet cards).refusal ≡ 0 → ⊥) → text_of packet cards ≡ refused_line (board packet cards).refusal (board packet cards).place
-        off m = rw (ne_eqb (board packet cards).refusal 0 m)
-
-    module _ (z : b.refusal ≡ 0) where
-      none : (board packet cards).refusal ≡ 0
-      none = sym (ap (λ (d : Board). d.refusal) e) ∙ z
-
-      pub accepted_packet : AcceptedPacket packet
-      accepted_packet = came_accepted n packet cards n (ap (λ (d : Board). d.refusal) (came_last packet cards n ∙ sym board_all) ∙ none)
-
-      pub accepted_text : lines_after packet cards n ≡ text_of packet cards
-      accepted_text = ap (lines_after packet cards) (sym (cards_count n 0 l)) ∙ sym on
-        where
-          on : text_of packet cards ≡ lines_after packet cards (length cards)
-          on = rw (eq-eqb (board packet cards).refusal 0 none)
+        on : text_of packet cards ≡ lines_after packet cards (length cards)
+        on = rw (eq-eqb (board packet cards).refusal 0 none)
 
 -- ---- the text from the file
 
-pub file_refused : (s packet : List ℕ) {r place : ℕ} {values : List ℕ} → Read s (Refused r place) values → refused_line r place ≡ screen_of s packet
+pub file_refused : (s packet : List ℕ) {f : Refused ℕ} {values : List ℕ} → Read s (Err f) values → refused_line (refusal_number f.0) f.1 ≡ screen_of s packet
 unfolding screen_of
 file_refused s packet e = ap (shown_of packet) e.says
 
-pub file_cards : (s packet : List ℕ) {n : ℕ} {values : List ℕ} → length values ≡ 448 → Read s (Cards n) values → text_of packet (cards_from n 0 values) ≡ screen_of s packet
+pub file_cards : (s packet : List ℕ) {n : ℕ} {values : List ℕ} → length values ≡ 448 → Read s (Ok n) values → text_of packet (cards_from n 0 values) ≡ screen_of s packet
 unfolding screen_of
 file_cards s packet {n} {values} h e = ap (text_of packet) (sym (cards_of_lem n values (omega (arith, e.few)))) ∙ ap (shown_of packet) e.says
 

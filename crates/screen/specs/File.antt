@@ -1,7 +1,5 @@
 -- A cards file: its numbers, judged one by one, and its cards.
-use Rattle.std.specs.Prelude.{Bool, cond, ◌&&◌, List, [], ◌∷◌, ℕ, zero, suc, ◌+◌, ◌*◌, ◌/◌, ◌%◌, eqb, leb, ltb, length, drop, get_or}
-use Rattle.numbers.specs.declared.Number.{Number}
-use Rattle.numbers.specs.declared.Number.TheVariants.{Value, Bad}
+use Rattle.std.specs.Prelude.{Bool, cond, ◌&&◌, List, [], ◌∷◌, ℕ, zero, suc, ◌+◌, ◌*◌, ◌/◌, ◌%◌, eqb, leb, ltb, length, drop, get_or, Some, None, Option}
 use Rattle.numbers.specs.Numbers.{number_in, groups_in}
 use Rattle.fleet.specs.declared.Card.{Card}
 
@@ -20,9 +18,9 @@ abbrev pub wrong : ℕ → ℕ → Bool
 wrong k v = leb 2 (k % 7) && leb (k % 7) 4 && ltb 1 v
 
 -- "number by number: 9, or 4 for a membership not 0 or 1": the number k, at the byte `at`, and what is made of those after it
-abbrev pub judged : Number → ℕ → ℕ → (ℕ → Numbers) → Numbers
-judged Bad k at rest = refused 9 at
-judged (Value v) k at rest = cond (wrong k v) (refused 4 at) (in_front v (rest v))
+abbrev pub judged : Option ℕ → ℕ → ℕ → (ℕ → Numbers) → Numbers
+judged None k at rest = refused 9 at
+judged (Some v) k at rest = cond (wrong k v) (refused 4 at) (in_front v (rest v))
 
 -- "seven sheet numbers each": a file that ends with a card, or within one
 abbrev pub ended : ℕ → ℕ → Numbers

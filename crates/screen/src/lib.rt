@@ -4,15 +4,15 @@
 
 pub mod file;
 
-ghost use Rattle.std.specs.Prelude.{◌≡◌, ◌+◌, ◌≤◌, ◌<◌, length};
+ghost use Rattle.std.specs.Prelude.{◌≡◌, ◌+◌, ◌≤◌, ◌<◌, length, take};
 ghost use Rattle.text.specs.words.Words.{Laid};
 ghost use Rattle.speed_packet.specs.internal.Asking.{AcceptedPacket};
-ghost use Rattle.fleet.specs.Fleet.{board};
 ghost use Rattle.screen.specs.File.{card_at, cards_from};
 ghost use Rattle.screen.specs.Screen.{card_line, lines_after, text_of, screen_in};
 
-use file::{FileRead, NUMBERS};
-use fleet::{Board, Card};
+use file::NUMBERS;
+use fleet::Card;
+use kinds::refusals::Refused;
 use speed::Train;
 use text::words::{put_labelled, put_word};
 
@@ -42,18 +42,29 @@ fn card(values: &[u32; NUMBERS], i: usize) -> Card
     }
 }
 
-// Answers the board of the `n` cards of a file on the packet's segment.
-fn board_of(values: &[u32; NUMBERS], n: usize, packet: &[u8]) -> Board
+// What stands in an array of cards where no card was put.
+const NO_CARD: Card = Card {
+    train: Train {
+        length: 0,
+        cant: 0,
+        maximum: 0,
+        freight_p: false,
+        freight_g: false,
+        passenger: false,
+    },
+    location: 0,
+};
+
+// Makes the `n` cards of a file from the file's numbers.
+fn cards_in(values: &[u32; NUMBERS], n: usize) -> [Card; fleet::MOST]
     requires { n ≤ 64 }
-    ensures { result ≡ board packet.now (cards_from n 0 values.now) }
+    ensures { take n result ≡ cards_from n 0 values.now }
 {
-    let mut best = fleet::started(n, packet);
-    let mut i = 0;
-    while i < n {
-        best = fleet::next(packet, best, i, card(values, i));
-        i += 1;
+    let mut cards = [NO_CARD; fleet::MOST];
+    for i in 0..n {
+        cards[i] = card(values, i);
     }
-    best
+    cards
 }
 
 // Writes the line of the card `i`, at `location` in cm and with `speed` in km/h, at the byte `at` of the room. Returns the place after it.
@@ -67,33 +78,29 @@ fn put_card(room: &mut [u8], at: usize, i: usize, location: u32, speed: u32) -> 
     put_word(room, next, b"\n")
 }
 
-// Writes a line for each of the `n` cards of a file at the start of the room, with the speeds from an accepted packet. Returns the length of the text.
-fn put_cards(values: &[u32; NUMBERS], n: usize, packet: &[u8], room: &mut [u8]) -> usize
-    requires { (n ≤ 64) × AcceptedPacket packet.now × (3008 ≤ length room.old) }
-    ensures { Laid room.old 0 (lines_after packet.now (cards_from n 0 values.now) n) result room.new }
+// Writes a line for each card at the start of the room, with the speeds from an accepted packet. Returns the length of the text.
+fn put_cards(cards: &[Card], packet: &[u8], room: &mut [u8]) -> usize
+    requires { (length cards.now ≤ 64) × AcceptedPacket packet.now × (3008 ≤ length room.old) }
+    ensures { Laid room.old 0 (lines_after packet.now cards.now (length cards.now)) result room.new }
 {
     let mut next = 0;
-    let mut i = 0;
-    while i < n {
-        let c = card(values, i);
-        let train = c.train;
-        let s = speed_question::of_packet(packet, train, c.location);
-        next = put_card(room, next, i, c.location, s.speed);
-        i += 1;
+    for (i, card) in cards.iter().enumerate() {
+        let s = speed_question::of_packet(packet, card.train, card.location);
+        next = put_card(room, next, i, card.location, s.speed);
     }
     next
 }
 
-// Writes the lines of the `n` cards of a file at the start of the room, or the line of the board's refusal. Returns the length of the text.
-fn put_text(values: &[u32; NUMBERS], n: usize, packet: &[u8], room: &mut [u8]) -> usize
-    requires { (n ≤ 64) × (3008 ≤ length room.old) }
-    ensures { Laid room.old 0 (text_of packet.now (cards_from n 0 values.now)) result room.new }
+// Writes the lines of the cards at the start of the room, or the line of the board's refusal. Returns the length of the text.
+fn put_text(cards: &[Card], packet: &[u8], room: &mut [u8]) -> usize
+    requires { (length cards.now ≤ 64) × (3008 ≤ length room.old) }
+    ensures { Laid room.old 0 (text_of packet.now cards.now) result room.new }
 {
-    let b = board_of(values, n, packet);
-    if b.refusal != 0 {
-        return text::put_refusal(b.refusal, b.place, room);
+    let board = fleet::fleet_lowest(cards, packet);
+    if board.refusal != 0 {
+        return text::put_refusal(board.refusal, board.place, room);
     }
-    put_cards(values, n, packet, room)
+    put_cards(cards, packet, room)
 }
 
 // Writes the text of the wall screen at the start of the room: the lines of the cards, or the line of the first refusal. Returns the length of the text.
@@ -102,7 +109,10 @@ pub fn screen(cards: &[u8], packet: &[u8], room: &mut [u8; ROOM]) -> usize
 {
     let mut values = [0u32; NUMBERS];
     match file::read_cards(cards, &mut values) {
-        FileRead::Refused(r, place) => text::put_refusal(r, place, room),
-        FileRead::Cards(n) => put_text(&values, n, packet, room),
+        Err(Refused(refusal, place)) => text::put_refusal(u32::from(refusal), place, room),
+        Ok(n) => {
+            let all = cards_in(&values, n);
+            put_text(&all[..n], packet, room)
+        }
     }
 }

@@ -1,14 +1,15 @@
 // The sheet of an accepted journey, written part by part into a room that holds all of it. What was accepted is not judged again.
-// Parameters: `packet` is the packet, `stop` the bit where its fields end, `at` the bit of the part, `room` the room, `n` the byte of `room` for the part's first number.
+// Parameters: `packet` is the packet, `stop` the bit where its fields end, `room` the room, `from` the bit of the part and the byte of `room` for its first number.
+// `stop` is for the contracts alone, and `packet` and `room` are no struct's: `write_journey` and `constraint::constraint`, which docs/CONTRACTS.md names, take all three.
 
 #![tactic(auto)]
 
 pub mod constraint;
 pub mod rows;
 
-ghost use Rattle.std.specs.Prelude.{◌≡◌, ◌+◌, ◌*◌, ◌≤◌, length};
+ghost use Rattle.std.specs.Prelude.{◌≡◌, ◌≤◌, length};
 ghost use Rattle.std.proofs.lemmas.List.Edits.{sets};
-ghost use Rattle.format.specs.Format.{times};
+ghost use Rattle.format.specs.Format.{Format, times};
 ghost use Rattle.grammar.specs.journey.Journey.{timing_point, temporary_constraint, journey_segment, constraints};
 ghost use Rattle.grammar.specs.declared.link.Tree.TheVariants.{Journey};
 ghost use Rattle.grammar.specs.internal.link.Trees.{fields_of, FieldsWritable};
@@ -22,85 +23,85 @@ use kinds::body::NIter;
 use sheet_write_segment::elements::SheetSpot;
 use sheet_write_segment::row::one;
 
-// Writes the `count` timing points of a segment from the byte `n` of `room` on; returns the byte after them.
-fn points(packet: &[u8], stop: usize, at: usize, count: u32, room: &mut [u8], n: usize) -> usize
-    requires { PartWritable (times timing_point count) packet.now stop at (filled room.old n) }
-    ensures { Wrote (times timing_point count) packet.now stop at (filled room.old n) (at + 129 * count) (filled room.new result) }
-{
-    let mut to = at;
-    let mut m = n;
-    let mut left = count;
-    while 0 < left {
-        m = point(packet, to, room, m);
-        to += POINT;
-        left -= 1;
-    }
-    m
+// A part of the fields that stands any number of times, one after another.
+trait Repeated {
+    ghost part: { Format → Format };
+
+    // Writes it once.
+    fn write(packet: &[u8], stop: usize, from: SheetSpot, room: &mut [u8]) -> SheetSpot
+        requires { PartWritable part packet.now stop from.at (filled room.old from.n) }
+        ensures { Wrote part packet.now stop from.at (filled room.old from.n) result.at (filled room.new result.n) };
 }
 
-// Writes the `count` temporary constraints of a segment from the byte `n` of `room` on; returns the byte after them.
-fn constraints(
+// Writes the part `P` so many times.
+fn times<P: Repeated>(
     packet: &[u8],
     stop: usize,
-    at: usize,
+    from: SheetSpot,
     count: u32,
     room: &mut [u8],
-    n: usize,
-) -> usize
-    requires { PartWritable (times temporary_constraint count) packet.now stop at (filled room.old n) }
-    ensures { Wrote (times temporary_constraint count) packet.now stop at (filled room.old n) (at + 73 * count) (filled room.new result) }
-{
-    let mut to = at;
-    let mut m = n;
-    let mut left = count;
-    while 0 < left {
-        m = constraint(packet, stop, to, room, m);
-        to += CONSTRAINT;
-        left -= 1;
-    }
-    m
-}
-
-// Writes a segment from the byte `n` of `room` on: its identity and direction, its timing points, and its temporary constraints.
-fn segment(packet: &[u8], stop: usize, at: usize, room: &mut [u8], n: usize) -> SheetSpot
-    requires { PartWritable (journey_segment constraints) packet.now stop at (filled room.old n) }
-    ensures { Wrote (journey_segment constraints) packet.now stop at (filled room.old n) result.at (filled room.new result.n) }
-{
-    let first = start(packet, at, room, n);
-    let count = first.count;
-    let m = points(packet, stop, at + SEGMENT_HEAD, count, room, first.n);
-    let to = at + SEGMENT_HEAD + POINT * count as usize;
-    let v = bits::read_window(packet, to, NIter::WIDTH);
-    let next = one(room, m, v);
-    let last = constraints(packet, stop, to + COUNT, v, room, next);
-    SheetSpot {
-        at: to + COUNT + CONSTRAINT * v as usize,
-        n: last,
-    }
-}
-
-// Writes the `count` segments of a journey from the byte `n` of `room` on.
-fn segments(
-    packet: &[u8],
-    stop: usize,
-    at: usize,
-    count: u32,
-    room: &mut [u8],
-    n: usize,
 ) -> SheetSpot
-    requires { PartWritable (times (journey_segment constraints) count) packet.now stop at (filled room.old n) }
-    ensures { Wrote (times (journey_segment constraints) count) packet.now stop at (filled room.old n) result.at (filled room.new result.n) }
+    requires { PartWritable (times P.part count) packet.now stop from.at (filled room.old from.n) }
+    ensures { Wrote (times P.part count) packet.now stop from.at (filled room.old from.n) result.at (filled room.new result.n) }
 {
-    let mut to = at;
-    let mut m = n;
-    let mut left = count;
-    while 0 < left {
-        let spot = segment(packet, stop, to, room, m);
-        to = spot.at;
-        m = spot.n;
-        left -= 1;
+    let mut spot = from;
+    for _ in 0..count {
+        spot = P::write(packet, stop, spot, room);
     }
-    SheetSpot { at: to, n: m }
+    spot
+}
+
+struct TimingPoint;
+
+impl Repeated for TimingPoint {
+    ghost part = { timing_point };
+
+    // Writes the numbers of a timing point, 129 bits of the packet.
+    fn write(packet: &[u8], stop: usize, from: SheetSpot, room: &mut [u8]) -> SheetSpot {
+        let n = point(packet, from.at, room, from.n);
+        SheetSpot {
+            at: from.at + POINT,
+            n,
+        }
+    }
+}
+
+struct TemporaryConstraint;
+
+impl Repeated for TemporaryConstraint {
+    ghost part = { temporary_constraint };
+
+    // Writes the numbers of a temporary constraint, 73 bits of the packet.
+    fn write(packet: &[u8], stop: usize, from: SheetSpot, room: &mut [u8]) -> SheetSpot {
+        let n = constraint(packet, stop, from.at, room, from.n);
+        SheetSpot {
+            at: from.at + CONSTRAINT,
+            n,
+        }
+    }
+}
+
+struct Segment;
+
+impl Repeated for Segment {
+    ghost part = { journey_segment constraints };
+
+    // Writes the identity and the direction, the timing points and the temporary constraints, each list after its count.
+    fn write(packet: &[u8], stop: usize, from: SheetSpot, room: &mut [u8]) -> SheetSpot {
+        let counted = start(packet, from.at, room, from.n);
+        let first = SheetSpot {
+            at: from.at + SEGMENT_HEAD,
+            n: counted.n,
+        };
+        let last = times::<TimingPoint>(packet, stop, first, counted.count, room);
+        let v = bits::read_window(packet, last.at, NIter::WIDTH);
+        let n = one(room, last.n, v);
+        let next = SheetSpot {
+            at: last.at + COUNT,
+            n,
+        };
+        times::<TemporaryConstraint>(packet, stop, next, v, room)
+    }
 }
 
 // Writes the numbers of a journey's fields, which end at the bit `stop` of `packet`, from the byte `start` of `room` on.
@@ -108,6 +109,10 @@ pub fn write_journey(packet: &[u8], stop: usize, room: &mut [u8], start: usize)
     requires { FieldsWritable Journey packet.now stop room.old start × (8 ≤ length packet.now) }
     ensures { room.new ≡ sets room.old start (fields_of Journey packet.now stop) }
 {
-    let first = head(packet, room, start);
-    segments(packet, stop, SEGMENTS, first.count, room, first.n);
+    let counted = head(packet, room, start);
+    let first = SheetSpot {
+        at: SEGMENTS,
+        n: counted.n,
+    };
+    times::<Segment>(packet, stop, first, counted.count, room);
 }

@@ -6,6 +6,7 @@ ghost use Rattle.sheet_write_segment.specs.internal.row.Row.{Row, copied};
 ghost use Rattle.sheet_write_journey.specs.internal.rows.Widths.{head_widths, count_widths, start_widths, version_widths, point_widths, choice_widths, closing_widths};
 
 use grammar::journey::layout;
+use kinds::UpTo;
 use kinds::body::{NidC, NidSp};
 use kinds::journey::NidTp;
 use sheet_write_segment::head::header;

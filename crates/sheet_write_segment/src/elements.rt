@@ -1,5 +1,5 @@
 // Writes an element of each list, without its location: the speed profile with its entries, the wire, the current. What was accepted is not judged again.
-ghost use Rattle.std.specs.Prelude.{◌≡◌, ◌+◌, ◌*◌};
+ghost use Rattle.std.specs.Prelude.{◌≡◌, ◌+◌};
 ghost use Rattle.kinds.specs.Tables.{cant_figures};
 ghost use Rattle.grammar.specs.segment.Segment.{entries, profile, voltage, current};
 ghost use Rattle.grammar.specs.internal.segment.Parts as parts;
@@ -37,22 +37,27 @@ fn entry(
     numbers::write::put_short(room, third, raise::speed(t % 128))
 }
 
-// Writes the `count` specific entries at the bit `at` from the byte `n` on, and returns the byte after them.
+// Writes the `count` specific entries at the bit `at` from the byte `n` on.
 // For speed: the table of figures is lent once for all of them.
-fn specific(packet: &[u8], stop: usize, at: usize, count: u32, room: &mut [u8], n: usize) -> usize
+fn specific(
+    packet: &[u8],
+    stop: usize,
+    at: usize,
+    count: u32,
+    room: &mut [u8],
+    n: usize,
+) -> SheetSpot
     requires { PartWritable (entries count) packet.now stop at (filled room.old n) }
-    ensures { Wrote (entries count) packet.now stop at (filled room.old n) (at + 13 * count) (filled room.new result) }
+    ensures { Wrote (entries count) packet.now stop at (filled room.old n) result.at (filled room.new result.n) }
 {
     let figures = tables::CANT_FIGURES;
     let mut to = at;
     let mut m = n;
-    let mut left = count;
-    while 0 < left {
+    for _ in 0..count {
         m = entry(&figures, packet, stop, to, room, m);
         to += ENTRY;
-        left -= 1;
     }
-    m
+    SheetSpot { at: to, n: m }
 }
 
 // Writes V_STATIC, Q_FRONT, the count of the specific entries, and the entries.
@@ -65,11 +70,7 @@ fn speeds(packet: &[u8], stop: usize, at: usize, room: &mut [u8], n: usize) -> S
     let second = numbers::write::put_short(room, n, raise::speed(t / 64));
     let third = numbers::write::put_short(room, second, t / 32 % 2);
     let first = numbers::write::put_short(room, third, count);
-    let m = specific(packet, stop, at + ENTRY, count, room, first);
-    SheetSpot {
-        at: at + ENTRY + ENTRY * count as usize,
-        n: m,
-    }
+    specific(packet, stop, at + ENTRY, count, room, first)
 }
 
 // Writes M_VOLTAGE and NID_CTRACTION.

@@ -7,7 +7,7 @@ ghost use Rattle.sheet_write_segment.specs.internal.row.Row.{Row, copied};
 
 use crate::row::{moment, number, short};
 use grammar::segment::layout;
-use kinds::{body, header};
+use kinds::{UpTo, body, header};
 
 // Writes NID_OPERATIONAL to N_Packet_Counter from the byte `n` of `room` on; returns the byte after them. Both trees begin with them.
 pub fn header(packet: &[u8], room: &mut [u8], n: usize) -> usize

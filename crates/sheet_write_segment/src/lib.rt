@@ -1,5 +1,6 @@
 // The sheet of an accepted segment's packet, written part by part into a room that holds all of it. What was accepted is not judged again.
-// Parameters: `packet` is the packet, `stop` the bit where its fields end, `at` the bit of the part, `room` the room, `n` the byte of `room` for the part's first number.
+// Parameters: `packet` is the packet, `stop` the bit where its fields end, `room` the room, `from` the bit of the part and the byte of `room` for its first number.
+// `stop` is for the contracts alone, and `packet` and `room` are no struct's: `write_fields` and `elements::element`, which docs/CONTRACTS.md names, take all three.
 
 #![tactic(auto)]
 
@@ -7,7 +8,7 @@ pub mod elements;
 pub mod head;
 pub mod row;
 
-ghost use Rattle.std.specs.Prelude.{◌≡◌, ◌≤◌, length};
+ghost use Rattle.std.specs.Prelude.{◌≡◌, ℕ, ◌≤◌, length};
 ghost use Rattle.std.proofs.lemmas.List.Edits.{sets};
 ghost use Rattle.grammar.specs.segment.Segment as segment;
 ghost use Rattle.grammar.specs.internal.segment.Parts.{start_of, three_lists};
@@ -16,95 +17,65 @@ ghost use Rattle.grammar.specs.internal.link.Trees.{fields_of, FieldsWritable};
 ghost use Rattle.sheet_write_segment.specs.internal.elements.Writing.{filled, PartWritable, Wrote};
 
 use crate::elements::{SheetSpot, element};
-use grammar::segment::{Part, WIRE_CHANGES, layout};
+use grammar::segment::{Part, layout};
 use kinds::body;
 
-// Writes the `count` changes of a part, each a location and an element, from the byte `n` of `room` on. `stop`, `lsp` and `last` are for the contract and the proof alone.
+// Writes the `count` changes of a part, each a location and an element, from `from` on. `lsp` and `last` are for the contract and the proof alone.
+// `lsp` is no ghost value: a call picks one from its arguments or a constant, and L_SP is what a call in `write_fields` returned.
 fn changes(
     part: Part,
     packet: &[u8],
     stop: usize,
-    at: usize,
+    from: SheetSpot,
     lsp: u32,
     count: u32,
     room: &mut [u8],
-    n: usize,
 ) -> SheetSpot
-    requires { PartWritable (segment.changes (start_of part) lsp 0 count) packet.now stop at (filled room.old n) }
-    ensures { Wrote (segment.changes (start_of part) lsp 0 count) packet.now stop at (filled room.old n) result.at (filled room.new result.n) }
+    requires { PartWritable (segment.changes (start_of part) lsp 0 count) packet.now stop from.at (filled room.old from.n) }
+    ensures { Wrote (segment.changes (start_of part) lsp 0 count) packet.now stop from.at (filled room.old from.n) result.at (filled room.new result.n) }
 {
-    let mut to = at;
-    let mut m = n;
+    let mut spot = from;
     let mut last: u32 = 0;
-    let mut left = count;
-    while 0 < left {
-        let x = bits::read_window(packet, to, body::DLocation::WIDTH);
-        let m2 = numbers::write::put_number(room, m, x);
-        let spot = element(part, packet, stop, to + layout::LOCATION, room, m2);
-        to = spot.at;
-        m = spot.n;
+    for _ in 0..count {
+        let x = bits::read_window(packet, spot.at, body::DLocation::WIDTH);
+        let m = numbers::write::put_number(room, spot.n, x);
+        spot = element(part, packet, stop, spot.at + layout::LOCATION, room, m);
         last = x;
-        left -= 1;
     }
-    SheetSpot { at: to, n: m }
+    spot
 }
 
-// Writes a part from the byte `n` of `room` on: its first element, the count of its changes, and the changes. `limit` is for the contract alone.
+// Writes a part from `from` on: its first element, the count of its changes, and the changes. `lsp` is for the contract alone.
 fn list(
     part: Part,
     packet: &[u8],
     stop: usize,
-    at: usize,
+    from: SheetSpot,
     lsp: u32,
-    limit: u32,
     room: &mut [u8],
-    n: usize,
 ) -> SheetSpot
-    requires { PartWritable (segment.part (start_of part) limit lsp) packet.now stop at (filled room.old n) }
-    ensures { Wrote (segment.part (start_of part) limit lsp) packet.now stop at (filled room.old n) result.at (filled room.new result.n) }
+    ghost limit: { ℕ }
+    requires { PartWritable (segment.part (start_of part) limit lsp) packet.now stop from.at (filled room.old from.n) }
+    ensures { Wrote (segment.part (start_of part) limit lsp) packet.now stop from.at (filled room.old from.n) result.at (filled room.new result.n) }
 {
-    let first = element(part, packet, stop, at, room, n);
-    let to = first.at;
-    let count = bits::read_window(packet, to, body::NIter::WIDTH);
+    let first = element(part, packet, stop, from.at, room, from.n);
+    let count = bits::read_window(packet, first.at, body::NIter::WIDTH);
     let m = numbers::write::put_short(room, first.n, count);
-    changes(part, packet, stop, to + layout::COUNT, lsp, count, room, m)
+    let next = SheetSpot {
+        at: first.at + layout::COUNT,
+        n: m,
+    };
+    changes(part, packet, stop, next, lsp, count, room)
 }
 
-// Writes the speed profile, the rated voltage and the current limitation from the byte `n` of `room` on.
-fn lists(packet: &[u8], stop: usize, at: usize, lsp: u32, room: &mut [u8], n: usize) -> SheetSpot
-    requires { PartWritable (three_lists lsp) packet.now stop at (filled room.old n) }
-    ensures { Wrote (three_lists lsp) packet.now stop at (filled room.old n) result.at (filled room.new result.n) }
+// Writes the speed profile, the rated voltage and the current limitation from `from` on.
+fn lists(packet: &[u8], stop: usize, from: SheetSpot, lsp: u32, room: &mut [u8]) -> SheetSpot
+    requires { PartWritable (three_lists lsp) packet.now stop from.at (filled room.old from.n) }
+    ensures { Wrote (three_lists lsp) packet.now stop from.at (filled room.old from.n) result.at (filled room.new result.n) }
 {
-    let one = list(
-        Part::Speeds,
-        packet,
-        stop,
-        at,
-        lsp,
-        body::NIter::LARGEST,
-        room,
-        n,
-    );
-    let two = list(
-        Part::Volts,
-        packet,
-        stop,
-        one.at,
-        lsp,
-        WIRE_CHANGES,
-        room,
-        one.n,
-    );
-    list(
-        Part::Amperes,
-        packet,
-        stop,
-        two.at,
-        lsp,
-        WIRE_CHANGES,
-        room,
-        two.n,
-    )
+    let one = list(Part::Speeds, packet, stop, from, lsp, room);
+    let two = list(Part::Volts, packet, stop, one, lsp, room);
+    list(Part::Amperes, packet, stop, two, lsp, room)
 }
 
 // Writes the numbers of a segment's fields, which end at the bit `stop` of `packet`, from the byte `start` of `room` on.
@@ -116,6 +87,9 @@ pub fn write_fields(packet: &[u8], stop: usize, room: &mut [u8], start: usize)
     let m = head::identity(packet, room, n);
     let lsp = bits::read_window(packet, layout::LENGTH, body::LSp::WIDTH);
     let to = numbers::write::put_number(room, m, lsp);
-    let first = head::offsets(packet, room, to);
-    lists(packet, stop, layout::PROFILE, lsp, room, first);
+    let first = SheetSpot {
+        at: layout::PROFILE,
+        n: head::offsets(packet, room, to),
+    };
+    lists(packet, stop, first, lsp, room);
 }

@@ -7,13 +7,14 @@ use Prim.Native.Nat.{ℕ, ◌+◌, ◌-◌, ◌≤◌}
 use native.Mathlib.Omega.{arith}
 use lib.ListN.{length, take, drop, length-append, length-drop, take-append-drop}
 use lib.Seq.{take-append_seam, drop-append_seam, take-append-le, take-take, drop_at, drop-append-add, length-take-le}
+use Rattle.std.specs.Prelude.{Option as Perhaps, Some, None}
 use Rattle.bits.proofs.Tests.{by_cases}
 use Rattle.shelf.specs.declared.Key.{Key}
-use Rattle.shelf.specs.declared.run.Scan.TheVariants.{Place}
+use Rattle.shelf.specs.declared.run.Place.{Place}
 use Rattle.shelf.specs.Book.{same_key, key_number, below, Kept, lookup, without, placed_in, different, weight}
 use Rattle.shelf.specs.Shelf.{length_bytes, kept_bytes}
 use Rattle.shelf.specs.Keeps.{Keeps}
-use Rattle.shelf.specs.internal.Scanning.{kept_in, place_from, gap_from, gap_in}
+use Rattle.shelf.specs.internal.Scanning.{kept_in, place_from, size_of, gap_from, gap_in}
 use Rattle.shelf.specs.internal.Changing.{written, moved, entry_put, Insertable, inserted}
 use Rattle.shelf.proofs.Book.{same_is, not_first, not_later, first_absent, rest_different}
 use Rattle.shelf.proofs.Reading.{kept_length, kept_append, used_weight}
@@ -61,9 +62,14 @@ pub without_absent : (k : Key) (b : List Kept) → lookup k b ≡ none → witho
 without_absent k [] z = refl
 without_absent k (e ∷ b) z = rw (not_first k e b z) (ap (λ (c : List Kept). e ∷ c) (without_absent k b (not_later k e b z)))
 
-pub place_absent : (k : Key) (n : ℕ) (b : List Kept) → lookup k b ≡ none → place_from n k b ≡ Place 0 0
+pub place_absent : (k : Key) (n : ℕ) (b : List Kept) → lookup k b ≡ none → place_from n k b ≡ None
 place_absent k n [] z = refl
 place_absent k n (e ∷ b) z = rw (not_first k e b z) (place_absent k (n + (4 + length e.sheet)) b (not_later k e b z))
+
+-- where the entry starts: at 0 if there is none
+abbrev pub start_of : Perhaps Place → ℕ
+start_of None = 0
+start_of (Some p) = p.start
 
 -- what is in front of the entry of a key and what is after it; where there is none, an entry of no bytes in front of all
 record CutAt (n : ℕ) (k : Key) (b : List Kept) (start size : ℕ) : Type 0 where
@@ -75,13 +81,13 @@ record CutAt (n : ℕ) (k : Key) (b : List Kept) (start size : ℕ) : Type 0 whe
   pub begins : start ≡ n + weight front
   pub takes : size ≡ length mid
 
-module _ (k : Key) {start size : ℕ} where
-  cut_found : (n : ℕ) (b : List Kept) (sheet : List ℕ) → different b ≡ true → lookup k b ≡ some sheet → place_from n k b ≡ Place start size → CutAt n k b start size
+module _ (k : Key) {o : Perhaps Place} where
+  cut_found : (n : ℕ) (b : List Kept) (sheet : List ℕ) → different b ≡ true → lookup k b ≡ some sheet → place_from n k b ≡ o → CutAt n k b (start_of o) (size_of o)
   cut_found n [] sheet d l e = absurd (let z : ◌≡◌ {A = ℕ} 0 1 = cc in omega arith)
   cut_found n (f ∷ b) sheet d l e =
       by_cases (same_key f.key k)
       (λ q. let i = same_is f.key k q in
-      let p : Place n (4 + length f.sheet) ≡ Place start size = rw q at e in
+      let p : Some (record { start = n; size = 4 + length f.sheet }) ≡ o = rw q at e in
       let z : lookup k b ≡ none = subst (λ (h : Key). lookup h b ≡ none) i (first_absent f b d) in
       record {
         front = [];
@@ -89,8 +95,8 @@ module _ (k : Key) {start size : ℕ} where
         back = b;
         whole = refl;
         left = rw q (without_absent k b z);
-        begins = let y : n ≡ start = cc in omega arith;
-        takes = let y : 4 + length f.sheet ≡ size = cc in omega arith;
+        begins = let y : n ≡ start_of o = ap start_of p in omega arith;
+        takes = let y : 4 + length f.sheet ≡ size_of o = ap size_of p in omega arith;
       })
       (λ q. let c = cut_found (n + (4 + length f.sheet)) b sheet (rest_different f b d) (rw q at l) (rw q at e) in
       record {
@@ -104,17 +110,23 @@ module _ (k : Key) {start size : ℕ} where
         takes = c.takes;
       })
 
-  cut_out : (b : List Kept) → different b ≡ true → place_from 0 k b ≡ Place start size → CutAt 0 k b start size
+  cut_out : (b : List Kept) → different b ≡ true → place_from 0 k b ≡ o → CutAt 0 k b (start_of o) (size_of o)
   cut_out b d e = go (lookup k b) refl
     where
-      go : (o : Option (List ℕ)) → lookup k b ≡ o → CutAt 0 k b start size
+      go : (l : Option (List ℕ)) → lookup k b ≡ l → CutAt 0 k b (start_of o) (size_of o)
       go (some sheet) l = cut_found 0 b sheet d l e
       go none l =
-          let p : Place 0 0 ≡ Place start size = sym (place_absent k 0 b l) ∙ e in
-          record { front = []; mid = []; back = b; whole = refl; left = without_absent k b l; begins = let y : 0 ≡ start = cc in omega arith; takes = let y : 0 ≡ size = cc in omega arith }
+          let p : None ≡ o = sym (place_absent k 0 b l) ∙ e in
+          record { front = []; mid = []; back = b; whole = refl; left = without_absent k b l; begins = let y : 0 ≡ start_of o = ap start_of p in omega arith; takes = let y : 0 ≡ size_of o = ap size_of p in omega arith }
 
 -- a store that keeps a book, and the entry of a key in it
-module _ {s : List ℕ} {used : ℕ} {b : List Kept} (w : Keeps s used b) (k : Key) {start size : ℕ} (e : place_from 0 k b ≡ Place start size) where
+module _ {s : List ℕ} {used : ℕ} {b : List Kept} (w : Keeps s used b) (k : Key) {o : Perhaps Place} (e : place_from 0 k b ≡ o) where
+  abbrev start : ℕ
+  start = start_of o
+
+  abbrev size : ℕ
+  size = size_of o
+
   abbrev cut : CutAt 0 k b start size
   cut = cut_out k b w.apart e
 

@@ -9,13 +9,16 @@ use borrow.Author.Tests.{ltb-false, le-ltb, leb-true, leb-false}
 use lib.Dec.{ltb, leb}
 use lib.ListN.{length, take, drop, length-drop, drop_of_length-le}
 use lib.Seq.{take-add, take-append_seam, drop-drop, length-take-le}
+use Rattle.std.specs.Prelude.{Option as Perhaps, Some, None, Result, Ok, Err}
 use Rattle.bits.specs.Bits.{Bytes}
 use Rattle.bits.proofs.Tests.{by_cases}
+use Rattle.kinds.specs.declared.refusals.Refusal.{Refusal}
+use Rattle.kinds.specs.declared.refusals.Refusal.TheVariants.{NoShelf}
 use Rattle.format.specs.Format.{Read, accepted, refused, values_of}
 use Rattle.grammar.specs.segment.Segment.{wire_changes}
 use Rattle.grammar.specs.segment.Judgement.{from_sheet}
 use Rattle.shelf.specs.declared.Key.{Key}
-use Rattle.shelf.specs.declared.run.Scan.TheVariants.{NoShelf, Place}
+use Rattle.shelf.specs.declared.run.Place.{Place}
 use Rattle.shelf.specs.Book.{same_key, key_number, Kept, lookup, found, different, weight, Each}
 use Rattle.shelf.specs.Shelf.{length_bytes, kept_bytes, key_read, sheet_key, length_in, front_sheet, after_front, onto, sheets_in, distinct}
 use Rattle.shelf.specs.Keeps.{Good}
@@ -97,32 +100,52 @@ below_new above k (e ∷ b) c h =
     (λ q. absurd (let i : key_number e.key ≡ key_number k = ap key_number (same_is e.key k q) in omega arith))
     (λ q. rw q (below_new above k b c.1 h))
 
+-- an answer is no refusal, and another answer only if it is equal
+pub no_answer : {A C : Type 0} {a : A} {r : Refusal} → ◌≡◌ {A = Result A Refusal} (Ok a) (Err r) → C
+no_answer e = absurd (let z : ◌≡◌ {A = ℕ} 0 1 = cc in omega arith)
+
+pub same_answer : {A : Type 0} {a b : A} → ◌≡◌ {A = Result A Refusal} (Ok a) (Ok b) → a ≡ b
+same_answer e = cc
+
+pub same_refusal : {A : Type 0} {q r : Refusal} → ◌≡◌ {A = Result A Refusal} (Err q) (Err r) → q ≡ r
+same_refusal e = cc
+
 not_found : (o : Option (List ℕ)) → found o ≡ false → o ≡ none
 not_found none e = refl
 not_found (some s) e = contrary refl e
 
 module _ (above : ℕ) (k : Key) (sheet : List ℕ) (b : List Kept) (c : Below above b) where
-  abbrev raised : ℕ
+  abbrev raised : Result ℕ Refusal
   raised = above_with above (key_number k) (lookup k b)
 
   abbrev new : Kept
   new = record { key = k; sheet = sheet }
 
-  above_repeats : raised ≡ 0 → found (lookup k b) ≡ true
+  above_repeats : raised ≡ Err NoShelf → found (lookup k b) ≡ true
   above_repeats z =
       by_cases (leb above (key_number k))
-      (λ q. absurd (let y : key_number k + 1 ≡ 0 = rw q at z in omega arith))
+      (λ q. no_answer (let y : Ok (key_number k + 1) ≡ Err NoShelf = rw q at z in y))
       (λ q. by_cases (found (lookup k b)) (λ p. p)
-      (λ p. absurd (let y : above ≡ 0 = rw (q, p) at z in omega (arith, leb-false above (key_number k) q))))
+      (λ p. no_answer (let y : Ok above ≡ Err NoShelf = rw (q, p) at z in y)))
 
-  above_new : (raised ≡ 0 → ⊥) → (lookup k b ≡ none) × Below raised (b ++ one new)
-  above_new z =
+  above_new : {m : ℕ} → Ok m ≡ raised → (lookup k b ≡ none) × Below m (b ++ one new)
+  above_new {m} z =
       by_cases (leb above (key_number k))
       (λ q. let h = leb-true above (key_number k) q in
-      rw q (below_new above k b c h, each_append (λ e. key_number e.key < key_number k + 1) b new (each_map (λ e. key_number e.key < above) (λ e. key_number e.key < key_number k + 1) (λ e l. omega arith) b c) (omega arith)))
+      let i = same_answer (let y : Ok m ≡ Ok (key_number k + 1) = z ∙ rw q in y) in
+      (below_new above k b c h, each_append (λ e. key_number e.key < m) b new (each_map (λ e. key_number e.key < above) (λ e. key_number e.key < m) (λ e l. omega arith) b c) (omega arith)))
       (λ q. by_cases (found (lookup k b))
-      (λ p. absurd (z (rw (q, p))))
-      (λ p. rw (q, p) (not_found (lookup k b) p, each_append (λ e. key_number e.key < above) b new c (omega (arith, leb-false above (key_number k) q)))))
+      (λ p. no_answer (let y : Ok m ≡ Err NoShelf = z ∙ rw (q, p) in y))
+      (λ p. let i = same_answer (let y : Ok m ≡ Ok above = z ∙ rw (q, p) in y) in
+      (not_found (lookup k b) p, rw i (each_append (λ e. key_number e.key < above) b new c (omega (arith, leb-false above (key_number k) q))))))
+
+pub above_refusal : (above n : ℕ) (o : Option (List ℕ)) {r : Refusal} → Err r ≡ above_with above n o → r ≡ NoShelf
+above_refusal above n o {r} e =
+    by_cases (leb above n)
+    (λ q. no_answer (let y : Ok (n + 1) ≡ Err r = sym (e ∙ rw q) in y))
+    (λ q. by_cases (found o)
+    (λ p. same_refusal (let y : ◌≡◌ {A = Result ℕ Refusal} (Err r) (Err NoShelf) = e ∙ rw (q, p) in y))
+    (λ p. no_answer (let y : Ok above ≡ Err r = sym (e ∙ rw (q, p)) in y)))
 
 -- ---- the entry at a place
 
@@ -144,20 +167,31 @@ module _ (u : List ℕ) (at : ℕ) where
   s = drop at u
 
   -- what the end of an entry says
-  end_none : sheet_end u at ≡ 0 → 4 + length_in s ≤ length s → sheet_key (front_sheet s) ≡ none
+  end_none : sheet_end u at ≡ Err NoShelf → 4 + length_in s ≤ length s → sheet_key (front_sheet s) ≡ none
   end_none z h = go (sheet_key (front_sheet s)) refl
     where
       go : (o : Option Key) → sheet_key (front_sheet s) ≡ o → sheet_key (front_sheet s) ≡ none
       go none e = e
-      go (some k) e = absurd (let y : at + 4 + length_in s ≡ 0 = rw (le-ltb (length s) (4 + length_in s) h, e) at z in omega arith)
+      go (some k) e = no_answer (let y : Ok (at + 4 + length_in s) ≡ Err NoShelf = rw (le-ltb (length s) (4 + length_in s) h, e) at z in y)
 
-  pub end_some : at ≤ length u → {next : ℕ} → next ≡ sheet_end u at → (next ≡ 0 → ⊥) → Stands u at × (next ≡ at + 4 + length_in s)
-  end_some i {next} e z =
+  pub end_some : at ≤ length u → {next : ℕ} → Ok next ≡ sheet_end u at → Stands u at × (next ≡ at + 4 + length_in s)
+  end_some i {next} e =
       by_cases (ltb (length s) (4 + length_in s))
-      (λ q. absurd (z (e ∙ rw q)))
+      (λ q. no_answer (let y : Ok next ≡ Err NoShelf = e ∙ rw q in y))
       (λ q. by_cases (has_key (sheet_key (front_sheet s)))
-      (λ p. (record { inside = omega (arith, ltb-false (length s) (4 + length_in s) q, length-drop at u); accepts = has_accepted (front_sheet s) p }, e ∙ rw (q, p)))
-      (λ p. absurd (z (e ∙ rw (q, p)))))
+      (λ p. (
+        record { inside = omega (arith, ltb-false (length s) (4 + length_in s) q, length-drop at u); accepts = has_accepted (front_sheet s) p },
+        same_answer (let y : Ok next ≡ Ok (at + 4 + length_in s) = e ∙ rw (q, p) in y),
+      ))
+      (λ p. no_answer (let y : Ok next ≡ Err NoShelf = e ∙ rw (q, p) in y)))
+
+  end_refusal : {r : Refusal} → Err r ≡ sheet_end u at → r ≡ NoShelf
+  end_refusal {r} e =
+      by_cases (ltb (length s) (4 + length_in s))
+      (λ q. same_refusal (let y : ◌≡◌ {A = Result ℕ Refusal} (Err r) (Err NoShelf) = e ∙ rw q in y))
+      (λ q. by_cases (has_key (sheet_key (front_sheet s)))
+      (λ p. no_answer (let y : Ok (at + 4 + length_in s) ≡ Err r = sym (e ∙ rw (q, p)) in y))
+      (λ p. same_refusal (let y : ◌≡◌ {A = Result ℕ Refusal} (Err r) (Err NoShelf) = e ∙ rw (q, p) in y)))
 
   -- the sheet's bytes are those between
   pub between : {from next : ℕ} → from ≡ at + 4 → next ≡ at + 4 + length_in s → take (next - from) (drop from u) ≡ front_sheet s
@@ -196,7 +230,7 @@ sheets_over zero = refl
 sheets_over (suc n) = refl
 
 -- the entries before the byte at were read: their book, and what is left to read
-pub record Passing (u : List ℕ) (k : Key) (at above start size : ℕ) : Type 0 where
+pub record Passing (u : List ℕ) (k : Key) (at above : ℕ) (old : Perhaps Place) : Type 0 where
   pub book : List Kept
   pub left : ℕ
   pub inside : at ≤ length u
@@ -206,14 +240,14 @@ pub record Passing (u : List ℕ) (k : Key) (at above start size : ℕ) : Type 0
   pub good : Each Good book
   pub apart : different book ≡ true
   pub under : Below above book
-  pub place : place_from 0 k book ≡ Place start size
+  pub place : place_from 0 k book ≡ old
 
 before_none : (o : Option (List Kept)) → before [] o ≡ o
 before_none none = refl
 before_none (some c) = refl
 
 module _ (u : List ℕ) (k : Key) where
-  pub passing_start : Passing u k 0 0 0 0
+  pub passing_start : Passing u k 0 0 None
   passing_start =
       record {
         book = [];
@@ -228,7 +262,7 @@ module _ (u : List ℕ) (k : Key) where
         place = refl;
       }
 
-  module _ {at above start size : ℕ} (p : Passing u k at above start size) where
+  module _ {at above : ℕ} {old : Perhaps Place} (p : Passing u k at above old) where
     pub passing_run : Run (take at u) p.book
     passing_run = record { good = p.good; whole = p.front }
 
@@ -236,11 +270,11 @@ module _ (u : List ℕ) (k : Key) where
     at_weight = sym (length-take-le at u p.inside) ∙ ap length p.front ∙ kept_length p.book
 
     -- the end
-    pub passing_over : length u ≤ at → Place start size ≡ scanned k (distinct (sheets_in (length u) u))
+    pub passing_over : length u ≤ at → Ok old ≡ scanned k (distinct (sheets_in (length u) u))
     passing_over h =
         let e : sheets_in (length u) u ≡ some p.book =
         p.split ∙ ap (λ (s : List ℕ). before p.book (sheets_in p.left s)) (drop_of_length-le u h) ∙ ap (before p.book) (sheets_over p.left) ∙ ap some (append-nil p.book) in
-        sym (ap (λ (o : Option (List Kept)). scanned k (distinct o)) e ∙ ap (λ (t : Bool). scanned k (cond t (some p.book) none)) p.apart ∙ p.place)
+        sym (ap (λ (o : Option (List Kept)). scanned k (distinct o)) e ∙ ap (λ (t : Bool). scanned k (cond t (some p.book) none)) p.apart ∙ ap Ok p.place)
 
     module _ (more : at < length u) where
       abbrev rest : List ℕ
@@ -249,14 +283,17 @@ module _ (u : List ℕ) (k : Key) where
       rest_front : sheets_in p.left rest ≡ cond (ltb (length rest) (4 + length_in rest)) none (onto (sheet_key (front_sheet rest)) (front_sheet rest) (sheets_in (p.left - 1) (after_front rest)))
       rest_front = sheets_front p.left rest (omega (arith, length-drop at u)) (let e = p.enough in omega (arith, length-drop at u))
 
-      none_left : sheets_in p.left rest ≡ none → NoShelf ≡ scanned k (distinct (sheets_in (length u) u))
+      none_left : sheets_in p.left rest ≡ none → Err NoShelf ≡ scanned k (distinct (sheets_in (length u) u))
       none_left e = sym (ap (λ (o : Option (List Kept)). scanned k (distinct o)) (p.split ∙ ap (before p.book) e))
 
       -- no entry stands here
-      pub passing_none : sheet_end u at ≡ 0 → NoShelf ≡ scanned k (distinct (sheets_in (length u) u))
+      pub passing_none : sheet_end u at ≡ Err NoShelf → Err NoShelf ≡ scanned k (distinct (sheets_in (length u) u))
       passing_none z =
           none_left (rest_front ∙ by_cases (ltb (length rest) (4 + length_in rest)) (λ q. rw q)
           (λ q. rw q (ap (λ (o : Option Key). onto o (front_sheet rest) (sheets_in (p.left - 1) (after_front rest))) (end_none u at z (ltb-false (length rest) (4 + length_in rest) q)))))
+
+      pub passing_refused : {r : Refusal} → Err r ≡ sheet_end u at → Err r ≡ scanned k (distinct (sheets_in (length u) u))
+      passing_refused e = let n = end_refusal u at e in ap Err n ∙ passing_none (sym e ∙ ap Err n)
 
       module _ (h : Stands u at) where
         abbrev its : Key
@@ -276,10 +313,10 @@ module _ (u : List ℕ) (k : Key) where
             ∙ ap (λ (o : Option Key). onto o (front_sheet rest) (sheets_in (p.left - 1) (after_front rest))) (accepted_key_lem (front_sheet rest) h.accepts))
 
         -- its key is there already
-        pub passing_repeated : above_with above (key_number its) (lookup its p.book) ≡ 0 → NoShelf ≡ scanned k (distinct (sheets_in (length u) u))
+        pub passing_repeated : above_with above (key_number its) (lookup its p.book) ≡ Err NoShelf → Err NoShelf ≡ scanned k (distinct (sheets_in (length u) u))
         passing_repeated z = sym (ap (λ (o : Option (List Kept)). scanned k (distinct o)) split_here ∙ go (sheets_in (p.left - 1) (after_front rest)))
           where
-            go : (o : Option (List Kept)) → scanned k (distinct (before p.book (onto (some its) (front_sheet rest) o))) ≡ NoShelf
+            go : (o : Option (List Kept)) → scanned k (distinct (before p.book (onto (some its) (front_sheet rest) o))) ≡ Err NoShelf
             go none = refl
             go (some c) =
                 ap (λ (t : Bool). scanned k (cond t (some (p.book ++ entry ∷ c)) none)) (repeated p.book entry c (above_repeats above its (front_sheet rest) p.book p.under z))
@@ -299,13 +336,13 @@ module _ (u : List ℕ) (k : Key) where
             ∙ ap₂ (λ (x y : List ℕ). x ++ y) p.front (ap₂ take m whole ∙ take-append_seam (kept_bytes (one entry)) (after_front rest))
             ∙ sym (kept_append p.book (one entry))
 
-        -- one more entry; s and n are what is known of the key that is looked for
-        pub passing_next : Bytes u → {above' : ℕ} → above' ≡ above_with above (key_number its) (lookup its p.book) → (above' ≡ 0 → ⊥) → (start' size' : ℕ)
-            → (same_key its k ≡ true → Place start' size' ≡ Place at (4 + length_in rest)) → (same_key its k ≡ false → Place start' size' ≡ Place start size)
-            → Passing u k next above' start' size'
-        passing_next ok {above'} e z start' size' mine other =
+        -- one more entry; mine and other are what is known of the key that is looked for
+        pub passing_next : Bytes u → {above' : ℕ} → Ok above' ≡ above_with above (key_number its) (lookup its p.book) → (old' : Perhaps Place)
+            → (same_key its k ≡ true → old' ≡ Some (record { start = at; size = 4 + length_in rest })) → (same_key its k ≡ false → old' ≡ old)
+            → Passing u k next above' old'
+        passing_next ok {above'} e old' mine other =
             let size_is : length (front_sheet rest) ≡ length_in rest = length-take-le (length_in rest) (drop 4 rest) (omega (arith, length-drop 4 rest, long)) in
-            let n = above_new above its (front_sheet rest) p.book p.under (λ q. z (e ∙ q)) in
+            let n = above_new above its (front_sheet rest) p.book p.under e in
             let m : at + (4 + length_in rest) ≡ next = omega arith in
             record {
               book = p.book ++ one entry;
@@ -318,11 +355,11 @@ module _ (u : List ℕ) (k : Key) where
               front = front_here ok;
               good = each_append Good p.book entry p.good (accepted_key_lem (front_sheet rest) h.accepts);
               apart = different_after p.book entry n.0 p.apart;
-              under = rw e n.1;
+              under = n.1;
               place =
                   by_cases (same_key its k)
                   (λ q. let i = same_is its k q in
                   let y : lookup k p.book ≡ none = subst (λ (j : Key). lookup j p.book ≡ none) i n.0 in
-                  place_after k 0 p.book (one entry) y ∙ rw q (ap₂ Place (let w : 0 + weight p.book ≡ at = omega (arith, at_weight) in w) (ap (λ (m : ℕ). 4 + m) size_is)) ∙ sym (mine q))
+                  place_after k 0 p.book (one entry) y ∙ rw q (let w : 0 + weight p.book ≡ at = omega (arith, at_weight) in λ j. Some (record { start = w j; size = 4 + size_is j })) ∙ sym (mine q))
                   (λ q. place_other k 0 p.book entry q ∙ p.place ∙ sym (other q));
             }

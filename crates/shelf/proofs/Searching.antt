@@ -6,6 +6,8 @@ use mathlib.Core.Option.{Option}
 use Prim.Native.Nat.{ℕ, ◌+◌, ◌≤◌, ◌<◌}
 use borrow.Author.Tests.{lt-ltb, le-ltb, le-leb, lt-leb}
 use lib.ListN.{length}
+use Rattle.std.specs.Prelude.{Ok, Err}
+use Rattle.kinds.specs.declared.refusals.Refusal.TheVariants.{NoShelf}
 use Rattle.shelf.specs.declared.Key.{Key}
 use Rattle.shelf.specs.declared.run.Entry.{Entry}
 use Rattle.shelf.specs.Book.{same_key, key_number, Kept, lookup, found}
@@ -62,12 +64,12 @@ module _ (u : List ℕ) (m : ℕ) {at : ℕ} (l : Left u (Gapped u m) at) where
 -- ---- the number above all keys
 
 module _ (above : ℕ) (o : Option (List ℕ)) {n m : ℕ} (e : n ≡ m) where
-  pub above_greater : above ≤ n → n + 1 ≡ above_with above m o
+  pub above_greater : above ≤ n → Ok (n + 1) ≡ above_with above m o
   above_greater h = rw (e, le-leb above m (rw e at h))
 
   module _ (h : n < above) where
-    pub above_kept : found o ≡ true → 0 ≡ above_with above m o
+    pub above_kept : found o ≡ true → Err NoShelf ≡ above_with above m o
     above_kept q = rw (lt-leb above m (rw e at h), q)
 
-    pub above_other : found o ≡ false → above ≡ above_with above m o
+    pub above_other : found o ≡ false → Ok above ≡ above_with above m o
     above_other q = rw (lt-leb above m (rw e at h), q)

@@ -6,30 +6,31 @@ use Prim.Native.Nat.{ℕ, ◌+◌, ◌-◌, ◌≤◌, ◌<◌}
 use native.Mathlib.Omega.{arith}
 use lib.ListN.{length, take, drop}
 use lib.Seq.{length-take-le}
+use Rattle.std.specs.Prelude.{Option as Perhaps, Some, Ok, Err}
 use Rattle.bits.specs.Bits.{Bytes}
+use Rattle.kinds.specs.declared.refusals.Refusal.{Refusal}
 use Rattle.shelf.specs.declared.Key.{Key}
-use Rattle.shelf.specs.declared.run.Scan.TheVariants.{NoShelf, Place}
+use Rattle.shelf.specs.declared.run.Place.{Place}
 use Rattle.shelf.specs.Book.{same_key, key_number, Kept, lookup}
 use Rattle.shelf.specs.Shelf.{length_in, front_sheet, sheets_in, distinct}
 use Rattle.shelf.specs.internal.Scanning.{InRange, AcceptedSheet, accepted_key, kept_in, Runs, Stands, sheet_end, above_with, scanned}
 use Rattle.shelf.proofs.Book.{contrary}
 use Rattle.shelf.proofs.Reading.{run_kept, kept_run}
-use Rattle.shelf.proofs.Scanning.{end_some, between, stands_range, Passing, passing_run, passing_repeated, passing_next}
+use Rattle.shelf.proofs.Scanning.{above_refusal, end_some, between, stands_range, Passing, passing_run, passing_repeated, passing_next}
 
 -- an entry was judged in a run of which the entries before it were read: next is the byte after it
-pub record Turn (u : List ℕ) (k : Key) (at above start size next : ℕ) : Type 0 where
+pub record Turn (u : List ℕ) (k : Key) (at above : ℕ) (old : Perhaps Place) (next : ℕ) : Type 0 where
   pub ok : Bytes u
   pub short : length u ≤ 65536
-  pub passing : Passing u k at above start size
+  pub passing : Passing u k at above old
   pub more : at < length u
-  pub is : next ≡ sheet_end u at
-  pub some : next ≡ 0 → ⊥
+  pub is : Ok next ≡ sheet_end u at
 
-module _ {u : List ℕ} {k : Key} {at above start size next : ℕ} (t : Turn u k at above start size next) where
+module _ {u : List ℕ} {k : Key} {at above : ℕ} {old : Perhaps Place} {next : ℕ} (t : Turn u k at above old next) where
   abbrev its : Key
   its = accepted_key (front_sheet (drop at u))
 
-  abbrev p : Passing u k at above start size
+  abbrev p : Passing u k at above old
   p = t.passing
 
   taken_short : length (take at u) ≤ 65536
@@ -40,10 +41,10 @@ module _ {u : List ℕ} {k : Key} {at above start size next : ℕ} (t : Turn u k
   turn_runs = record { run = kept_run (take at u) p.book (passing_run u k p) taken_short; short = taken_short }
 
   turn_stands : Stands u at
-  turn_stands = (end_some u at p.inside t.is t.some).0
+  turn_stands = (end_some u at p.inside t.is).0
 
   pub turn_next : next ≡ at + 4 + length_in (drop at u)
-  turn_next = (end_some u at p.inside t.is t.some).1
+  turn_next = (end_some u at p.inside t.is).1
 
   pub turn_inside : (at + 4 ≤ next) × (next ≤ length u)
   turn_inside = (omega (arith, turn_next), omega (arith, turn_next, turn_stands.inside))
@@ -61,23 +62,23 @@ module _ {u : List ℕ} {k : Key} {at above start size next : ℕ} (t : Turn u k
     pub turn_range : InRange i
     turn_range = rw turn_key (stands_range u at t.ok turn_stands)
 
-    module _ {above' : ℕ} (a : above' ≡ above_with above (key_number i) (lookup i (kept_in (take at u)))) where
-      turn_above : above' ≡ above_with above (key_number its) (lookup its p.book)
-      turn_above =
-          a ∙ ap₂ (λ (j : Key) (b : List Kept). above_with above (key_number j) (lookup j b)) turn_key (run_kept (take at u) p.book (passing_run u k p) taken_short)
+    turn_above : above_with above (key_number i) (lookup i (kept_in (take at u))) ≡ above_with above (key_number its) (lookup its p.book)
+    turn_above = ap₂ (λ (j : Key) (b : List Kept). above_with above (key_number j) (lookup j b)) turn_key (run_kept (take at u) p.book (passing_run u k p) taken_short)
 
-      pub turn_repeated : above' ≡ 0 → NoShelf ≡ scanned k (distinct (sheets_in (length u) u))
-      turn_repeated y = passing_repeated u k p t.more turn_stands (sym turn_above ∙ y)
+    pub turn_repeated : {r : Refusal} → Err r ≡ above_with above (key_number i) (lookup i (kept_in (take at u))) → Err r ≡ scanned k (distinct (sheets_in (length u) u))
+    turn_repeated a =
+        let n = above_refusal above (key_number i) (lookup i (kept_in (take at u))) a in
+        ap Err n ∙ passing_repeated u k p t.more turn_stands (sym (a ∙ turn_above) ∙ ap Err n)
 
-      module _ (y : above' ≡ 0 → ⊥) where
-        turn_over : (start' size' : ℕ) → (same_key its k ≡ true → Place start' size' ≡ Place at (4 + length_in (drop at u))) → (same_key its k ≡ false → Place start' size' ≡ Place start size)
-            → Passing u k next above' start' size'
-        turn_over start' size' m o = rw turn_next (passing_next u k p t.more turn_stands t.ok turn_above y start' size' m o)
+    module _ {above' : ℕ} (a : Ok above' ≡ above_with above (key_number i) (lookup i (kept_in (take at u)))) where
+      turn_over : (old' : Perhaps Place) → (same_key its k ≡ true → old' ≡ Some (record { start = at; size = 4 + length_in (drop at u) })) → (same_key its k ≡ false → old' ≡ old)
+          → Passing u k next above' old'
+      turn_over old' m o = rw turn_next (passing_next u k p t.more turn_stands t.ok (a ∙ turn_above) old' m o)
 
-        pub turn_mine : same_key i k ≡ true → Passing u k next above' at (next - at)
-        turn_mine q =
-            let n : next - at ≡ 4 + length_in (drop at u) = omega (arith, turn_next) in
-            turn_over at (next - at) (λ _. ap (Place at) n) (λ w. contrary (rw turn_key at q) w)
+      pub turn_mine : same_key i k ≡ true → Passing u k next above' (Some (record { start = at; size = next - at }))
+      turn_mine q =
+          let n : next - at ≡ 4 + length_in (drop at u) = omega (arith, turn_next) in
+          turn_over (Some (record { start = at; size = next - at })) (λ _ j. Some (record { start = at; size = n j })) (λ w. contrary (rw turn_key at q) w)
 
-        pub turn_other : same_key i k ≡ false → Passing u k next above' start size
-        turn_other q = turn_over start size (λ w. contrary w (rw turn_key at q)) (λ _. refl)
+      pub turn_other : same_key i k ≡ false → Passing u k next above' old
+      turn_other q = turn_over old (λ w. contrary w (rw turn_key at q)) (λ _. refl)

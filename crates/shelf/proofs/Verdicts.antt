@@ -8,16 +8,17 @@ use borrow.Author.Tests.{lt-ltb, le-ltb}
 use lib.Dec.{lit<}
 use lib.ListN.{length, take, drop, get_or, length-drop}
 use lib.Seq.{get_or-drop}
+use Rattle.std.specs.Prelude.{Ok, Err}
 use Rattle.bits.specs.Bits.{Bytes}
+use Rattle.kinds.specs.declared.refusals.Refusal.TheVariants.{NoShelf}
 use Rattle.format.specs.Format.{refused}
 use Rattle.format.specs.Media.{packet}
 use Rattle.grammar.specs.segment.Segment.{fields, sheet_fields, wire_changes}
 use Rattle.grammar.specs.segment.Judgement.{from_sheet}
 use Rattle.grammar.specs.declared.link.Tree.TheVariants.{Segment}
 use Rattle.grammar.specs.internal.link.Trees.{tree_sheet_fields}
-use Rattle.verdict.specs.declared.SheetVerdict.TheVariants as SheetVerdict
-use Rattle.verdict.specs.internal.Verdict.{size_from, sheet_verdict}
-use Rattle.verdict.proofs.Sizes.{sheet_sorts}
+use Rattle.verdict.specs.internal.Verdict.{Verdict, size_from, sheet_verdict}
+use Rattle.verdict.proofs.Sizes.{verdict_sorts}
 use Rattle.verdict.proofs.Accepted.{verdict_accepted, verdict_refused}
 use Rattle.speed_sheet.specs.internal.Asking.{counted_at, number_end, numbers_end, NumberAt, Numbers}
 use Rattle.speed_sheet.proofs.Parts.{head_numbers, head_values}
@@ -29,13 +30,13 @@ use Rattle.shelf.proofs.Scanning.{between, accepted_key_lem}
 -- ---- the verdict
 
 module _ (s : List ℕ) where
-  pub refused_read : (q place : ℕ) → SheetVerdict.Refused q place ≡ sheet_verdict Segment s → from_sheet wire_changes s ≡ refused q place
+  pub refused_read : (q place : ℕ) → Verdict.refused q place ≡ sheet_verdict Segment s → from_sheet wire_changes s ≡ refused q place
   unfolding sheet_verdict from_sheet fields sheet_fields
-  refused_read q place e = verdict_refused sheet_sorts (size_from packet (tree_sheet_fields Segment) 0) (from_sheet wire_changes s) q place e
+  refused_read q place e = verdict_refused verdict_sorts (size_from packet (tree_sheet_fields Segment) 0) (from_sheet wire_changes s) q place e
 
-  pub accepted_read : (n : ℕ) → SheetVerdict.PacketBits n ≡ sheet_verdict Segment s → AcceptedSheet s
+  pub accepted_read : (n : ℕ) → Verdict.sized n ≡ sheet_verdict Segment s → AcceptedSheet s
   unfolding sheet_verdict from_sheet fields sheet_fields
-  accepted_read n e = verdict_accepted sheet_sorts (size_from packet (tree_sheet_fields Segment) 0) (from_sheet wire_changes s) n e λ p q. p
+  accepted_read n e = verdict_accepted verdict_sorts (size_from packet (tree_sheet_fields Segment) 0) (from_sheet wire_changes s) n e λ p q. p
 
   refused_key : (q place : ℕ) → from_sheet wire_changes s ≡ refused q place → sheet_key s ≡ none
   unfolding sheet_key
@@ -73,11 +74,11 @@ module _ (u : List ℕ) (at : ℕ) (i : at ≤ length u) where
   abbrev s : List ℕ
   s = drop at u
 
-  pub end_short : length u - at < 4 → 0 ≡ sheet_end u at
+  pub end_short : length u - at < 4 → Err NoShelf ≡ sheet_end u at
   end_short h = rw (lt-ltb (length s) (4 + length_in s) (omega (arith, length-drop at u)))
 
   module _ {n : ℕ} (e : n ≡ length_in s) (l : 4 ≤ length u - at) where
-    pub end_cut : length u - (at + 4) < n → 0 ≡ sheet_end u at
+    pub end_cut : length u - (at + 4) < n → Err NoShelf ≡ sheet_end u at
     end_cut h = rw (lt-ltb (length s) (4 + length_in s) (omega (arith, length-drop at u)))
 
     module _ (h : n ≤ length u - (at + 4)) where
@@ -87,12 +88,12 @@ module _ (u : List ℕ) (at : ℕ) (i : at ≤ length u) where
       sheet_is : take (at + 4 + n - (at + 4)) (drop (at + 4) u) ≡ front_sheet s
       sheet_is = between u at refl (ap (λ (m : ℕ). at + 4 + m) e)
 
-      pub end_refused : (q place : ℕ) → SheetVerdict.Refused q place ≡ sheet_verdict Segment (take (at + 4 + n - (at + 4)) (drop (at + 4) u)) → 0 ≡ sheet_end u at
+      pub end_refused : (q place : ℕ) → Verdict.refused q place ≡ sheet_verdict Segment (take (at + 4 + n - (at + 4)) (drop (at + 4) u)) → Err NoShelf ≡ sheet_end u at
       end_refused q place v =
           let k : sheet_key (front_sheet s) ≡ none = refused_key (front_sheet s) q place (refused_read (front_sheet s) q place (rw sheet_is at v)) in
           rw (le-ltb (length s) (4 + length_in s) fits, k)
 
-      pub end_accepted : (m : ℕ) → SheetVerdict.PacketBits m ≡ sheet_verdict Segment (take (at + 4 + n - (at + 4)) (drop (at + 4) u)) → at + 4 + n ≡ sheet_end u at
+      pub end_accepted : (m : ℕ) → Verdict.sized m ≡ sheet_verdict Segment (take (at + 4 + n - (at + 4)) (drop (at + 4) u)) → Ok (at + 4 + n) ≡ sheet_end u at
       end_accepted m v =
           let k = accepted_key_lem (front_sheet s) (accepted_read (front_sheet s) m (rw sheet_is at v)) in
           rw (le-ltb (length s) (4 + length_in s) fits, k, e)

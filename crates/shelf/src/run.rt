@@ -1,21 +1,19 @@
 // Reads a run of kept sheets: judges it, and finds the entry of a key in it. A sheet is judged once; of one that was accepted only its key is read again.
 ghost use Rattle.std.specs.Prelude.{◌≡◌, ◌+◌, ◌≤◌, length, drop};
-ghost use Rattle.shelf.specs.Book.{same_key, key_number, lookup, found};
+ghost use Rattle.shelf.specs.Book.{key_number, lookup, found};
 ghost use Rattle.shelf.specs.Shelf.{length_in, sheets_in, distinct};
 ghost use Rattle.shelf.specs.internal.Scanning.{InRange, AcceptedSheet, accepted_key, Stands, Runs, kept_in, entry_at, sheet_end, above_with, scanned, gap_in};
 
 use crate::Key;
-use bits::wide;
 use grammar::link::Tree;
+use kinds::refusals::Refusal;
 use speed_sheet::{FIRST, number};
-use verdict::SheetVerdict;
 
-// What the judgement of a run finds: `Place(start, size)`, the first byte of the key's entry and how many it has, both 0 if no entry has the key;
-// `NoShelf` if it is not a run of accepted sheets with different keys.
-#[derive(Clone, Copy)]
-pub enum Scan {
-    NoShelf,
-    Place(usize, usize),
+// Where the entry of a key stands: its first byte, and how many it has.
+#[derive(Clone, Copy, Debug, PartialEq, Eq)]
+pub struct Place {
+    pub start: usize,
+    pub size: usize,
 }
 
 // An entry that is read: the key of its sheet, and the byte after it.
@@ -30,22 +28,6 @@ pub(crate) const LENGTH: usize = 4;
 
 // The count of numbers between the packet number and NID_C: NID_OPERATIONAL, 4 of the header.
 const BEFORE_KEY: u32 = 5;
-
-// Returns whether two keys are the same.
-fn same(a: Key, b: Key) -> bool
-    ensures { result ≡ same_key a b }
-{
-    if a.nid_c != b.nid_c {
-        return false;
-    }
-    if a.nid_sp != b.nid_sp {
-        return false;
-    }
-    if a.major != b.major {
-        return false;
-    }
-    a.minor == b.minor
-}
 
 // Returns a sheet's key as one number of 58 bits, by which keys are in order.
 pub(crate) fn number_of(key: Key) -> u64
@@ -79,28 +61,26 @@ fn length_at(run: &[u8], at: usize) -> usize
     requires { at + 4 ≤ length run.now }
     ensures { result ≡ length_in (drop at run.now) }
 {
-    let high = wide(run[at]) * 256 + wide(run[at + 1]);
-    let low = wide(run[at + 2]) * 256 + wide(run[at + 3]);
-    (high * 65536 + low) as usize
+    u32::from_be_bytes([run[at], run[at + 1], run[at + 2], run[at + 3]]) as usize
 }
 
-// Judges the entry at the byte `at`: returns the byte after it, or 0 if no entry with an accepted sheet stands there.
-fn sheet_end(run: &[u8], at: usize) -> usize
+// Judges the entry at the byte `at` and returns the byte after it. Refuses with 21 if no entry with an accepted sheet stands there.
+fn sheet_end(run: &[u8], at: usize) -> Result<usize, Refusal>
     requires { at ≤ length run.now }
     ensures { result ≡ sheet_end run.now at }
 {
     if run.len() - at < LENGTH {
-        return 0;
+        return Err(Refusal::NoShelf);
     }
     let start = at + LENGTH;
     let count = length_at(run, at);
     if run.len() - start < count {
-        return 0;
+        return Err(Refusal::NoShelf);
     }
     let end = start + count;
     match sheet_judge::judge_sheet(Tree::Segment, &run[start..end]) {
-        SheetVerdict::Refused(_, _) => 0,
-        SheetVerdict::PacketBits(_) => end,
+        Err(_) => Err(Refusal::NoShelf),
+        Ok(_) => Ok(end),
     }
 }
 
@@ -117,7 +97,7 @@ fn entry_at(run: &[u8], at: usize) -> Entry
     }
 }
 
-// Returns whether a sheet of the run has the key.
+// Returns whether a sheet of the run has the key. The entries have different lengths, so a `for` would need an iterator with this loop's own step and test.
 fn keeps(run: &[u8], key: Key) -> bool
     requires { Runs run.now }
     ensures { result ≡ found (lookup key (kept_in run.now)) }
@@ -125,7 +105,7 @@ fn keeps(run: &[u8], key: Key) -> bool
     let mut at = 0;
     while at < run.len() {
         let e = entry_at(run, at);
-        if same(e.key, key) {
+        if e.key == key {
             return true;
         }
         at = e.next;
@@ -149,46 +129,41 @@ pub(crate) fn gap(run: &[u8], mine: u64) -> usize
     at
 }
 
-// Returns the number above all keys of the run and above `key`, or 0 if the run keeps `key`. `above` is above all keys of the run.
-fn above_with(run: &[u8], above: u64, key: Key) -> u64
+// Returns the number above all keys of the run and above `key`; refuses with 21 if the run keeps `key`. `above` is above all keys of the run.
+fn above_with(run: &[u8], above: u64, key: Key) -> Result<u64, Refusal>
     requires { Runs run.now × InRange key }
     ensures { result ≡ above_with above (key_number key) (lookup key (kept_in run.now)) }
 {
     let mine = number_of(key);
     if above <= mine {
-        return mine + 1;
+        return Ok(mine + 1);
     }
     if keeps(run, key) {
-        return 0;
+        return Err(Refusal::NoShelf);
     }
-    above
+    Ok(above)
 }
 
-// Judges a run and finds the entry of `key`. A key above all before it is new; for any other the sheets before it are asked, so that any order is taken.
-pub(crate) fn judge(run: &[u8], key: Key) -> Scan
+// Judges a run and finds the entry of `key`, if one has it. Refuses with 21 what is not a run of accepted sheets with different keys.
+// A key above all before it is new; for any other the sheets before it are asked, so that any order is taken.
+pub(crate) fn judge(run: &[u8], key: Key) -> Result<Option<Place>, Refusal>
     requires { length run.now ≤ 65536 }
     ensures { result ≡ scanned key (distinct (sheets_in (length run.now) run.now)) }
 {
     let mut at = 0;
-    let mut above: u64 = 0;
-    let mut start = 0;
-    let mut size = 0;
+    let mut above = 0;
+    let mut place = None;
     while at < run.len() {
-        let next = sheet_end(run, at);
-        if next == 0 {
-            return Scan::NoShelf;
-        }
-        let from = at + LENGTH;
-        let its = key_of(&run[from..next]);
-        above = above_with(&run[..at], above, its);
-        if above == 0 {
-            return Scan::NoShelf;
-        }
-        if same(its, key) {
-            start = at;
-            size = next - at;
+        let next = sheet_end(run, at)?;
+        let its = key_of(&run[at + LENGTH..next]);
+        above = above_with(&run[..at], above, its)?;
+        if its == key {
+            place = Some(Place {
+                start: at,
+                size: next - at,
+            });
         }
         at = next;
     }
-    Scan::Place(start, size)
+    Ok(place)
 }

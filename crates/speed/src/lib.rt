@@ -38,33 +38,19 @@ fn is_figure(cant: u32) -> bool
 }
 
 // Returns whether the length, the maximum speed and the cant deficiency of `train` are allowed.
-#[tactic(auto, using(crate::proofs::Laws::valid_slow))]
 pub fn valid(train: Train) -> bool
     ensures { result ≡ valid_train train }
 {
-    if train.length < 1 {
-        return false;
-    }
-    if LONGEST < train.length {
-        return false;
-    }
-    if train.maximum < 1 {
-        return false;
-    }
-    if FASTEST < train.maximum {
-        return false;
-    }
-    is_figure(train.cant)
+    (1..=LONGEST).contains(&train.length)
+        && (1..=FASTEST).contains(&train.maximum)
+        && is_figure(train.cant)
 }
 
 // Returns the lower of the train's maximum and `v`, the speed of the profile, both in km/h.
 pub fn limited(train: Train, v: u32) -> u32
     ensures { result ≡ limited train v }
 {
-    if train.maximum < v {
-        return train.maximum;
-    }
-    v
+    train.maximum.min(v)
 }
 
 // Returns whether `train` belongs to `category`, which counts modulo 32: 0 freight in P position, 1 freight in G position, 2 passenger, others none.

@@ -11,10 +11,10 @@ use lib.ListN.{get_or}
 use Rattle.bits.proofs.Tests.{by_cases}
 use Rattle.speed.proofs.Laws.{belongs_listed}
 use Rattle.speed.specs.declared.Train.{Train}
-use Rattle.speed.specs.Speed.{lowest, figure_speeds, Entry, Element, belongs, memberships, not_above, greatest_figure, greatest_speeds, named_speeds, instead, element_speed, held_to, holds}
+use Rattle.speed.specs.Speed.{lowest, figure_speeds, Entry, Element, belongs, memberships, not_above, greatest_figure, greatest_speeds, named_speeds, instead, element_speed, held_to}
 use Rattle.speed_element.specs.declared.Lows.{Lows}
 use Rattle.speed_element.specs.declared.Open.{Open}
-use Rattle.speed_element.specs.internal.Elements.{none, instead_from, lowest_from, counted, Distant, folded, counts, no_figure, folded_entry, cant_from, cant_of, no_lows, Kept, speed_from, speed_of, Worked, OneMore, element_with}
+use Rattle.speed_element.specs.internal.Elements.{none, instead_from, lowest_from, counted, Distant, folded, counts, no_figure, folded_entry, cant_from, cant_of, no_lows, Kept, speed_from, OneMore, element_with}
 
 -- ---- one speed more
 
@@ -178,41 +178,11 @@ cant_last t best v =
 pub speed_first : (t : Train) (e : Element) → t.cant < 4294967296 → element_speed t e ≡ speed_from t no_lows e.v_static e.entries
 speed_first t e h = let z : counts t no_figure ≡ false = lt-leb 4294967296 t.cant h in rw z
 
--- as the code works it out
-pub speed_worked : (t : Train) (lows : Lows) (v held : ℕ) {a b w r : ℕ} → v < none → a ≡ cant_of t lows.cant v → b ≡ instead_from lows.replacing a [] → w ≡ min b lows.lowering → r ≡ min held w
-    → Worked t lows v held r
-speed_worked t lows v held {a} {b} {w} {r} l p q e f = record { is = f ∙ ap (min held) is; below = rw is at less }
-  where
-    small : b < none
-    small = rw q (instead_below lows.replacing a (rw p (cant_below t lows.cant v l)))
-
-    under : (low : ℕ) → min b low ≡ lowest_from low b []
-    under low = by_cases (ltb low none) (λ d. rw d) (λ d. let z : min b low ≡ b = omega (arith, small, ltb-false low none d) in rw d z)
-
-    is : w ≡ speed_of t lows v
-    is = e ∙ under lows.lowering ∙ ap (λ (n : ℕ). lowest_from lows.lowering n []) (q ∙ ap (λ (n : ℕ). instead_from lows.replacing n []) p)
-
-    less : w < none
-    less = omega (arith, small)
-
 -- ---- where an element holds
 
 module _ (t : Train) (o : Open) (stop : ℕ) where
-  pub until_delayed : o.q_front ≡ 0 → stop + t.length ≡ held_to t (element_with o []) stop
-  until_delayed e = rw e
-
-  pub until_end : (o.q_front ≡ 0 → ⊥) → stop ≡ held_to t (element_with o []) stop
-  until_end n = rw (ne_eqb o.q_front 0 n)
-
   pub until_most : held_to t (element_with o []) stop ≤ stop + t.length
   until_most = by_cases (eqb o.q_front 0) (λ d. rw d (omega arith)) (λ d. rw d (omega arith))
-
-module _ (t : Train) (o : Open) (stop x : ℕ) where
-  pub too_early : x < o.start → false ≡ holds t (element_with o []) stop x
-  too_early h = rw (lt-leb o.start x h)
-
-  pub not_early : o.start ≤ x → ltb x (held_to t (element_with o []) stop) ≡ holds t (element_with o []) stop x
-  not_early h = rw (le-leb o.start x h)
 
 -- ---- one element more
 

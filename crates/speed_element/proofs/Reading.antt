@@ -24,7 +24,7 @@ use Rattle.speed_element.specs.declared.Following.{Following}
 use Rattle.speed_element.specs.declared.Open.{Open}
 use Rattle.speed.proofs.Runs.{chosen_append}
 use Rattle.speed_element.specs.internal.Elements.{none, no_lows, instead_from, counted, speed_from, Worked, OneMore, element_with, element_as}
-use Rattle.speed_element.specs.internal.Reading.{Holding, Readable, Past, Passes, FieldRead, EntryRead, Opened, Opens, ElementRead, Ended, ChangeRead, NextRead, FirstRead, ChangesRead, ProfileRead, HeadRead}
+use Rattle.speed_element.specs.internal.Reading.{Holding, Readable, Past, Passes, FieldRead, Stands, LocationStands, EntryRead, Opened, Opens, ElementRead, Ended, ChangeRead, NextRead, FirstRead, ChangesRead, ProfileRead, HeadRead}
 use Rattle.speed_element.specs.internal.Passing.{Passed}
 use Rattle.speed_element.proofs.Lowest.{instead_more, instead_below, cant_last, speed_first, held_more}
 
@@ -260,6 +260,9 @@ module _ (Reads : Format → ℕ → List Item → Type 0) where
     pub next_readable : Readable Reads (λ f. field (d_location start lsp) λ y. profile (changes profile lsp y (n - 1) f)) at
     next_readable = record { follows = r.follows; values = r.values; reads = rw (changes_more profile lsp start n h r.follows) at r.reads }
 
+    pub location_stands : LocationStands Reads at
+    location_stands = record { last = start; lsp = lsp; stands = record { part = λ y f. profile (changes profile lsp y (n - 1) f); readable = next_readable } }
+
     -- its element, after its location
     next_profile : {b y a : ℕ} → FieldRead Reads (d_location start lsp) at b y a → Readable Reads (λ f. profile (changes profile lsp y (n - 1) f)) b
     next_profile d = readable_field d (λ y f. profile (changes profile lsp y (n - 1) f)) next_readable
@@ -357,6 +360,14 @@ module _ (Reads : Format → ℕ → List Item → Type 0) where
   ending_next g r d = record { more = changed_next g r d; done = changes_read g r d }
 
   -- ---- the profile
+
+  -- the count of changes after the first element
+  pub count_stands : (lsp : ℕ) {at to : ℕ} {o : Open} → ElementRead Reads at to o → Readable Reads (part profile 31 lsp) at → Stands Reads (n_iter 31) to
+  count_stands lsp e h =
+      record {
+        part = λ n f. changes profile lsp 0 n f;
+        readable = readable_passed (λ f. field (n_iter 31) λ n. changes profile lsp 0 n f) e.passes h;
+      }
 
   module _ (lsp : ℕ) {at : ℕ} {r : First} (i : FirstRead Reads at r) where
     -- the changes of a profile that is readable

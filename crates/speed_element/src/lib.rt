@@ -2,6 +2,8 @@
 
 #![tactic(auto)]
 
+pub mod profile;
+
 ghost use Rattle.std.specs.Prelude.{◌≡◌, ◌&&◌, [], min, ◌<◌};
 ghost use Rattle.speed.specs.Speed.{held_to, holds};
 ghost use Rattle.speed_element.specs.internal.Elements.{none, counted, Distant, cant_of, no_lows, instead_from, Kept, Worked, OneMore, element_with};
@@ -23,7 +25,7 @@ const DISTANCES: u64 = 18014398509481984;
 // Added to a figure for each Q_DIFF: more than any cant deficiency.
 const Q_DIFF: u64 = 4294967296;
 
-// The Q_DIFF of entries that replace the speed, and of entries that only lower it.
+// The Q_DIFF of entries that replace the speed, and of entries that only lower it. For speed a Q_DIFF stays as it is read: an enum would be a branch on each entry.
 const REPLACING: u32 = 1;
 
 const LOWERING: u32 = 2;
@@ -46,10 +48,10 @@ pub struct Open {
     pub entries: usize,
 }
 
-// An element, and the place after it.
+// What was read at a place, and the place after it.
 #[derive(Clone, Copy)]
-pub struct ElementAt {
-    pub open: Open,
+pub struct ReadAt<T> {
+    pub value: T,
     pub next: usize,
 }
 
@@ -80,20 +82,7 @@ pub struct Following {
 pub fn lower(a: u32, b: u32) -> u32
     ensures { result ≡ min a b }
 {
-    if a < b {
-        return a;
-    }
-    b
-}
-
-// Returns the lower number of two entries by cant deficiency: the nearer figure, and of two equal figures the lower speed.
-fn nearer(one: u64, other: u64) -> u64
-    ensures { result ≡ min one other }
-{
-    if one < other {
-        return one;
-    }
-    other
+    a.min(b)
 }
 
 // Returns the speed `v` if `so` and `member` are true, else a number that stands for no speed.
@@ -117,11 +106,11 @@ fn distance(train: Train, q_diff: u32, class: u32) -> u64
 fn by_cant(train: Train, best: u64, v: u32) -> u32
     ensures { result ≡ cant_of train best v }
 {
-    let low = (best % SPEEDS) as u32;
     if best / SPEEDS <= train.cant as u64 {
-        return low;
+        (best % SPEEDS) as u32
+    } else {
+        v
     }
-    v
 }
 
 // Returns the lowest speeds of no entry.
@@ -139,28 +128,23 @@ pub fn no_lows() -> Lows
 fn instead(low: u32, v: u32) -> u32
     ensures { result ≡ instead_from low v [] }
 {
-    if low < NONE {
-        return low;
-    }
-    v
+    if low < NONE { low } else { v }
 }
 
 impl Lows {
     // Returns the lowest speeds with one entry more.
+    // Of two entries by cant deficiency the lower number is the nearer figure, and of two equal figures the lower speed.
     // For speed: the entry is compared for every Q_DIFF, with no branch on its own.
     pub fn with(self, train: Train, q_diff: u32, class: u32, v: u32) -> Lows
         requires { Kept q_diff class v }
         ensures { OneMore train self q_diff class v result }
     {
         let far = distance(train, q_diff, class) * SPEEDS;
-        let cant = nearer(self.cant, far + v as u64);
         let member = speed::belongs_to(train, class);
-        let replacing = lower(self.replacing, counted(q_diff == REPLACING, member, v));
-        let lowering = lower(self.lowering, counted(q_diff == LOWERING, member, v));
         Lows {
-            cant,
-            replacing,
-            lowering,
+            cant: self.cant.min(far + v as u64),
+            replacing: self.replacing.min(counted(q_diff == REPLACING, member, v)),
+            lowering: self.lowering.min(counted(q_diff == LOWERING, member, v)),
         }
     }
 
@@ -170,7 +154,7 @@ impl Lows {
         ensures { Worked train self v_static held result }
     {
         let v = instead(self.replacing, by_cant(train, self.cant, v_static));
-        lower(held, lower(v, self.lowering))
+        held.min(v.min(self.lowering))
     }
 }
 
@@ -180,19 +164,17 @@ impl Open {
         ensures { result ≡ held_to train (element_with self []) end }
     {
         if self.q_front == 0 {
-            return end as u64 + train.length as u64;
+            end as u64 + train.length as u64
+        } else {
+            end as u64
         }
-        end as u64
     }
 
     // Returns whether the element holds at `x`, in cm, if it ends at `end`. It does not depend on the entries.
     pub fn holds(self, train: Train, end: u32, x: u32) -> bool
         ensures { result ≡ holds train (element_with self []) end x }
     {
-        if x < self.start {
-            return false;
-        }
-        (x as u64) < self.until(train, end)
+        self.start <= x && (x as u64) < self.until(train, end)
     }
 }
 

@@ -197,12 +197,3 @@ module _ (s : List ℕ) where
           second = field_read q_front (at + 7) 1 (at + 7 + 1) refl refl (part v 1);
           third = field_read (n_iter 31) (at + 7 + 1) 5 (at + 13) refl (omega arith) (part v 2);
         }
-
-  -- ---- one field, and what reading it asks for
-
-  module _ (k : Kind) {part : ℕ → Format → Format} {at : ℕ} (h : Readable (Reads s) (λ f. field k (λ u. part u f)) at) where
-    pub field_inside : at + k.width ≤ end_of s
-    field_inside = omega (arith, (field_fits k h.reads).whole, h.reads.before)
-
-    pub field_asked : (w : ℕ) → k.width ≡ w → 0 < w → w ≤ 32 → (0 < w) × (w ≤ 32) × (at + w ≤ 8 * length s) × (8 ≤ length s)
-    field_asked w e a b = (a, b, omega (arith, field_inside, h.reads.inside), h.reads.long)

@@ -3,4 +3,5 @@ pub mod Answering
 pub mod Judged
 pub mod Runs
 pub mod Values
+pub mod Lent
 pub mod Questions

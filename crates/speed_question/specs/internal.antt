@@ -1,2 +1,3 @@
--- What the code needs and no promise names.
+-- Definitions that contracts of the code use; no promise names them.
+pub mod Asked
 pub mod Run

@@ -7,8 +7,8 @@ use native.Mathlib.Omega.{arith}
 use borrow.Author.Tests.{ltb-true, ltb-false}
 use lib.Dec.{ltb}
 use lib.ListN.{length, drop, get_or, length-append, length-drop}
-use Rattle.numbers.specs.declared.Number.{Number}
-use Rattle.numbers.specs.declared.Number.TheVariants.{Value, Bad}
+use Rattle.std.specs.Prelude as std
+use Rattle.std.specs.Prelude.{Some, None}
 use Rattle.numbers.specs.Numbers.{number_in, groups_in}
 use Rattle.bits.proofs.Tests.{by_cases}
 use Rattle.numbers.specs.declared.Found.{Found}
@@ -31,7 +31,7 @@ use Rattle.speed_sheet.specs.internal.Asking.{counted_at, NumberAt, Reads}
 
 -- what is taken of a number
 record NumberTaken (k : Kind) (s : List ℕ) (at : ℕ) (i : Item) (to : ℕ) : Type 0 where
-  pub number : number_in (drop at s) ≡ Value i.sheet
+  pub number : number_in (drop at s) ≡ Some i.sheet
   pub lowers : k.lower i.sheet ≡ some i.packet
   pub place : to ≡ at + length (groups_in i.sheet)
 
@@ -42,16 +42,16 @@ module _ (k : Kind) (s : List ℕ) (at : ℕ) {i : Item} {to : ℕ} where
   taken_number : number_taken k s at ≡ Taken.Is i to → NumberTaken k s at i to
   taken_number e = go (number_in (drop at s)) refl e
     where
-      by_value : (a : ℕ) → number_in (drop at s) ≡ Value a → (o : Option ℕ) → k.lower a ≡ o → taken_at (field_with k a o) (at + length (groups_in a)) ≡ Taken.Is i to → NumberTaken k s at i to
+      by_value : (a : ℕ) → number_in (drop at s) ≡ Some a → (o : Option ℕ) → k.lower a ≡ o → taken_at (field_with k a o) (at + length (groups_in a)) ≡ Taken.Is i to → NumberTaken k s at i to
       by_value a d none p q = apart q
       by_value a d (some v) p q =
           let x : i ≡ record { sheet = a; packet = v } = cc in
           let y : to ≡ at + length (groups_in a) = cc in
           rw x record { number = d; lowers = p; place = y }
 
-      go : (x : Number) → number_in (drop at s) ≡ x → places.taken_of k at x ≡ Taken.Is i to → NumberTaken k s at i to
-      go (Value a) d f = by_value a d (k.lower a) refl f
-      go Bad d f = apart f
+      go : (x : std.Option ℕ) → number_in (drop at s) ≡ x → places.taken_of k at x ≡ Taken.Is i to → NumberTaken k s at i to
+      go (Some a) d f = by_value a d (k.lower a) refl f
+      go None d f = apart f
 
 -- a number and its groups, from the count of both
 module _ (a n c : ℕ) (small : a < 2 ^ 32) (e : c ≡ a + 4294967296 * n) where
@@ -89,7 +89,7 @@ module _ (s : List ℕ) (k : Kind) {next : ℕ → Format} {at : ℕ} {l : List 
     pub inside : at + counted_at s at / 4294967296 ≤ length s
     pub lowers : k.lower (counted_at s at % 4294967296) ≡ some accepts.item.packet
     pub groups : counted_at s at / 4294967296 ≡ length (groups_in (counted_at s at % 4294967296))
-    pub number : number_in (drop at s) ≡ Value (counted_at s at % 4294967296)
+    pub number : number_in (drop at s) ≡ Some (counted_at s at % 4294967296)
     pub first : counted_at s at % 4294967296 < 16384 → counted_at s at / 4294967296 ≡ 1 + get_or s at 0 / 128
     pub single : counted_at s at % 4294967296 < 128 → get_or s at 0 ≡ counted_at s at % 4294967296
 
@@ -122,7 +122,7 @@ module _ (s : List ℕ) (k : Kind) {next : ℕ → Format} {at : ℕ} {l : List 
     pub lowers : k.lower (counted_at s at % 4294967296) ≡ some packet
     pub inside : at + counted_at s at / 4294967296 ≤ length s
     pub groups : counted_at s at / 4294967296 ≡ length (groups_in (counted_at s at % 4294967296))
-    pub number : number_in (drop at s) ≡ Value (counted_at s at % 4294967296)
+    pub number : number_in (drop at s) ≡ Some (counted_at s at % 4294967296)
     pub first : counted_at s at % 4294967296 < 16384 → counted_at s at / 4294967296 ≡ 1 + get_or s at 0 / 128
     pub single : counted_at s at % 4294967296 < 128 → get_or s at 0 ≡ counted_at s at % 4294967296
 

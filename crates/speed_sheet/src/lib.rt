@@ -1,19 +1,19 @@
-// Passes over the speed profile of an accepted sheet, element by element. What was accepted is not judged again.
+// The speed profile of an accepted sheet, read at bytes of the sheet. What was accepted is not judged again.
 // Locations and lengths are in cm, speeds in km/h.
 
 #![tactic(auto)]
 
 ghost use Rattle.std.specs.Prelude.{◌≡◌, ◌<◌, length};
 ghost use Rattle.grammar.specs.segment.Segment as segment;
-ghost use Rattle.grammar.specs.internal.segment.Parts as parts;
 ghost use Rattle.speed.specs.Speed.{after_entries};
-ghost use Rattle.speed_element.specs.internal.Reading.{Readable, Passes, EntryRead, Opens, ElementRead, Ended, NextRead, FirstRead, ChangesRead, ProfileRead, HeadRead};
+ghost use Rattle.speed_element.specs.internal.Reading.{Readable, Passes, Opens, Ended, NextRead, FirstRead, HeadRead};
 ghost use Rattle.speed_element.specs.internal.Passing.{Passed};
 ghost use Rattle.speed_sheet.specs.internal.Asking.{AcceptedSheet, numbers_of_sheet, NumberAt, Numbers, numbers_end, short_end, Reads};
 
 use numbers::accepted::ReadNumber;
 use speed::Train;
-use speed_element::{ElementAt, First, Following, Head, Lows, Open};
+use speed_element::profile::Profile;
+use speed_element::{First, Following, Head, Lows, Open, ReadAt, profile};
 
 // The byte after the packet number.
 pub const FIRST: usize = 1;
@@ -23,13 +23,6 @@ const BEFORE_LENGTH: u32 = 9;
 
 // The count of numbers between L_SP and the speed profile.
 const OFFSETS: u32 = 3;
-
-// The lowest speeds, with one entry more, and the byte after the entry.
-#[derive(Clone, Copy)]
-pub struct Entered {
-    pub lows: Lows,
-    pub next: usize,
-}
 
 // Reads the number at the byte `at`.
 pub fn number(s: &[u8], at: usize) -> ReadNumber
@@ -42,16 +35,20 @@ pub fn number(s: &[u8], at: usize) -> ReadNumber
     }
 }
 
-// Reads the entry at the byte `at`, and returns the lowest speeds `lows` with that entry.
-fn entry(s: &[u8], at: usize, train: Train, lows: Lows) -> Entered
-    requires { Readable (Reads s.now) parts.entry at }
-    ensures { EntryRead (Reads s.now) train lows result.lows at result.next }
+// Returns the byte after the `count` numbers that stand at the byte `at`: each number ends at its first byte below 128.
+// For speed the loop counts bytes and not groups: no branch depends on the size of a number.
+pub fn numbers_end(s: &[u8], at: usize, count: u32) -> usize
+    requires { Numbers s.now at count }
+    ensures { result ≡ numbers_end s.now at count }
 {
-    let q_diff = number(s, at);
-    let class = number(s, q_diff.next);
-    let v = number(s, class.next);
-    let lows = lows.with(train, q_diff.value, class.value, v.value);
-    Entered { lows, next: v.next }
+    let mut to = at;
+    let mut ended = 0;
+    // No `for`: a turn is a byte, and ends a number or none.
+    while ended < count {
+        ended += 1 - bits::wide(s[to]) / 128;
+        to += 1;
+    }
+    to
 }
 
 // Returns the byte after a number of one or two groups, whose first byte is at `at` and tells how many.
@@ -68,106 +65,104 @@ fn entries_end(s: &[u8], at: usize, count: u32) -> usize
     ensures { Passes (Reads s.now) (segment.entries count) (after_entries count) at result }
 {
     let mut to = at;
-    let mut left = count;
-    while 0 < left {
+    for _ in 0..count {
         to = short_end(s, short_end(s, to + 1));
-        left -= 1;
     }
     to
 }
 
-// Reads the element at the byte `at`, which starts at the location `start`, and skips its entries. Q_FRONT and N_ITER have one group.
-fn element(s: &[u8], at: usize, start: u32) -> ElementAt
-    requires { Readable (Reads s.now) segment.profile at }
-    ensures { ElementRead (Reads s.now) at result.next result.open × (result.open.start ≡ start) }
-{
-    let v_static = number(s, at);
-    let second = v_static.next;
-    let q_front = bits::wide(s[second]);
-    let count = bits::wide(s[second + 1]);
-    let entries = second + 2;
-    let next = entries_end(s, entries, count);
-    ElementAt {
-        open: Open {
-            start,
-            v_static: v_static.value,
-            q_front,
-            count,
-            entries,
-        },
-        next,
+// Speed profiles in sheets, at bytes.
+pub struct Sheet;
+
+impl Profile for Sheet {
+    // Numbers need no tables.
+    type Tables = ();
+
+    ghost reads = { Reads };
+
+    ghost accepts = { AcceptedSheet };
+
+    ghost numbers = { numbers_of_sheet };
+
+    ghost are_tables = { λ tables. Unit {0} };
+
+    // Returns nothing.
+    fn tables() {}
+
+    // Reads the three numbers of the entry at the byte `at`.
+    fn entry(s: &[u8], at: usize, _tables: &(), train: Train, lows: Lows) -> ReadAt<Lows> {
+        let q_diff = number(s, at);
+        let class = number(s, q_diff.next);
+        let v = number(s, class.next);
+        ReadAt {
+            value: lows.with(train, q_diff.value, class.value, v.value),
+            next: v.next,
+        }
+    }
+
+    // Reads the element at the byte `at`, up to its entries. Q_FRONT and N_ITER have one group.
+    fn element(s: &[u8], at: usize, start: u32) -> ReadAt<Open> {
+        let v_static = number(s, at);
+        let second = v_static.next;
+        let q_front = bits::wide(s[second]);
+        let count = bits::wide(s[second + 1]);
+        let entries = second + 2;
+        let next = entries_end(s, entries, count);
+        ReadAt {
+            value: Open {
+                start,
+                v_static: v_static.value,
+                q_front,
+                count,
+                entries,
+            },
+            next,
+        }
+    }
+
+    // Reads the location at the byte `at`, in cm.
+    fn location(s: &[u8], at: usize) -> ReadAt<u32> {
+        let location = number(s, at);
+        ReadAt {
+            value: location.value,
+            next: location.next,
+        }
+    }
+
+    // Reads the count at the byte `at`.
+    fn count(s: &[u8], at: usize) -> ReadAt<u32> {
+        let count = number(s, at);
+        ReadAt {
+            value: count.value,
+            next: count.next,
+        }
+    }
+
+    // Reads L_SP, and finds the speed profile.
+    fn head(sheet: &[u8]) -> Head {
+        let at = numbers_end(sheet, FIRST, BEFORE_LENGTH);
+        let length = number(sheet, at);
+        Head {
+            lsp: length.value,
+            profile: numbers_end(sheet, length.next, OFFSETS),
+        }
     }
 }
 
-// Returns the lowest speed that holds at `x`: `held`, or the speed of the element `open`, which ends at `end`. Reads the element's entries only if the element holds at `x`.
+// Returns the lowest speed that holds at `x`: of the speed `held` so far, and of the element `open`, which ends at `end`.
 pub fn ended(s: &[u8], open: Open, train: Train, held: u32, end: u32, x: u32) -> u32
     requires { Opens (Reads s.now) «open» }
     ensures { Ended (Reads s.now) train held end x «open» result }
 {
-    if !open.holds(train, end, x) {
-        return held;
-    }
-    let mut lows = speed_element::no_lows();
-    let mut to = open.entries;
-    let mut left = open.count;
-    while 0 < left {
-        let e = entry(s, to, train, lows);
-        lows = e.lows;
-        to = e.next;
-        left -= 1;
-    }
-    lows.lowered(train, open.v_static, held)
+    profile::ended::<Sheet>(s, open, train, held, end, x)
 }
 
-// Reads the next of `left` changes at the byte `at`. The element `open` ends at the location of that change, or at `lsp` if no change is left.
+// Reads the next of the `left` changes at the byte `at`: the element `open` ends at its location. If none is left, `open` ends at `lsp`.
 pub fn next(s: &[u8], open: Open, at: usize, left: u64, lsp: u32) -> Following
     requires { Readable (Reads s.now) (segment.changes segment.profile lsp «open».start left) at }
     ensures { NextRead (Reads s.now) lsp «open» left at result }
 {
-    if left == 0 {
-        return Following {
-            end: lsp,
-            open,
-            next: at,
-        };
-    }
-    let location = number(s, at);
-    let e = element(s, location.next, location.value);
-    let open = e.open;
-    Following {
-        end: location.value,
-        open,
-        next: e.next,
-    }
-}
-
-// Returns the lowest speed that holds at `x`: of the speed `before`, of the element `first`, and of the `count` changes at the byte `at`.
-// The last element ends at `lsp`.
-fn changes(
-    s: &[u8],
-    at: usize,
-    count: u32,
-    train: Train,
-    lsp: u32,
-    x: u32,
-    before: u32,
-    first: Open,
-) -> u32
-    requires { Opens (Reads s.now) first × Readable (Reads s.now) (segment.changes segment.profile lsp first.start count) at }
-    ensures { ChangesRead (Reads s.now) train lsp x before first count at result }
-{
-    let mut held = before;
-    let mut open = first;
-    let mut to = at;
-    let mut left = count as u64 + 1;
-    while 0 < left {
-        left -= 1;
-        let n = next(s, open, to, left, lsp);
-        held = ended(s, open, train, held, n.end, x);
-        open = n.open;
-        to = n.next;
-    }
-    held
+    profile::next::<Sheet>(s, open, at, left, lsp)
 }
 
 // Reads the first element of the speed profile at the byte `at`, and the count of its changes. `lsp` is the segment's length.
@@ -175,53 +170,15 @@ pub fn first(s: &[u8], at: usize, lsp: u32) -> First
     requires { Readable (Reads s.now) (segment.part segment.profile 31 lsp) at }
     ensures { FirstRead (Reads s.now) at result }
 {
-    let e = element(s, at, 0);
-    let open = e.open;
-    let count = number(s, e.next);
-    First {
-        open,
-        count: count.value,
-        next: count.next,
-    }
+    profile::first::<Sheet>(s, at, lsp)
 }
 
-// Returns the lowest speed that holds at `x`: of the speed `before`, and of the speed profile at the byte `at`, which is its first element,
-// the count of its changes, and the changes.
-fn profile(s: &[u8], at: usize, train: Train, lsp: u32, x: u32, before: u32) -> u32
-    requires { Readable (Reads s.now) (segment.part segment.profile 31 lsp) at }
-    ensures { ProfileRead (Reads s.now) train lsp x before at result }
-{
-    let start = first(s, at, lsp);
-    let open = start.open;
-    changes(s, start.next, start.count, train, lsp, x, before, open)
-}
-
-// Returns the byte after the `count` numbers that stand at the byte `at`: each number ends at its first byte below 128.
-// For speed the loop counts bytes and not groups: no branch depends on the size of a number.
-pub fn numbers_end(s: &[u8], at: usize, count: u32) -> usize
-    requires { Numbers s.now at count }
-    ensures { result ≡ numbers_end s.now at count }
-{
-    let mut to = at;
-    let mut i = 0;
-    while i < count {
-        i += 1 - bits::wide(s[to]) / 128;
-        to += 1;
-    }
-    to
-}
-
-// Reads L_SP of an accepted sheet, and finds the speed profile.
+// Reads L_SP of an accepted sheet, and finds its speed profile.
 pub fn head(sheet: &[u8]) -> Head
     requires { AcceptedSheet sheet.now }
     ensures { HeadRead (Reads sheet.now) (numbers_of_sheet sheet.now) result.lsp result.profile }
 {
-    let at = numbers_end(sheet, FIRST, BEFORE_LENGTH);
-    let length = number(sheet, at);
-    Head {
-        lsp: length.value,
-        profile: numbers_end(sheet, length.next, OFFSETS),
-    }
+    Sheet::head(sheet)
 }
 
 // Returns the lowest speed that holds for `train` at `x` from the start of an accepted sheet's segment: of the speed `held`, and of the
@@ -230,5 +187,5 @@ pub fn passed(sheet: &[u8], head: Head, train: Train, held: u32, x: u32) -> u32
     requires { HeadRead (Reads sheet.now) (numbers_of_sheet sheet.now) head.lsp head.profile }
     ensures { Passed train (numbers_of_sheet sheet.now) x held result }
 {
-    profile(sheet, head.profile, train, head.lsp, x, held)
+    profile::passed::<Sheet>(sheet, head, train, held, x)
 }

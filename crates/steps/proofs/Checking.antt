@@ -1,10 +1,10 @@
 -- Steps are accepted exactly when they are ours at every centimetre, and refused with 19 exactly at the first wrong one.
 use mathlib.Core.Path.{◌≡◌, refl, sym, ap, ◌∙◌}
 use mathlib.Core.Bool.{Bool, true, false, cond}
-use mathlib.Core.List.{List}
+use mathlib.Core.List.{List, []}
 use mathlib.Core.Option.{Option, none, some}
 use mathlib.Core.Logic.{◌↔◌}
-use Prim.Native.Nat.{ℕ, ◌<◌, ◌≤◌}
+use Prim.Native.Nat.{ℕ, ◌+◌, ◌<◌}
 use native.Mathlib.Omega.{arith}
 use borrow.Author.Tests.{eqb-true, eq-eqb}
 use lib.Dec.{eqb}
@@ -16,27 +16,16 @@ use Rattle.speed.specs.Run.{speed_in_run}
 use Rattle.speed_question.specs.Question.{lent, run_asked}
 use Rattle.steps.specs.declared.Checked.{Checked}
 use Rattle.steps.specs.Steps.{stepped, step_speed, right, first_wrong, not_checked, wrong_at, checked_steps, steps_of_run, check_steps, FirstWrong}
+use Rattle.speed_element.specs.internal.Elements.{instead_from}
+use lib.ListN.{take}
+use Rattle.steps.specs.declared.spans.Span.{Span}
 use Rattle.steps.specs.declared.spans.Spans.{Spans}
+use Rattle.steps.proofs.Kept.{all_kept}
 use Rattle.steps.specs.internal.Spans.{RunKept}
-use Rattle.steps.specs.internal.Places.{right_in, wrong_or}
+use Rattle.steps.specs.internal.Places.{right_in}
 use Rattle.steps.proofs.First.{counted_none, counted_some, everywhere_counted, first_counted, wrong_same}
 
 -- ---- the answer as the code makes it, from a place or the segment's length
-
-module _ (n : ℕ) (p : ℕ → Bool) {r : ℕ} (e : r ≡ wrong_or n (first_wrong n 0 p)) where
-  pub wrong_place : r < n → not_checked 19 r ≡ wrong_at (first_wrong n 0 p)
-  wrong_place h = go (first_wrong n 0 p) e
-    where
-      go : (o : Option ℕ) → r ≡ wrong_or n o → not_checked 19 r ≡ wrong_at o
-      go none d = absurd (omega arith)
-      go (some c) d = ap (not_checked 19) d
-
-  pub no_place : n ≤ r → not_checked 0 0 ≡ wrong_at (first_wrong n 0 p)
-  no_place h = go (first_wrong n 0 p) refl
-    where
-      go : (o : Option ℕ) → first_wrong n 0 p ≡ o → not_checked 0 0 ≡ wrong_at o
-      go none d = refl
-      go (some c) d = let w = counted_some p n c d in absurd (omega (arith, w.inside, e ∙ ap (wrong_or n) d))
 
 pub train_refused : (t : Train) (starts speeds : List ℕ) (r : List (List Item)) → valid_train t ≡ false → not_checked 10 0 ≡ steps_of_run t starts speeds r
 train_refused t starts speeds r e = rw e
@@ -56,18 +45,24 @@ module _ (t : Train) (starts speeds : List ℕ) (n : ℕ) (r : List (List ℕ)) 
   steps_refused e = rw (valid, e)
 
   -- what is kept of the run gives the permitted speed
-  module _ (kept : Spans) (from place : ℕ) (steps : stepped n starts speeds ≡ true) (k : RunKept t r from kept) (e : place ≡ wrong_or n (first_wrong n 0 (right_in t kept from starts speeds))) where
+  module _ (kept : Spans) (from : ℕ) (steps : stepped n starts speeds ≡ true) (k : RunKept t r from kept) where
     abbrev ours : ℕ → ℕ
     ours x = limited t (speed_in_run t x r)
 
-    found : place ≡ wrong_or n (first_wrong n 0 (right ours starts speeds))
-    found = e ∙ ap (wrong_or n) (wrong_same (λ x. ap (λ (m : ℕ). eqb (step_speed 0 x starts speeds) (limited t m)) (k.held x)) n 0)
+    abbrev spans : List Span
+    spans = take kept.count kept.spans
 
-    pub steps_wrong : place < n → not_checked 19 place ≡ answer_for t starts speeds n r
-    steps_wrong h = rw (valid, steps) (wrong_place n (right ours starts speeds) found h)
+    found : {o : Option ℕ} → first_wrong n 0 (right_in t spans from starts speeds) ≡ o → first_wrong n 0 (right ours starts speeds) ≡ o
+    found e =
+        wrong_same
+        (λ x. ap (λ (m : ℕ). eqb (step_speed 0 x starts speeds) (limited t m)) (sym (ap (λ (m : ℕ). instead_from m 0 []) (all_kept kept (from + x) k.few (omega arith)) ∙ k.held x))) n 0
+        ∙ e
 
-    pub steps_right : n ≤ place → not_checked 0 0 ≡ answer_for t starts speeds n r
-    steps_right h = rw (valid, steps) (no_place n (right ours starts speeds) found h)
+    pub steps_wrong : {place : ℕ} → first_wrong n 0 (right_in t spans from starts speeds) ≡ some place → not_checked 19 place ≡ answer_for t starts speeds n r
+    steps_wrong e = rw (valid, steps, found e)
+
+    pub steps_right : first_wrong n 0 (right_in t spans from starts speeds) ≡ none → not_checked 0 0 ≡ answer_for t starts speeds n r
+    steps_right e = rw (valid, steps, found e)
 
 -- ---- accepted and wrong, exactly
 

@@ -11,113 +11,114 @@ use lib.ListN.{length, get_or}
 use Rattle.bits.proofs.Tests.{by_cases}
 use Rattle.speed.specs.declared.Train.{Train}
 use Rattle.speed.specs.Speed.{limited}
+use mathlib.Core.Option as Option
 use Rattle.speed_element.specs.internal.Elements.{none, instead_from, counted}
 use Rattle.steps.specs.declared.looking.Reached.{Reached}
 use Rattle.steps.specs.declared.looking.Stretch.{Stretch}
-use Rattle.steps.specs.declared.spans.Spans.{Spans}
+use Rattle.steps.specs.declared.spans.Span.{Span}
 use Rattle.steps.specs.Steps.{stepped, step_speed, first_wrong}
-use Rattle.steps.specs.internal.Spans.{holds_at, lowest_at}
-use Rattle.steps.specs.internal.Places.{speed_at, right_in, Gone, Stretched, StepAt, StepsGive, NextStep, Compares, wrong_or}
+use Rattle.steps.specs.internal.Spans.{span, holds_at, lowest_at}
+use Rattle.steps.specs.internal.Places.{speed_at, right_in, Gone, Stretched, StepAt, StepsGive, NextStep, Compares}
 use Rattle.steps.proofs.First.{everywhere_counted, first_counted}
 use Rattle.steps.proofs.Starts.{stepped_some, stepped_same, stepped_zero, stepped_rising, rises, step_at_lem}
 
 -- ---- spans at a place
 
-pub gone_more : (i y : ℕ) (stops : List ℕ) → Gone i stops y → get_or stops i 0 ≤ y → Gone (i + 1) stops y
-gone_more i y stops g h j less = by_cases (leb i j) (λ e. let q : j ≡ i = omega (arith, leb-true i j e) in rw q h) (λ e. g j (leb-false i j e))
+pub gone_more : (i y : ℕ) (l : List Span) → Gone i l y → (span l i).stop ≤ y → Gone (i + 1) l y
+gone_more i y l g h j less = by_cases (leb i j) (λ e. let q : j ≡ i = omega (arith, leb-true i j e) in rw q h) (λ e. g j (leb-false i j e))
 
-module _ (a b : List ℕ) (j z : ℕ) where
-  early_not : z < get_or a j 0 → holds_at a b j z ≡ false
-  early_not h = rw (lt-leb (get_or a j 0) z h)
+module _ (l : List Span) (j z : ℕ) where
+  early_not : z < (span l j).start → holds_at l j z ≡ false
+  early_not h = rw (lt-leb (span l j).start z h)
 
-  late_not : get_or b j 0 ≤ z → holds_at a b j z ≡ false
-  late_not h = rw (le-ltb z (get_or b j 0) h) (by_cases (leb (get_or a j 0) z) (λ e. rw e) (λ e. rw e))
+  late_not : (span l j).stop ≤ z → holds_at l j z ≡ false
+  late_not h = rw (le-ltb z (span l j).stop h) (by_cases (leb (span l j).start z) (λ e. rw e) (λ e. rw e))
 
-  between_holds : get_or a j 0 ≤ z → z < get_or b j 0 → holds_at a b j z ≡ true
-  between_holds h k = rw (le-leb (get_or a j 0) z h, lt-ltb z (get_or b j 0) k)
+  between_holds : (span l j).start ≤ z → z < (span l j).stop → holds_at l j z ≡ true
+  between_holds h k = rw (le-leb (span l j).start z h, lt-ltb z (span l j).stop k)
 
-module _ (a b v : List ℕ) (y : ℕ) where
-  low_most : (n : ℕ) → lowest_at n a b v y ≤ none
+module _ (l : List Span) (y : ℕ) where
+  low_most : (n : ℕ) → lowest_at n l y ≤ none
   low_most zero = omega arith
   low_most (suc n) = omega (arith, low_most n)
 
   -- one that does not hold changes nothing
-  low_not : (n : ℕ) → holds_at a b n y ≡ false → lowest_at (n + 1) a b v y ≡ lowest_at n a b v y
+  low_not : (n : ℕ) → holds_at l n y ≡ false → lowest_at (n + 1) l y ≡ lowest_at n l y
   low_not n e = rw (add-one n, e) (omega (arith, low_most n))
 
-  low_more : (n : ℕ) → holds_at a b n y ≡ true → lowest_at (n + 1) a b v y ≡ min (lowest_at n a b v y) (get_or v n 0)
+  low_more : (n : ℕ) → holds_at l n y ≡ true → lowest_at (n + 1) l y ≡ min (lowest_at n l y) (span l n).speed
   low_more n e = rw (add-one n, e)
 
-  low_gone : (n : ℕ) → Gone n b y → lowest_at n a b v y ≡ none
+  low_gone : (n : ℕ) → Gone n l y → lowest_at n l y ≡ none
   low_gone zero g = refl
-  low_gone (suc n) g = rw (late_not a b n y (g n (omega arith)), low_gone n (λ j h. g j (omega arith))) (omega arith)
+  low_gone (suc n) g = rw (late_not l n y (g n (omega arith)), low_gone n (λ j h. g j (omega arith))) (omega arith)
 
 -- ---- a stretch, span by span
 
 -- the first n spans hold at each place from y up to until as they do at y
-abbrev Same : ℕ → List ℕ → List ℕ → ℕ → ℕ → Type 0
-Same n a b y until = (j z : ℕ) → j < n → y ≤ z → z < until → holds_at a b j z ≡ holds_at a b j y
+abbrev Same : ℕ → List Span → ℕ → ℕ → Type 0
+Same n l y until = (j z : ℕ) → j < n → y ≤ z → z < until → holds_at l j z ≡ holds_at l j y
 
 -- the first i of n spans were looked at
-pub record Stretching (n : ℕ) (a b v : List ℕ) (y end i low until : ℕ) : Type 0 where
+pub record Stretching (n : ℕ) (l : List Span) (y end i low until : ℕ) : Type 0 where
   pub up : i ≤ n
-  pub is : low ≡ lowest_at i a b v y
+  pub is : low ≡ lowest_at i l y
   pub past : y < until
   pub most : until ≤ end
-  pub same : (j z : ℕ) → j < i → y ≤ z → z < until → holds_at a b j z ≡ holds_at a b j y
+  pub same : (j z : ℕ) → j < i → y ≤ z → z < until → holds_at l j z ≡ holds_at l j y
 
-module _ (n : ℕ) (a b v : List ℕ) (y end : ℕ) where
-  pub stretching_first : {i : ℕ} → i ≤ n → Gone i b y → y < end → Stretching n a b v y end i none end
+module _ (n : ℕ) (l : List Span) (y end : ℕ) where
+  pub stretching_first : {i : ℕ} → i ≤ n → Gone i l y → y < end → Stretching n l y end i none end
   stretching_first {i} h g less =
       record {
         up = h;
-        is = sym (low_gone a b v y i g);
+        is = sym (low_gone l y i g);
         past = less;
         most = omega arith;
-        same = λ j z k m u. late_not a b j z (omega (arith, g j k)) ∙ sym (late_not a b j y (g j k));
+        same = λ j z k m u. late_not l j z (omega (arith, g j k)) ∙ sym (late_not l j y (g j k));
       }
 
-  module _ {i low until : ℕ} (g : Stretching n a b v y end i low until) (h : i < n) where
+  module _ {i low until : ℕ} (g : Stretching n l y end i low until) (h : i < n) where
     -- one span more, which holds up to next as it does at y
-    one_span : {less next : ℕ} → next ≤ until → y < next → ((z : ℕ) → y ≤ z → z < next → holds_at a b i z ≡ holds_at a b i y) → less ≡ lowest_at (i + 1) a b v y → Stretching n a b v y end (i + 1) less next
+    one_span : {less next : ℕ} → next ≤ until → y < next → ((z : ℕ) → y ≤ z → z < next → holds_at l i z ≡ holds_at l i y) → less ≡ lowest_at (i + 1) l y → Stretching n l y end (i + 1) less next
     one_span {less} {next} near past stays is = record { up = omega arith; is = is; past = past; most = omega (arith, g.most); same = same }
       where
-        same : Same (i + 1) a b y next
+        same : Same (i + 1) l y next
         same j z k m u =
             by_cases (leb i j)
             (λ e. let q : j ≡ i = omega (arith, leb-true i j e) in rw q (stays z m u))
             (λ e. g.same j z (leb-false i j e) m (omega arith))
 
-    pub span_early : {less next : ℕ} → y < get_or a i 0 → next ≡ min until (get_or a i 0) → less ≡ low → Stretching n a b v y end (i + 1) less next
+    pub span_early : {less next : ℕ} → y < (span l i).start → next ≡ min until (span l i).start → less ≡ low → Stretching n l y end (i + 1) less next
     span_early {less} {next} early e f =
-        one_span (omega arith) (omega (arith, g.past)) (λ z m u. early_not a b i z (omega arith) ∙ sym (early_not a b i y early))
-        (f ∙ g.is ∙ sym (low_not a b v y i (early_not a b i y early)))
+        one_span (omega arith) (omega (arith, g.past)) (λ z m u. early_not l i z (omega arith) ∙ sym (early_not l i y early))
+        (f ∙ g.is ∙ sym (low_not l y i (early_not l i y early)))
 
-    pub span_holds : {less next : ℕ} → get_or a i 0 ≤ y → y < get_or b i 0 → next ≡ min until (get_or b i 0) → less ≡ min low (get_or v i 0) → Stretching n a b v y end (i + 1) less next
+    pub span_holds : {less next : ℕ} → (span l i).start ≤ y → y < (span l i).stop → next ≡ min until (span l i).stop → less ≡ min low (span l i).speed → Stretching n l y end (i + 1) less next
     span_holds {less} {next} begun on e f =
-        one_span (omega arith) (omega (arith, g.past)) (λ z m u. between_holds a b i z (omega arith) (omega arith) ∙ sym (between_holds a b i y begun on))
-        (f ∙ ap (λ (m : ℕ). min m (get_or v i 0)) g.is ∙ sym (low_more a b v y i (between_holds a b i y begun on)))
+        one_span (omega arith) (omega (arith, g.past)) (λ z m u. between_holds l i z (omega arith) (omega arith) ∙ sym (between_holds l i y begun on))
+        (f ∙ ap (λ (m : ℕ). min m (span l i).speed) g.is ∙ sym (low_more l y i (between_holds l i y begun on)))
 
-    pub span_late : {less next : ℕ} → get_or b i 0 ≤ y → next ≡ until → less ≡ low → Stretching n a b v y end (i + 1) less next
+    pub span_late : {less next : ℕ} → (span l i).stop ≤ y → next ≡ until → less ≡ low → Stretching n l y end (i + 1) less next
     span_late {less} {next} late e f =
-        one_span (omega arith) (omega (arith, g.past)) (λ z m u. late_not a b i z (omega arith) ∙ sym (late_not a b i y late))
-        (f ∙ g.is ∙ sym (low_not a b v y i (late_not a b i y late)))
+        one_span (omega arith) (omega (arith, g.past)) (λ z m u. late_not l i z (omega arith) ∙ sym (late_not l i y late))
+        (f ∙ g.is ∙ sym (low_not l y i (late_not l i y late)))
 
-  pub stretching_last : {i low until : ℕ} → Stretching n a b v y end i low until → n ≤ i → Stretched n a b v y end (record { low = low; until = until })
+  pub stretching_last : {i low until : ℕ} → Stretching n l y end i low until → n ≤ i → Stretched n l y end (record { low = low; until = until })
   stretching_last {i} g h =
       let e : i ≡ n = omega (arith, g.up) in
       record {
-        low = g.is ∙ ap (λ (m : ℕ). lowest_at m a b v y) e;
+        low = g.is ∙ ap (λ (m : ℕ). lowest_at m l y) e;
         past = g.past;
         most = g.most;
         same = λ j z k. g.same j z (omega arith);
       }
 
 -- in a stretch the lowest speed stays
-same_low : (n : ℕ) (a b v : List ℕ) (y until z : ℕ) → Same n a b y until → y ≤ z → z < until → lowest_at n a b v z ≡ lowest_at n a b v y
-same_low zero a b v y until z s h k = refl
-same_low (suc n) a b v y until z s h k =
-    ap₂ (λ (m : ℕ) (c : Bool). min m (counted c (get_or v n 0))) (same_low n a b v y until z (λ j x i. s j x (omega arith)) h k) (s n z (omega arith) h k)
+same_low : (n : ℕ) (l : List Span) (y until z : ℕ) → Same n l y until → y ≤ z → z < until → lowest_at n l z ≡ lowest_at n l y
+same_low zero l y until z s h k = refl
+same_low (suc n) l y until z s h k =
+    ap₂ (λ (m : ℕ) (c : Bool). min m (counted c (span l n).speed)) (same_low n l y until z (λ j x i. s j x (omega arith)) h k) (s n z (omega arith) h k)
 
 -- ---- steps, one after the other
 
@@ -178,16 +179,16 @@ module _ (starts speeds : List ℕ) (x until v : ℕ) where
 
 -- ---- stretch after stretch
 
-module _ (t : Train) (kept : Spans) (from : ℕ) (starts speeds : List ℕ) (lsp : ℕ) where
+module _ (t : Train) (l : List Span) (from : ℕ) (starts speeds : List ℕ) (lsp : ℕ) where
   abbrev test : ℕ → Bool
-  test = right_in t kept from starts speeds
+  test = right_in t l from starts speeds
 
   -- up to x the steps are right
   pub record Looked (first x step : ℕ) : Type 0 where
     pub up : x ≤ lsp
-    pub right : (d : ℕ) → d < x → right_in t kept from starts speeds d ≡ true
-    pub few : first ≤ kept.count
-    pub gone : Gone first kept.stops (from + x)
+    pub right : (d : ℕ) → d < x → right_in t l from starts speeds d ≡ true
+    pub few : first ≤ length l
+    pub gone : Gone first l (from + x)
     pub at : StepAt starts x step
 
   pub looked_first : stepped lsp starts speeds ≡ true → Looked 0 0 0
@@ -205,16 +206,16 @@ module _ (t : Train) (kept : Spans) (from : ℕ) (starts speeds : List ℕ) (lsp
         };
       }
 
-  pub looked_last : {first x step : ℕ} → Looked first x step → lsp ≤ x → lsp ≡ wrong_or lsp (first_wrong lsp 0 (right_in t kept from starts speeds))
-  looked_last g h = rw (everywhere_counted test lsp (λ c k. g.right c (omega arith)))
+  pub looked_last : {first x step : ℕ} → Looked first x step → lsp ≤ x → first_wrong lsp 0 (right_in t l from starts speeds) ≡ Option.none
+  looked_last g h = everywhere_counted test lsp (λ c k. g.right c (omega arith))
 
-  module _ {first x step : ℕ} (g : Looked first x step) {here : Stretch} (s : Stretched kept.count kept.starts kept.stops kept.speeds (from + x) (from + lsp) here)
+  module _ {first x step : ℕ} (g : Looked first x step) {here : Stretch} (s : Stretched (length l) l (from + x) (from + lsp) here)
       {ours until : ℕ} (is : ours ≡ limited t (instead_from here.low 0 [])) (ends : until ≡ here.until - from) {found : Reached} (c : Compares starts speeds x until ours found) where
     -- our speed in the stretch
-    there : (d : ℕ) → x ≤ d → d < until → speed_at t kept.count kept.starts kept.stops kept.speeds (from + d) ≡ ours
+    there : (d : ℕ) → x ≤ d → d < until → speed_at t (length l) l (from + d) ≡ ours
     there d a b =
         ap (λ (m : ℕ). limited t (instead_from m 0 []))
-        (same_low kept.count kept.starts kept.stops kept.speeds (from + x) here.until (from + d) s.same (omega arith) (omega arith) ∙ sym s.low)
+        (same_low (length l) l (from + x) here.until (from + d) s.same (omega arith) (omega arith) ∙ sym s.low)
         ∙ sym is
 
     right_up : (d : ℕ) → d < found.place → test d ≡ true
@@ -223,14 +224,14 @@ module _ (t : Train) (kept : Spans) (from : ℕ) (starts speeds : List ℕ) (lsp
         (λ e. let k = leb-true x d e in eq-eqb (step_speed 0 d starts speeds) _ (c.right d k h ∙ sym (there d k (omega (arith, c.most)))))
         (λ e. g.right d (leb-false x d e))
 
-    pub looked_wrong : found.place < until → found.place ≡ wrong_or lsp (first_wrong lsp 0 (right_in t kept from starts speeds))
+    pub looked_wrong : found.place < until → first_wrong lsp 0 (right_in t l from starts speeds) ≡ Option.some found.place
     looked_wrong h =
         let p = found.place in
         let o = there p c.low h in
         let w : test p ≡ false = ne_eqb (step_speed 0 p starts speeds) _ (λ e. c.wrong h (e ∙ o)) in
-        rw (first_counted test lsp p (record { inside = omega (arith, s.most); wrong = w; before = right_up }))
+        first_counted test lsp p (record { inside = omega (arith, s.most); wrong = w; before = right_up })
 
-    pub looked_next : {more : ℕ} → more ≤ kept.count → Gone more kept.stops (from + x) → until ≤ found.place → Looked more found.place found.step
+    pub looked_next : {more : ℕ} → more ≤ length l → Gone more l (from + x) → until ≤ found.place → Looked more found.place found.step
     looked_next few gone h =
         record {
           up = omega (arith, s.most, c.most);

@@ -2,50 +2,42 @@
 use mathlib.Core.Path.{◌≡◌, refl, sym, ap, ◌∙◌}
 use mathlib.Core.Bool.{Bool, true, false, cond, ◌&&◌}
 use mathlib.Core.List.{List, [], ◌∷◌}
-use Prim.Native.Nat.{ℕ, zero, suc, ◌+◌, ◌≤◌, ◌<◌}
+use Prim.Native.Nat.{ℕ, zero, suc, ◌+◌, ◌-◌, ◌≤◌, ◌<◌}
 use native.Mathlib.Omega.{arith}
-use native.Mathlib.Numerals.{add-one}
 use borrow.Author.Tests.{le-leb, lt-leb, leb-true, leb-false, ltb-true, lt-ltb, le-ltb, eqb-true, eq-eqb, ne_eqb}
 use lib.Dec.{eqb, ltb, leb}
-use lib.ListN.{length, drop, get_or}
-use lib.Seq.{drop-cons, drop-length}
+use lib.ListN.{length, take, drop, get_or}
+use Rattle.std.proofs.lemmas.List.{drop_more, drop_all, take_all}
 use Rattle.bits.proofs.Tests.{by_cases, and_left, and_right}
 use Rattle.steps.specs.Steps.{starts_at_zero, rising_below, stepped, step_speed}
 
-pub next_left : (l : List ℕ) (i : ℕ) → i < length l → drop i l ≡ get_or l i 0 ∷ drop (i + 1) l
-next_left l i h = drop-cons l i 0 h ∙ ap (λ (n : ℕ). get_or l i 0 ∷ drop n l) (sym (add-one i))
-
-pub none_left : (l : List ℕ) (i : ℕ) → i ≤ length l → length l ≤ i → drop i l ≡ []
-none_left l i a b = let e : i ≡ length l = omega arith in rw e (drop-length l)
-
 -- ---- starts that rise
 
--- last is the start before the number i
-pub record Rising (lsp : ℕ) (l : List ℕ) (i last : ℕ) : Type 0 where
-  pub up : i ≤ length l
-  pub same : rising_below lsp (last ∷ drop i l) ≡ rising_below lsp l
+-- last is the start before those that are left of the rest
+abbrev pub Rising : ℕ → List ℕ → List ℕ → ℕ → ℕ → Type 0
+Rising lsp l rest i last = rising_below lsp (last ∷ drop i rest) ≡ rising_below lsp l
 
 module _ (lsp : ℕ) where
-  pub rising_first : (l : List ℕ) → 0 < length l → Rising lsp l 1 (get_or l 0 0)
+  pub rising_first : (l : List ℕ) → 0 < length l → Rising lsp l (take (length l - 1) (drop 1 l)) 0 (get_or l 0 0)
   rising_first [] h = absurd (omega arith)
-  rising_first (a ∷ l) h = record { up = omega arith; same = refl }
+  rising_first (a ∷ l) h = ap (λ (m : List ℕ). rising_below lsp (a ∷ m)) (take_all (length (a ∷ l) - 1) l (omega arith))
 
-  module _ {l : List ℕ} {i last : ℕ} (g : Rising lsp l i last) where
-    split : i < length l → rising_below lsp (last ∷ get_or l i 0 ∷ drop (i + 1) l) ≡ rising_below lsp l
-    split h = ap (λ (m : List ℕ). rising_below lsp (last ∷ m)) (sym (next_left l i h)) ∙ g.same
+  module _ (l rest : List ℕ) (i last : ℕ) (g : Rising lsp l rest i last) where
+    split : i < length rest → rising_below lsp (last ∷ get_or rest i 0 ∷ drop (i + 1) rest) ≡ rising_below lsp l
+    split h = ap (λ (m : List ℕ). rising_below lsp (last ∷ m)) (sym (drop_more rest i 0 h)) ∙ g
 
-    pub rising_next : i < length l → last < get_or l i 0 → Rising lsp l (i + 1) (get_or l i 0)
+    pub rising_next : i < length rest → last < get_or rest i 0 → Rising lsp l rest (i + 1) (get_or rest i 0)
     rising_next h less =
-        let e : rising_below lsp (get_or l i 0 ∷ drop (i + 1) l) ≡ rising_below lsp (last ∷ get_or l i 0 ∷ drop (i + 1) l) = rw (lt-ltb last (get_or l i 0) less) in
-        record { up = omega arith; same = e ∙ split h }
-
-    pub rising_not : i < length l → get_or l i 0 ≤ last → false ≡ rising_below lsp l
-    rising_not h more =
-        let e : false ≡ rising_below lsp (last ∷ get_or l i 0 ∷ drop (i + 1) l) = rw (le-ltb last (get_or l i 0) more) in
+        let e : rising_below lsp (get_or rest i 0 ∷ drop (i + 1) rest) ≡ rising_below lsp (last ∷ get_or rest i 0 ∷ drop (i + 1) rest) = rw (lt-ltb last (get_or rest i 0) less) in
         e ∙ split h
 
-    pub rising_last : length l ≤ i → ltb last lsp ≡ rising_below lsp l
-    rising_last h = ap (λ (m : List ℕ). rising_below lsp (last ∷ m)) (sym (none_left l i g.up h)) ∙ g.same
+    pub rising_not : i < length rest → get_or rest i 0 ≤ last → false ≡ rising_below lsp l
+    rising_not h more =
+        let e : false ≡ rising_below lsp (last ∷ get_or rest i 0 ∷ drop (i + 1) rest) = rw (le-ltb last (get_or rest i 0) more) in
+        e ∙ split h
+
+    pub rising_last : length rest ≤ i → ltb last lsp ≡ rising_below lsp l
+    rising_last h = ap (λ (m : List ℕ). rising_below lsp (last ∷ m)) (sym (drop_all i rest h)) ∙ g
 
 -- "starts rise strictly and lie below L_SP", start by start
 

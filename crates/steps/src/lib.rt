@@ -6,16 +6,16 @@
 pub mod looking;
 pub mod spans;
 
-ghost use Rattle.std.specs.Prelude.{◌≡◌, length, ◌<◌};
-ghost use Rattle.speed.specs.Run.{Each};
-ghost use Rattle.speed_question.specs.Question.{lent};
-ghost use Rattle.speed_question.specs.internal.Run.{brought_of, AcceptedAs, values_in, Few};
-ghost use Rattle.steps.specs.Steps.{rising_below, stepped, steps_of_run, check_steps};
+ghost use Rattle.std.specs.Prelude.{◌≡◌, length, ◌<◌, take};
+ghost use Rattle.speed_question.specs.Question.{run_asked};
+ghost use Rattle.speed_question.specs.internal.Run.{segments_of};
+ghost use Rattle.speed_question.specs.internal.Asked.{values_of_run};
+ghost use Rattle.steps.specs.Steps.{rising_below, stepped, not_checked, steps_of_run, check_steps};
+ghost use Rattle.steps.specs.internal.Places.{checked_said};
 
-use kinds::refusals::{RUN_COUNT, STEPS, TRAIN_VALUE, UNKNOWN_KIND, WRONG_SPEED};
+use kinds::refusals::{Refusal, Refused};
 use speed::Train;
-use speed_question::run;
-use speed_question::run::Judged;
+use speed_question::run::Run;
 
 // The most steps.
 pub const MOST: usize = 128;
@@ -28,11 +28,22 @@ pub struct Checked {
     pub place: u32,
 }
 
-// Makes an answer of `refusal` and its `place`.
-fn answer(refusal: u32, place: u32) -> Checked
-    ensures { result ≡ record { refusal = refusal; place = place } }
-{
-    Checked { refusal, place }
+impl From<Result<(), Refused<u32>>> for Checked {
+    ghost from_gives = { λ r s. s ≡ checked_said r };
+
+    // Makes the answer of steps that are right, or of a refusal and its place.
+    fn from(answer: Result<(), Refused<u32>>) -> Checked {
+        match answer {
+            Ok(()) => Checked {
+                refusal: 0,
+                place: 0,
+            },
+            Err(Refused(refusal, place)) => Checked {
+                refusal: u32::from(refusal),
+                place,
+            },
+        }
+    }
 }
 
 // Returns whether `starts`, of which there is one at least, rise strictly and lie below `lsp`.
@@ -41,14 +52,11 @@ fn rising(starts: &[u32], lsp: u32) -> bool
     ensures { result ≡ rising_below lsp starts.now }
 {
     let mut last = starts[0];
-    let mut i = 1;
-    while i < starts.len() {
-        let next = starts[i];
-        if next <= last {
+    for next in &starts[1..] {
+        if *next <= last {
             return false;
         }
-        last = next;
-        i += 1;
+        last = *next;
     }
     last < lsp
 }
@@ -73,37 +81,44 @@ fn stepped<'a>(starts: &'a [u32], speeds: &'a [u32], lsp: u32) -> bool
     rising(starts, lsp)
 }
 
-// Judges `train` and the steps' starts, then compares each step with the permitted speed in the last of the `count` accepted segments.
+// Judges `train` and the steps' starts, then compares each step with the permitted speed in the last segment of `run`.
 fn of_run<'a>(
-    medium: u32,
-    count: u32,
-    first: &'a [u8],
-    second: &'a [u8],
-    third: &'a [u8],
-    fourth: &'a [u8],
+    run: &Run<'a>,
     train: Train,
     starts: &'a [u32],
     speeds: &'a [u32],
-) -> Checked
-    requires { Few count × Each (AcceptedAs (brought_of medium)) (lent count first.now second.now third.now fourth.now) }
-    ensures { result ≡ steps_of_run train starts.now speeds.now (values_in (brought_of medium) (lent count first.now second.now third.now fourth.now)) }
+) -> Result<(), Refused<u32>>
+    ensures { checked_said result ≡ steps_of_run train starts.now speeds.now (values_of_run run.now) }
 {
     if !speed::valid(train) {
-        return answer(TRAIN_VALUE, 0);
+        return Err(Refused(Refusal::TrainValue, 0));
     }
-    let last = run::last_segment(medium, count, first, second, third, fourth);
-    let from = last.start;
-    let head = last.head;
-    let lsp = head.lsp;
+    let last = run.last_segment();
+    let lsp = last.head.lsp;
     if !stepped(starts, speeds, lsp) {
-        return answer(STEPS, 0);
+        return Err(Refused(Refusal::Steps, 0));
     }
-    let kept = spans::run_spans(medium, count, first, second, third, fourth, last, train);
-    let place = looking::first_wrong(kept, train, from, starts, speeds, lsp);
-    if place < lsp {
-        return answer(WRONG_SPEED, place);
+    let kept = spans::run_spans(run, last, train);
+    let spans = &kept.spans[..kept.count];
+    match looking::first_wrong(spans, train, last.start, starts, speeds, lsp) {
+        Some(place) => Err(Refused(Refusal::WrongSpeed, place)),
+        None => Ok(()),
     }
-    answer(0, 0)
+}
+
+// Checks the steps as `check_steps` does, in the last of the first `count` of the segments `lent`.
+fn answered<'a>(
+    medium: u32,
+    count: u32,
+    lent: &'a [&'a [u8]; 4],
+    train: Train,
+    starts: &'a [u32],
+    speeds: &'a [u32],
+) -> Result<(), Refused<u32>>
+    ensures { checked_said result ≡ run_asked not_checked (steps_of_run train starts.now speeds.now) medium count (take count (segments_of lent.now)) }
+{
+    let run = Run::new(medium, count, lent)?;
+    of_run(&run, train, starts, speeds)
 }
 
 // Checks the steps that start at `starts` with the `speeds` against the permitted speed of `train` at every centimetre of the last of the
@@ -122,19 +137,6 @@ pub fn check_steps<'a>(
 ) -> Checked
     ensures { result ≡ check_steps medium count first.now second.now third.now fourth.now train starts.now speeds.now }
 {
-    if run::SHEET < medium {
-        return answer(UNKNOWN_KIND, 0);
-    }
-    if count < 1 {
-        return answer(RUN_COUNT, 0);
-    }
-    if run::MOST < count {
-        return answer(RUN_COUNT, 0);
-    }
-    match run::judge_run(medium, count, first, second, third, fourth) {
-        Judged::Refused(r, place) => answer(r, place),
-        Judged::Accepted => of_run(
-            medium, count, first, second, third, fourth, train, starts, speeds,
-        ),
-    }
+    let lent = [first, second, third, fourth];
+    Checked::from(answered(medium, count, &lent, train, starts, speeds))
 }

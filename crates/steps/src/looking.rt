@@ -1,12 +1,12 @@
 // Looks for the first wrong centimetre, stretch by stretch: from one place where a span starts or stops to the next the permitted speed stays as it is.
 // So it is worked out once for each stretch, and each step is compared once.
 
-ghost use Rattle.std.specs.Prelude.{◌≡◌, true, min, ◌≤◌, ◌<◌, length};
+ghost use Rattle.std.specs.Prelude.{◌≡◌, true, ◌≤◌, ◌<◌, length, MatchOption};
+ghost use Rattle.std.proofs.Math.Option.{none, some};
 ghost use Rattle.steps.specs.Steps.{stepped, first_wrong};
-ghost use Rattle.steps.specs.internal.Spans.{Few};
-ghost use Rattle.steps.specs.internal.Places.{right_in, Gone, Stretched, StepAt, StepsGive, NextStep, Compares, wrong_or};
+ghost use Rattle.steps.specs.internal.Places.{right_in, Gone, Stretched, StepAt, StepsGive, NextStep, Compares};
 
-use crate::spans::{MOST, Spans};
+use crate::spans::Span;
 use speed::Train;
 
 // A stretch: the lowest speed of the spans that hold in it, and the place, in cm from the start of the run, where it ends.
@@ -23,57 +23,34 @@ pub struct Reached {
     pub step: usize,
 }
 
-// Returns the nearer of two places.
-fn sooner(one: u64, other: u64) -> u64
-    ensures { result ≡ min one other }
+// Returns how many of the `spans` have stopped at `y`, one after the other, where the first `first` of them have.
+fn gone(spans: &[Span], first: usize, y: u64) -> usize
+    requires { (first ≤ length spans.now) × Gone first spans.now y }
+    ensures { (result ≤ length spans.now) × Gone result spans.now y }
 {
-    if one < other {
-        return one;
-    }
-    other
-}
-
-// Returns how many of the first `count` spans have stopped at `y`, one after the other, where `first` of them have.
-fn gone(count: usize, stops: &[u64; MOST], first: usize, y: u64) -> usize
-    requires { (count ≤ 128) × (first ≤ count) × Gone first stops.now y }
-    ensures { (result ≤ count) × Gone result stops.now y }
-{
-    let mut i = first;
-    while i < count {
-        if y < stops[i] {
+    for i in first..spans.len() {
+        if y < spans[i].stop {
             return i;
         }
-        i += 1;
     }
-    i
+    spans.len()
 }
 
-// Returns the stretch that begins at `y`, of the first `count` spans, of which the first `first` have stopped. It ends at `end` at the latest.
-fn stretch_from<'a>(
-    count: usize,
-    first: usize,
-    starts: &'a [u64; MOST],
-    stops: &'a [u64; MOST],
-    speeds: &'a [u32; MOST],
-    y: u64,
-    end: u64,
-) -> Stretch
-    requires { (count ≤ 128) × (first ≤ count) × Gone first stops.now y × (y < end) }
-    ensures { Stretched count starts.now stops.now speeds.now y end result }
+// Returns the stretch that begins at `y`, of the `spans`, of which the first `first` have stopped. It ends at `end` at the latest.
+fn stretch_from(spans: &[Span], first: usize, y: u64, end: u64) -> Stretch
+    requires { (first ≤ length spans.now) × Gone first spans.now y × (y < end) }
+    ensures { Stretched (length spans.now) spans.now y end result }
 {
     let mut low = speed_element::NONE;
     let mut until = end;
-    let mut i = first;
-    while i < count {
-        let start = starts[i];
-        let stop = stops[i];
-        if y < start {
-            until = sooner(until, start);
-        } else if y < stop {
-            until = sooner(until, stop);
-            low = speed_element::lower(low, speeds[i]);
+    for i in first..spans.len() {
+        let span = spans[i];
+        if y < span.start {
+            until = until.min(span.start);
+        } else if y < span.stop {
+            until = until.min(span.stop);
+            low = speed_element::lower(low, span.speed);
         }
-        i += 1;
     }
     Stretch { low, until }
 }
@@ -121,43 +98,34 @@ fn compare<'a>(
     Reached { place, step }
 }
 
-// Returns the first wrong centimetre of the last segment, which starts at `from`, or `lsp` if the steps are right at every centimetre.
+// Returns the first wrong centimetre of the last segment, which starts at `from`; none if the steps are right at every centimetre.
 pub fn first_wrong<'a>(
-    kept: Spans,
+    spans: &'a [Span],
     train: Train,
     from: u32,
     starts: &'a [u32],
     speeds: &'a [u32],
     lsp: u32,
-) -> u32
-    requires { Few 128 kept × (stepped lsp starts.now speeds.now ≡ true) }
-    ensures { result ≡ wrong_or lsp (first_wrong lsp 0 (right_in train kept from starts.now speeds.now)) }
+) -> Option<u32>
+    requires { stepped lsp starts.now speeds.now ≡ true }
+    ensures { MatchOption result (first_wrong lsp 0 (right_in train spans.now from starts.now speeds.now) ≡ none) (λ place. first_wrong lsp 0 (right_in train spans.now from starts.now speeds.now) ≡ some place) }
 {
-    let count = kept.count;
     let end = from as u64 + lsp as u64;
     let mut first = 0;
     let mut x = 0;
     let mut step = 0;
     while x < lsp {
         let y = from as u64 + x as u64;
-        first = gone(count, &kept.stops, first, y);
-        let here = stretch_from(
-            count,
-            first,
-            &kept.starts,
-            &kept.stops,
-            &kept.speeds,
-            y,
-            end,
-        );
+        first = gone(spans, first, y);
+        let here = stretch_from(spans, first, y, end);
         let until = (here.until - from as u64) as u32;
         let ours = speed::limited(train, speed_element::permitted(here.low));
         let found = compare(starts, speeds, step, x, until, ours);
         x = found.place;
         step = found.step;
         if x < until {
-            return x;
+            return Some(x);
         }
     }
-    lsp
+    None
 }

@@ -82,15 +82,13 @@ fn put_changes(sheet: &[u8], from: usize, left: u32, room: &mut [u8], at: usize)
     requires { (from ≤ length sheet.now) × (at + 50 * left ≤ length room.old) }
     ensures { Laid room.old at (element_lines (changes_from 0 left (numbers_in (drop from sheet.now)))) result room.new }
 {
-    let mut more = left;
     let mut place = from;
     let mut next = at;
-    while 0 < more {
+    for _ in 0..left {
         let start = number(sheet, place);
         place = past(sheet, place, 1);
         next = put_element(sheet, place, start, room, next);
         place = after_element(sheet, place);
-        more -= 1;
     }
     next
 }

@@ -2,15 +2,13 @@
 ghost use Rattle.std.specs.Prelude.{◌≡◌, ◌≤◌, length, drop, get_or};
 ghost use Rattle.text.specs.internal.sheet.Numbers.{numbers_in, NumbersAt};
 
-use numbers::Number;
-
 // Returns the number at the byte `at` of the sheet, or 0 if there is none.
 pub fn number(sheet: &[u8], at: usize) -> u32
     ensures { result ≡ get_or (numbers_in (drop at sheet.now)) 0 0 }
 {
     match numbers::number_at(sheet, at) {
-        Number::Value(v) => v,
-        Number::Bad => 0,
+        Some(v) => v,
+        None => 0,
     }
 }
 
@@ -19,17 +17,11 @@ pub fn past(sheet: &[u8], at: usize, n: usize) -> usize
     requires { at ≤ length sheet.now }
     ensures { NumbersAt sheet.now result (drop n (numbers_in (drop at sheet.now))) }
 {
-    let mut left = n;
     let mut place = at;
-    while 0 < left {
+    for _ in 0..n {
         match numbers::number_at(sheet, place) {
-            Number::Value(v) => {
-                place += numbers::write::groups(v) as usize;
-                left -= 1;
-            }
-            Number::Bad => {
-                return place;
-            }
+            Some(v) => place += numbers::write::groups(v) as usize,
+            None => return place,
         }
     }
     place

@@ -1,5 +1,5 @@
-// Words and numbers, written as text at a place of a room.
-ghost use Rattle.std.specs.Prelude.{◌≡◌, ◌∷◌, [], ◌+◌, ◌≤◌, ◌<◌, nat_abs, length};
+// Words and numbers, written as text at a place of a room. Not by `write!`: these functions cannot fail, and `Laid` says every byte of the room.
+ghost use Rattle.std.specs.Prelude.{◌∷◌, [], ◌+◌, ◌≤◌, ◌<◌, length};
 ghost use Rattle.text.specs.words.Words.{digit_byte, decimal, signed_decimal, labelled, Laid};
 
 // Writes the bytes of `word` at the byte `at` of the room and returns the place after them.
@@ -7,12 +7,9 @@ pub fn put_word(room: &mut [u8], at: usize, word: &[u8]) -> usize
     requires { at + length word.now ≤ length room.old }
     ensures { Laid room.old at word.now result room.new }
 {
-    let mut i = 0;
-    while i < word.len() {
-        room[at + i] = word[i];
-        i += 1;
-    }
-    at + i
+    let next = at + word.len();
+    room[at..next].copy_from_slice(word);
+    next
 }
 
 // Writes the decimal digit `d` at the byte `at` of the room and returns the place after it.
@@ -36,28 +33,16 @@ pub fn put_decimal(room: &mut [u8], at: usize, v: u32) -> usize
     put_digit(room, next, v % 10)
 }
 
-// Returns `z` without its sign. The lowest i32 has no positive i32, so the sign is changed in 64 bits.
-fn magnitude(z: i32) -> u32
-    ensures { result ≡ nat_abs z }
-{
-    if z < 0 {
-        (0 - z as i64) as u32
-    } else {
-        z as u32
-    }
-}
-
 // Writes `z` in decimal digits, after a minus sign if it is negative, at the byte `at` of the room and returns the place after it.
 pub fn put_signed(room: &mut [u8], at: usize, z: i32) -> usize
     requires { at + length (signed_decimal z) ≤ length room.old }
     ensures { Laid room.old at (signed_decimal z) result room.new }
 {
-    let v = magnitude(z);
     if z < 0 {
         let next = put_word(room, at, b"-");
-        return put_decimal(room, next, v);
+        return put_decimal(room, next, z.unsigned_abs());
     }
-    put_decimal(room, at, v)
+    put_decimal(room, at, z.unsigned_abs())
 }
 
 // Writes `word` and after it the decimal digits of `v` at the byte `at` of the room, and returns the place after them.

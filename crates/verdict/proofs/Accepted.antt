@@ -13,12 +13,10 @@ use Rattle.grammar.specs.link.Link.{tree_number, tree_fields}
 use Rattle.grammar.specs.internal.link.Trees.{tree_packet}
 use Rattle.grammar.proofs.segment.Framing.{padded_accepted}
 use Rattle.format.specs.internal.Places.{bits_between}
-use Rattle.verdict.specs.declared.PacketVerdict.TheVariants as PacketVerdict
-use Rattle.verdict.specs.declared.frame.Frame.TheVariants as Frame
-use Rattle.verdict.specs.internal.Verdict.{verdict_of}
+use Rattle.verdict.specs.internal.Verdict.{Verdict, verdict_of}
 use Rattle.verdict.specs.internal.frame.Framed.{frame_of}
 use Rattle.verdict.proofs.frame.Framing.{packet_frame, packet_fields}
-use Rattle.verdict.proofs.Sizes.{Sorts, packet_sorts}
+use Rattle.verdict.proofs.Sizes.{Sorts, verdict_sorts}
 
 module _ {B : Type 0} {accepts : ℕ → B} {refuses : ℕ → ℕ → B} (sorts : Sorts accepts refuses) (size : List Item → ℕ) where
   pub verdict_accepted : {C : Type 0} (r : Read) (n : ℕ) → accepts n ≡ verdict_of accepts refuses size r → (r ≡ accepted (values_of r) → n ≡ size (values_of r) → C) → C
@@ -31,10 +29,10 @@ module _ {B : Type 0} {accepts : ℕ → B} {refuses : ℕ → ℕ → B} (sorts
 
 module _ (t : Tree) (s : List ℕ) where
   -- the frame of an accepted packet is whole
-  pub accepted_frame : {C : Type 0} (r : ℕ) {l : List Item} → tree_packet t s ≡ accepted l → Frame.Refused r ≡ frame_of (tree_number t) s → C
+  pub accepted_frame : {C : Type 0} (r : ℕ) {place : ℕ} {l : List Item} → tree_packet t s ≡ accepted l → Verdict.refused r place ≡ frame_of (tree_number t) s → C
   accepted_frame r a e =
-      let none : List Item → _ = λ l. PacketVerdict.SheetBytes 0 in
-      absurd (packet_sorts.apart {n = 0} (packet_frame PacketVerdict.Refused none (tree_number t) (tree_fields t) s r e ∙ ap (answer_of PacketVerdict.Refused none) a))
+      let none : List Item → _ = λ l. Verdict.sized 0 in
+      absurd (verdict_sorts.apart {n = 0} (packet_frame Verdict.refused none (tree_number t) (tree_fields t) s e ∙ ap (answer_of Verdict.refused none) a))
 
   -- the fields' own values
   pub record Parts (stop : ℕ) (l : List Item) : Type 0 where
@@ -42,7 +40,7 @@ module _ (t : Tree) (s : List ℕ) where
     pub reads : read packet (tree_fields t) 24 (bits_between s 24 stop) ≡ accepted values
     pub all : l ≡ number_item (tree_number t) ∷ values
 
-  pub parts : (stop : ℕ) (l : List Item) → Frame.End stop ≡ frame_of (tree_number t) s → tree_packet t s ≡ accepted l → Parts stop l
+  pub parts : (stop : ℕ) (l : List Item) → Verdict.sized stop ≡ frame_of (tree_number t) s → tree_packet t s ≡ accepted l → Parts stop l
   parts stop l e a =
       padded_accepted (tree_number t) (first_one stop (drop stop (bits_of_bytes s))) (read packet (tree_fields t) 24 (bits_between s 24 stop)) l
       (sym (packet_fields (tree_number t) s (tree_fields t) stop e) ∙ a) λ m p none q.

@@ -12,9 +12,7 @@ use Rattle.grammar.specs.declared.link.Tree.{Tree}
 use Rattle.grammar.specs.declared.link.Tree.TheVariants.{Segment, Journey}
 use Rattle.grammar.specs.link.Link.{tree_number, tree_fields}
 use Rattle.grammar.specs.internal.link.Trees.{tree_sheet_fields}
-use Rattle.verdict.specs.declared.PacketVerdict.TheVariants as PacketVerdict
-use Rattle.verdict.specs.declared.SheetVerdict.TheVariants as SheetVerdict
-use Rattle.verdict.specs.internal.Verdict.{size_from}
+use Rattle.verdict.specs.internal.Verdict.{Verdict, size_from}
 
 number_byte : (t : Tree) → length (groups_in (tree_number t)) ≡ 1
 unfolding groups_in
@@ -32,8 +30,5 @@ pub record Sorts {B : Type 0} (accepts : ℕ → B) (refuses : ℕ → ℕ → B
   pub place : {q r p place : ℕ} → refuses q p ≡ refuses r place → p ≡ place
   pub apart : {r place n : ℕ} → refuses r place ≡ accepts n → ⊥
 
-pub packet_sorts : Sorts PacketVerdict.SheetBytes PacketVerdict.Refused
-packet_sorts = record { size = λ e. cc; number = λ e. cc; place = λ e. cc; apart = λ e. let z : ◌≡◌ {A = ℕ} 0 1 = cc in omega arith }
-
-pub sheet_sorts : Sorts SheetVerdict.PacketBits SheetVerdict.Refused
-sheet_sorts = record { size = λ e. cc; number = λ e. cc; place = λ e. cc; apart = λ e. let z : ◌≡◌ {A = ℕ} 0 1 = cc in omega arith }
+pub verdict_sorts : Sorts Verdict.sized Verdict.refused
+verdict_sorts = record { size = λ e. cc; number = λ e. cc; place = λ e. cc; apart = λ e. let z : ◌≡◌ {A = ℕ} 0 1 = cc in omega arith }

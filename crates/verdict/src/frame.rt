@@ -1,34 +1,28 @@
 // The frame of a packet: refusals 1, 2 and 3, the bit where the fields end, and the padding.
 ghost use Rattle.std.specs.Prelude.{◌≡◌, ◌+◌, ◌*◌, ◌^◌, ◌≤◌, ◌<◌, length, drop};
 ghost use Rattle.bits.specs.Bits.{bits_of_bytes};
+ghost use Rattle.verdict.specs.internal.Verdict.{said};
 ghost use Rattle.verdict.specs.internal.frame.Framed.{frame_of, one_or_end};
 
 use grammar::segment::layout::HEADER_BYTES;
-use kinds::header;
-use kinds::refusals::{PACKET_LENGTH, PACKET_NUMBER, SHORT_PACKET};
+use kinds::refusals::{Refusal, Refused};
+use kinds::{UpTo, header};
 
-// `End(bit)`: the bit where a packet's fields end. `Refused(number)`.
-#[derive(Clone, Copy)]
-pub enum Frame {
-    End(usize),
-    Refused(u32),
-}
-
-// Checks refusals 1, 2, 3 and returns the bit where the fields end. `number` is the expected packet number.
-pub fn judge_frame(s: &[u8], number: u32) -> Frame
-    ensures { result ≡ frame_of number s.now }
+// Checks refusals 1, 2, 3, all at bit 0, and returns the bit where the fields end. `number` is the expected packet number.
+pub fn judge_frame(s: &[u8], number: u32) -> Result<usize, Refused<u32>>
+    ensures { said result ≡ frame_of number s.now }
 {
     if s.len() < HEADER_BYTES {
-        return Frame::Refused(SHORT_PACKET);
+        return Err(Refused(Refusal::ShortPacket, 0));
     }
     if bits::read_field(s, 0, header::NidPacketAto::WIDTH) != number {
-        return Frame::Refused(PACKET_NUMBER);
+        return Err(Refused(Refusal::PacketNumber, 0));
     }
     let body = bits::read_field(s, 8, header::LPacketAto::WIDTH) as usize;
     if s.len() == HEADER_BYTES + (body + 7) / 8 {
-        Frame::End(8 * HEADER_BYTES + body)
+        Ok(8 * HEADER_BYTES + body)
     } else {
-        Frame::Refused(PACKET_LENGTH)
+        Err(Refused(Refusal::PacketLength, 0))
     }
 }
 

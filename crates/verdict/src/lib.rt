@@ -4,16 +4,10 @@
 
 pub mod frame;
 
-// `SheetBytes(bytes)`: the bytes of the packet's sheet. `Refused(number, bit)`.
-#[derive(Clone, Copy)]
-pub enum PacketVerdict {
-    SheetBytes(usize),
-    Refused(u32, u32),
-}
-
-// `PacketBits(bits)`: the bits of the sheet's packet, without L_PACKET_ATO and padding. `Refused(number, byte)`.
-#[derive(Clone, Copy)]
-pub enum SheetVerdict {
-    PacketBits(usize),
-    Refused(u32, u32),
+// A place that judging has reached, and what is counted before it: a bit of a packet and bytes of its sheet,
+// or a byte of a sheet and bits of its packet, modulo 2^32.
+#[derive(Clone, Copy, Debug, PartialEq, Eq)]
+pub struct Spot<N> {
+    pub at: usize,
+    pub n: N,
 }

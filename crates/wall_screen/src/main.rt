@@ -6,29 +6,14 @@ ghost use Rattle.std.specs.Prelude.{◌≤◌, length};
 
 use std::fs::File;
 use std::io;
-use std::io::Read;
 use std::rt::Files;
-
-// Reads until the buffer is full, the input ends or a read fails. Returns how many bytes it has put at the start of the buffer.
-fn read_full(input: &mut impl Read, buffer: &mut [u8]) -> usize
-    ensures { result ≤ length buffer.new }
-{
-    let mut done = 0;
-    while done < buffer.len() {
-        match input.read(&mut buffer[done..]) {
-            Ok(n) if n > 0 => done += n,
-            _ => break,
-        }
-    }
-    done
-}
 
 // Reads the file `path` of the folder in which the program was started into `buffer`. Returns how many bytes it has put there: 0 for a file that cannot be opened.
 fn read_file(rt: &impl Files, path: &str, buffer: &mut [u8]) -> usize
     ensures { result ≤ length buffer.new }
 {
     match File::open(rt, path) {
-        Ok(mut file) => read_full(&mut file, buffer),
+        Ok(mut file) => input::read_full(&mut file, buffer),
         Err(_) => 0,
     }
 }

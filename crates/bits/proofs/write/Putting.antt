@@ -1,6 +1,6 @@
 -- One field more after the bits that are put: the number of the bits that are kept, and the bytes.
 use Rattle.std.proofs.Common.{◌≡◌, ℕ, zero, suc, ◌+◌, ◌-◌, ◌*◌, ◌/◌, ◌%◌, ◌^◌, ◌<◌, ◌≤◌, Bool, List, [], ◌∷◌, ◌++◌, length, take, drop, set, sym, refl, ap, ◌∙◌, ap₂, mod-lt, mod-eq_of_lt, suc-add, zero-add, add-one, arith, length-append, length-drop, drop_of_length-le, take-take, drop-drop, pow_pos, pow-add, shl_lt, shr-shr}
-use native.Mathlib.Nat.{zero-mod, add-mul-mod_self_right, mod-mod}
+use native.Mathlib.Nat.{zero-mod, add-mul-mod_self_right}
 use lib.Pow.{split, high, field, shl-shr}
 use lib.Seq.{sets, length-sets, drop-append-le}
 use Rattle.bits.specs.Bits.{bits_of, number, fill, pack, bytes_of_bits}
@@ -33,13 +33,13 @@ bytes_halves s i n x =
     sym (rw (bytes_parts n n x, sets_append s i b (bytes_in n x), length_bytes_in n (x / 2 ^ (8 * n))))
 
 -- the top byte of what is left of eight once m are out, and what is left then
-pub top_byte : (x m : ℕ) → m ≤ 7 → x * 2 ^ (8 * m) % 2 ^ 64 / 2 ^ 56 % 256 ≡ x / 2 ^ (8 * (7 - m)) % 256
+pub top_byte : (x m : ℕ) → m ≤ 7 → x * 2 ^ (8 * m) % 2 ^ 64 / 2 ^ 56 ≡ x / 2 ^ (8 * (7 - m)) % 256
 top_byte x m h =
     let n : ℕ = x * 2 ^ (8 * m) in
     let d : ℕ = 8 * (7 - m) in
     let e : 56 ≡ 8 * m + d = omega arith in
     let q : n / 2 ^ 56 ≡ x / 2 ^ d = ap (λ (k : ℕ). n / 2 ^ k) e ∙ sym (shr-shr n (8 * m) d) ∙ ap (λ (k : ℕ). k / 2 ^ d) (shl-shr x (8 * m)) in
-    ap (λ (k : ℕ). k % 256) (field n 8 56) ∙ mod-mod (n / 2 ^ 56) 256 ∙ ap (λ (k : ℕ). k % 256) q
+    field n 8 56 ∙ ap (λ (k : ℕ). k % 256) q
 
 pub next_byte : (x m : ℕ) → x * 2 ^ (8 * m) % 2 ^ 64 * 2 ^ 8 % 2 ^ 64 ≡ x * 2 ^ (8 * (m + 1)) % 2 ^ 64
 next_byte x m =

@@ -1,6 +1,8 @@
 -- What the conversions of one tree and their writers must do, once everything is judged; no promise names it.
-use Rattle.std.specs.Prelude.{◌≡◌, Bool, List, ℕ, ◌≤◌, length, take, drop}
+use Rattle.std.specs.Prelude.{◌≡◌, Bool, Result, Ok, Err, List, ℕ, ◌≤◌, length, take, drop}
 use Rattle.bits.specs.Bits.{bytes_of_bits}
+use Rattle.kinds.specs.declared.refusals.Refused.{Refused}
+use Rattle.kinds.specs.Refusals.{refusal_number}
 use Rattle.format.specs.Format.{Read, accepted, read, write, values_of}
 use Rattle.format.specs.Media.{packet, sheet}
 use Rattle.grammar.specs.segment.Frame.{frame}
@@ -8,7 +10,13 @@ use Rattle.grammar.specs.segment.Judgement.{after_number}
 use Rattle.grammar.specs.declared.link.Tree.{Tree}
 use Rattle.grammar.specs.link.Link.{tree_number, tree_body, tree_fields, within_count, to_either_packet, to_either_sheet}
 use Rattle.grammar.specs.internal.link.Trees.{tree_packet, tree_sheet}
+use Rattle.convert.specs.declared.Converted.{Converted}
 use Rattle.convert.specs.Convert.{Outcome, converted}
+
+-- the answer of a conversion that gives the length of its result, or is refused
+abbrev pub converted_as : Result ℕ (Refused ℕ) → Converted
+converted_as (Ok n) = record { refusal = 0; place = 0; length = n }
+converted_as (Err e) = record { refusal = refusal_number e.0; place = e.1; length = 0 }
 
 -- the conversions where the tree is known
 unfoldable pub tree_to_sheet : Tree → List ℕ → List ℕ → Outcome

@@ -6,5 +6,4 @@ use Rattle.convert_packet.proofs.packet_to_sheet.Goals as goal
 pub returns : goal.returns
 returns c =
     let a = c.args in
-    rw c.tree_of.ensures at c.tree_to_sheet.ensures
-    ∙ sheet_by_tree a.packet.now a.room.now
+    rw c.from.ensures (rw c.tree_of.ensures at c.tree_to_sheet.ensures ∙ sheet_by_tree a.packet.now a.room.now)

@@ -6,5 +6,4 @@ use Rattle.convert_sheet.proofs.sheet_to_packet.Goals as goal
 pub returns : goal.returns
 returns c =
     let a = c.args in
-    rw c.tree_of.ensures at c.tree_to_packet.ensures
-    ∙ packet_by_tree a.sheet.now a.room.now
+    rw c.from.ensures (rw c.tree_of.ensures at c.tree_to_packet.ensures ∙ packet_by_tree a.sheet.now a.room.now)

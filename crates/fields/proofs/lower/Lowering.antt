@@ -1,13 +1,12 @@
 -- What the code's tests make of a number is what its kind makes of it; and what is known of the one number that is made.
-use Rattle.std.proofs.Common.{◌≡◌, ℕ, zero, suc, ◌+◌, ◌-◌, ◌/◌, ◌%◌, ◌^◌, ◌<◌, ◌≤◌, Bool, true, ◌&&◌, eqb, leb, get_or, refl, ap, ◌∙◌, arith, ne_eqb, eqb-true, le-leb, leb-true}
+use Rattle.std.proofs.Common.{◌≡◌, ℕ, ◌+◌, ◌-◌, ◌/◌, ◌%◌, ◌^◌, ◌<◌, ◌≤◌, Bool, true, ◌&&◌, eqb, leb, get_or, refl, ap, ◌∙◌, arith, eqb-true, leb-true}
 use mathlib.Core.Option.{Option, none, some}
-use borrow.Author.Tests.{lt-leb}
 use Rattle.bits.proofs.Tests.{and_left, and_right, each_at}
 use Rattle.kinds.specs.Kind.{Kind}
-use Rattle.kinds.specs.Tables.{cant_figures, place}
-use Rattle.kinds.specs.Kinds.{speed, nc_cd_diff, nc_diff, class, m_current}
+use Rattle.kinds.specs.Tables.{cant_figures, volts, place}
+use Rattle.kinds.specs.Kinds.{nc_cd_diff, m_voltage}
 use Rattle.fields.proofs.Lawful.{LawfulKind, value_small}
-use Rattle.fields.proofs.Lookup.{place_small, place_again, place_stands, cants_distinct}
+use Rattle.fields.proofs.Lookup.{place_small, place_again, place_stands, cants_distinct, volts_distinct}
 use Rattle.fields.specs.internal.lower.Lowered.{value_or, lowered}
 
 -- ---- a value, or none
@@ -30,32 +29,7 @@ module _ (k : Kind) (a v : ℕ) (w : LawfulKind k) (e : v ≡ lowered k a) where
       (λ u p. absurd (let q : v ≡ u = e ∙ ap (value_or (2 ^ k.width)) p in omega (arith, value_small w u (w.into a u p))))
       (λ p. p)
 
--- ---- steps
-
-pub speed_in : (a : ℕ) → a / 5 ≤ 120 → a / 5 ≡ lowered speed a
-speed_in a h = rw (le-leb a 604 (omega arith))
-
-pub speed_out : (a : ℕ) → 120 < a / 5 → 128 ≡ lowered speed a
-speed_out a h = rw (lt-leb a 604 (omega arith))
-
-module _ (a : ℕ) (n : a ≡ 0 → ⊥) where
-  pub current_in : (a - 1) / 10 ≤ 1000 → (a - 1) / 10 ≡ lowered m_current a
-  current_in h = rw (ne_eqb a 0 n, le-leb (a - 1) 10009 (omega arith))
-
-  pub current_out : 1000 < (a - 1) / 10 → 1024 ≡ lowered m_current a
-  current_out h = rw (ne_eqb a 0 n, lt-leb (a - 1) 10009 (omega arith))
-
--- ---- classes
-
-pub category_in : (a : ℕ) → a ≤ 2 → a ≡ lowered nc_diff a
-category_in a h = rw (le-leb 0 a (omega arith), le-leb a 2 h)
-
-pub category_out : (a : ℕ) → 2 < a → 16 ≡ lowered nc_diff a
-category_out a h = rw (le-leb 0 a (omega arith), lt-leb a 2 h)
-
-pub class_other : (q a : ℕ) → (q ≡ 0 → ⊥) → lowered nc_diff a ≡ lowered (class q) a
-class_other zero a n = absurd (n refl)
-class_other (suc q) a n = refl
+-- ---- cant figures
 
 pub cant_at : (a i : ℕ) → i < 11 → get_or cant_figures i 0 ≡ a → i ≡ lowered nc_cd_diff a
 cant_at a i h e = let p : place 0 cant_figures a ≡ some i = rw e at (place_again cant_figures cants_distinct i h) in rw p
@@ -88,3 +62,16 @@ cant_none a d i small e there n = go (place 0 cant_figures a) refl
         let r : d / 22 ≡ v = ap (λ (x : ℕ). x / 22) m ∙ q.1 in
         let j : i ≡ v = there (omega arith) ∙ r in
         absurd (n (ap (λ (x : ℕ). get_or cant_figures x 0) j ∙ s))
+
+-- ---- voltages
+
+pub volts_at : (a i : ℕ) → i < 6 → get_or volts i 0 ≡ a → i ≡ lowered m_voltage a
+volts_at a i h e = let p : place 0 volts a ≡ some i = rw e at (place_again volts volts_distinct i h) in rw p
+
+-- no voltage is a
+pub volts_none : (a : ℕ) → ((i : ℕ) → i < 6 → get_or volts i 0 ≡ a → ⊥) → 16 ≡ lowered m_voltage a
+volts_none a n = stands (place 0 volts a) refl
+  where
+    stands : (o : Option ℕ) → place 0 volts a ≡ o → 16 ≡ lowered m_voltage a
+    stands none p = rw p
+    stands (some v) p = let z : v - 0 ≡ v = omega arith in absurd (n v (place_small 0 volts a v p) (rw z at (place_stands 0 volts a v p)))

@@ -1,18 +1,10 @@
 -- The numbers in the sheet of a class and of a current.
-use Rattle.std.proofs.Common.{◌≡◌, ℕ, zero, suc, ◌<◌, ◌≤◌, true, false, cond, eqb, ltb, leb, get_or, refl, arith, lit≤, ltb-true, ne_eqb, eqb-true, leb-true}
+use Rattle.std.proofs.Common.{◌≡◌, ℕ, zero, suc, ◌<◌, ◌≤◌, true, eqb, ltb, leb, get_or, refl, arith, ltb-true, eqb-true, leb-true}
 use Rattle.bits.proofs.Tests.{by_cases, and_right, each_at}
 use Rattle.kinds.specs.Kinds.{class, m_current}
 use Rattle.kinds.specs.Tables.{cant_figures}
 
 -- ---- a class
-
-pub class_place : (q v : ℕ) → (class q).allowed v ≡ true → cond (eqb q 0) v 0 < 11
-class_place zero v e = ltb-true v 11 e
-class_place (suc q) v e = let z : eqb (suc q) 0 ≡ false = ne_eqb (suc q) 0 (λ d. omega arith) in rw z (lit≤ tt)
-
-pub class_raised : (q v : ℕ) → cond (eqb q 0) (get_or cant_figures (cond (eqb q 0) v 0) 0) v ≡ (class q).raise v
-class_raised zero v = refl
-class_raised (suc q) v = let z : eqb (suc q) 0 ≡ false = ne_eqb (suc q) 0 (λ d. omega arith) in rw z
 
 -- the number of a category is below 3
 pub category_raised : (q v : ℕ) → 0 < q → (class q).allowed v ≡ true → (class q).raise v < 3

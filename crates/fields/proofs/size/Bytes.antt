@@ -1,5 +1,5 @@
 -- The bytes of a value in the sheet: 0 exactly where it is refused.
-use Rattle.std.proofs.Common.{◌≡◌, ℕ, zero, suc, ◌+◌, ◌*◌, ◌/◌, ◌<◌, ◌≤◌, Bool, true, false, cond, ◌&&◌, eqb, ltb, leb, List, length, get_or, sym, refl, ap, ◌∙◌, arith, lit<, lit≤, le-ltb, lt-ltb, ne_eqb, eqb-true, le-leb, leb-false, leb-true}
+use Rattle.std.proofs.Common.{◌≡◌, ℕ, zero, suc, ◌+◌, ◌*◌, ◌/◌, ◌<◌, ◌≤◌, true, false, cond, ◌&&◌, eqb, ltb, leb, List, length, get_or, sym, refl, ap, ◌∙◌, arith, le-ltb, lt-ltb, ne_eqb, eqb-true, le-leb, leb-false, leb-true}
 use mathlib.Core.Bool.{and-false}
 use borrow.Author.Tests.{lt-leb}
 use mir.Val.{bool_byte}
@@ -7,7 +7,7 @@ use Rattle.bits.proofs.Tests.{by_cases, each_at}
 use Rattle.numbers.specs.Numbers.{groups_in}
 use Rattle.numbers.proofs.Counting.{last_group, more_groups}
 use Rattle.kinds.specs.Kind.{Kind}
-use Rattle.kinds.specs.Kinds.{nc_cd_diff, nc_diff, class, most_traction, m_current}
+use Rattle.kinds.specs.Kinds.{nc_cd_diff, nc_diff, class}
 use Rattle.kinds.specs.Tables.{cant_figures, volts}
 use Rattle.kinds.specs.Judged.{value_in_packet}
 use Rattle.fields.specs.internal.size.Counts.{bytes_of, most_class}
@@ -21,9 +21,6 @@ module _ (k : Kind) (v : ℕ) where
   bytes_none a = rw a
 
 -- ---- the tests of the kinds
-
-pub low_out : (least largest v : ℕ) → v < least → (leb least v && leb v largest) ≡ false
-low_out least largest v h = rw (lt-leb least v h)
 
 pub high_out : (least largest v : ℕ) → largest < v → (leb least v && leb v largest) ≡ false
 high_out least largest v h = rw (lt-leb v largest h) (and-false (leb least v))
@@ -51,41 +48,13 @@ pub two_bytes : (v : ℕ) → 128 ≤ v → v < 16384 → 2 ≡ length (groups_i
 unfolding groups_in
 two_bytes v h l = sym (ap length (more_groups 4 v h) ∙ ap (λ (g : List ℕ). suc (length g)) (last_group 3 (v / 128) (omega arith)))
 
-pub traction_small : (u : ℕ) → most_traction u ≤ 1023
-traction_small zero = lit≤ tt
-traction_small (suc u) = lit≤ tt
-
-module _ (last lsp v : ℕ) where
-  pub location_low : v ≤ last → (ltb last v && ltb v lsp) ≡ false
-  location_low h = rw (le-ltb last v h)
-
-  pub location_high_lem : lsp ≤ v → (ltb last v && ltb v lsp) ≡ false
-  location_high_lem h = rw (le-ltb v lsp h) (and-false (ltb last v))
-
-  pub location_in : last < v → v < lsp → (ltb last v && ltb v lsp) ≡ true
-  location_in h l = rw (lt-ltb last v h, lt-ltb v lsp l)
-
 -- the end of a temporary constraint
 module _ (start most v : ℕ) where
   pub after_low : v ≤ start → (ltb start v && leb v most) ≡ false
   after_low h = rw (le-ltb start v h)
 
-  pub after_high : most < v → (ltb start v && leb v most) ≡ false
-  after_high h = rw (lt-leb v most h) (and-false (ltb start v))
-
   pub after_in : start < v → v ≤ most → (ltb start v && leb v most) ≡ true
   after_in h l = rw (lt-ltb start v h, le-leb v most l)
-
-module _ (v : ℕ) where
-  pub current_none : v ≡ 1023 → 1 ≡ bytes_of (value_in_packet m_current v)
-  unfolding groups_in
-  current_none e = rw e
-
-  pub current_out : (v ≡ 1023 → ⊥) → 1000 < v → 0 ≡ bytes_of (value_in_packet m_current v)
-  current_out e h = bytes_none m_current v (rw (lt-leb v 1000 h, ne_eqb v 1023 e))
-
-  pub current_allowed : v ≤ 1000 → m_current.allowed v ≡ true
-  current_allowed h = rw (le-leb v 1000 h)
 
 pub class_refusal : (q v : ℕ) → (class q).refusal v ≡ 4
 class_refusal zero v = refl
@@ -96,19 +65,6 @@ unfolding groups_in
 speed_bytes v h = eqb-true (cond (ltb v 26) 1 2) (length (groups_in (v * 5))) (each_at 121 (λ u. eqb (cond (ltb u 26) 1 2) (length (groups_in (u * 5)))) refl v h)
 
 -- ---- the class, with no branch on Q_DIFF
-
-pub other_class : (q : ℕ) → (q ≡ 0 → ⊥) → 2 ≡ most_class q
-other_class zero h = absurd (h refl)
-other_class (suc q) h = refl
-
-pub class_out : (q v : ℕ) → most_class q < v → 0 ≡ bytes_of (value_in_packet (class q) v)
-class_out zero v h = bytes_none nc_cd_diff v (le-ltb v 11 (omega arith))
-class_out (suc q) v h = bytes_none nc_diff v (high_out 0 2 v h)
-
-pub both_small : (a b : Bool) → bool_byte a * bool_byte b < 2
-both_small true true = lit< tt
-both_small true false = lit< tt
-both_small false b = let e : 0 * bool_byte b ≡ 0 = omega arith in omega arith
 
 pub class_in : (q v : ℕ) → v ≤ most_class q → 1 + bool_byte (eqb q 0) * bool_byte (leb 2 v) ≡ bytes_of (value_in_packet (class q) v)
 class_in zero v h =

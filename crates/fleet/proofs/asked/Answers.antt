@@ -7,6 +7,6 @@ pub returns-then-n-gt-MOST : goal.returns-then-n-gt-MOST
 unfolding asked_of
 returns-then-n-gt-MOST c = simp (lt-ltb _ _ c.if-n-gt-MOST.true)
 
-pub returns : goal.returns
+pub returns-else-n-gt-MOST : goal.returns-else-n-gt-MOST
 unfolding asked_of
-returns c = simp (le-ltb _ _ c.if-n-gt-MOST.false)
+returns-else-n-gt-MOST c = simp (le-ltb _ _ c.if-n-gt-MOST.false)

@@ -1,10 +1,7 @@
 -- `fleet::fleet_lowest` meets its contract: the loop's state is a function of i alone.
-use Rattle.std.proofs.Common.{◌≡◌, ◌≤◌, ◌-◌}
+use Rattle.std.proofs.Common.{◌≡◌}
 use Rattle.fleet.specs.internal.Turns.{came_to}
 use Rattle.fleet.proofs.fleet_lowest.Given as goal
 
 abbrev pub invariant-loop-i : goal.invariant-loop-i
-invariant-loop-i l = record { up : l.i ≤ l.n; is : l.best ≡ came_to l.n l.packet l.cards l.i }
-
-abbrev pub decreases-loop-i : goal.decreases-loop-i
-decreases-loop-i l = l.n - l.i
+invariant-loop-i l = l.best ≡ came_to l.n l.packet l.cards l.i

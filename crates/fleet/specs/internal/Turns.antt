@@ -1,12 +1,18 @@
 -- The board as the code comes to it, which judges the packet once, before the first card. No promise names it.
-use Rattle.std.specs.Prelude.{cond, List, ℕ, zero, suc, eqb, get_or}
+use Rattle.std.specs.Prelude.{cond, List, ℕ, zero, suc, eqb, ltb, get_or, Result, Ok, Err}
+use Rattle.kinds.specs.declared.refusals.Refusal.{Refusal}
+use Rattle.kinds.specs.declared.refusals.Refusal.TheVariants.{CardList}
 use Rattle.format.specs.Format.{Read, accepted, refused}
 use Rattle.grammar.specs.segment.Segment.{wire_changes}
 use Rattle.grammar.specs.segment.Judgement.{from_packet}
 use Rattle.speed_question.specs.declared.Speed.{Speed}
 use Rattle.fleet.specs.declared.Card.{Card}
 use Rattle.fleet.specs.declared.Board.{Board}
-use Rattle.fleet.specs.Fleet.{no_card, answer_of, no_board, after}
+use Rattle.fleet.specs.Fleet.{no_card, asked_of, answer_of, no_board, after}
+
+-- whether a card of a list of n has the number: 20 if none has
+unfoldable pub named_as : ℕ → ℕ → Result (Unit {0}) Refusal
+named_as n card = cond (ltb card (asked_of n)) (Ok tt) (Err CardList)
 
 -- the packet's refusal, or 0
 abbrev pub judged_to : Read → Board

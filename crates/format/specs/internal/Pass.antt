@@ -1,8 +1,6 @@
 -- A pass over a tree: it takes the fields in order, adds each value to what it made before, and answers at the end or at a refusal. Used by contracts of the code; no promise names these.
-use Rattle.std.specs.Prelude.{List, [], ◌∷◌, ℕ, ◌+◌, length}
+use Rattle.std.specs.Prelude.{List, [], ◌∷◌, ℕ, ◌+◌, length, Result, Ok, Err}
 use Rattle.kinds.specs.declared.Item.{Item}
-use Rattle.kinds.specs.declared.Field.{Field}
-use Rattle.kinds.specs.declared.Field.TheVariants as Judged
 use Rattle.kinds.specs.Kind.{Kind}
 use Rattle.format.specs.Format.{Format, end, field, FieldStep, step, stopped_with, Medium}
 use Rattle.format.specs.internal.Places.{Taken}
@@ -23,9 +21,9 @@ abbrev pub of_taken : {B : Type 0} → (ℕ → B) → Taken → (Item → ℕ �
 of_taken refusal (Taken.Is i to) go = go i to
 of_taken refusal (Taken.Refused r) go = refusal r
 
-abbrev pub of_field : {B : Type 0} → (ℕ → B) → Field → (Item → B) → B
-of_field refusal (Judged.Is i) go = go i
-of_field refusal (Judged.Refused r) go = refusal r
+abbrev pub of_field : {B : Type 0} → (ℕ → B) → Result Item ℕ → (Item → B) → B
+of_field refusal (Ok i) go = go i
+of_field refusal (Err r) go = refusal r
 
 module _ {A X B : Type 0} where
   -- the answer of a tree, from what was made so far, the place and what is left

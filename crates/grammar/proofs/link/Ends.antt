@@ -39,7 +39,7 @@ number_cases a v e journeys segments =
     or_cases (eqb a 4) (eqb a 6) d
     (λ c. let n = eqb-true a 4 c in journeys n (omega arith))
     (λ c. let n = eqb-true a 6 c in segments n (omega arith)))
-    (λ d. let f : none ≡ some v = rw d at e in absurd (let z : ◌≡◌ {A = ℕ} 0 1 = cc in omega arith))
+    (λ d. let f : none ≡ some v = rw d at e in cc)
 
 -- the values of a sheet on the link are values of its tree
 pub tree_conforming : {C : Type 0} {i : Item} {l : List Item} → Conforming InSheet link_fields (i ∷ l)

@@ -13,7 +13,6 @@ use Rattle.kinds.specs.declared.Item.{Item}
 use Rattle.format.specs.Format.{Format, Read, accepted, refused, read, times}
 use Rattle.format.specs.Media.{sheet}
 use Rattle.format.specs.Grounds.{Every, at_end, each, Among, first, later}
-use Rattle.format.proofs.Generic.{never}
 use Rattle.format.proofs.Grounds.{sheet_ground, sheet_written}
 use Rattle.grammar.specs.segment.Segment.{fields, wire_changes}
 use Rattle.grammar.specs.segment.Frame.{packet_number, unframed}
@@ -64,7 +63,7 @@ module _ (s : List ℕ) (r place : ℕ) where
   count_refused (accepted l) e own long =
       by_cases (ltb 65535 (length (link_bits l) - 96))
       (λ d. let p : refused 12 0 ≡ refused r place = rw d at e in long l refl (omega (arith, ltb-true 65535 (length (link_bits l) - 96) d)) (cc) (cc))
-      (λ d. absurd (never (sym (rw d at e))))
+      (λ d. cc (rw d at e))
 
   pub either_sheet_grounds : Bytes s → (from_either_sheet s ≡ refused r place) ↔ EitherSheetGround s r place
   unfolding from_either_sheet

@@ -15,7 +15,6 @@ use Rattle.kinds.specs.Kind.{when}
 use Rattle.format.specs.Format.{accepted, write}
 use Rattle.format.specs.Media.{packet, sheet}
 use Rattle.format.specs.Conforming.{Conforming, also, InSheet}
-use Rattle.format.proofs.Generic.{never}
 use Rattle.format.proofs.Sized.{size_most, lowered_priced}
 use Rattle.grammar.specs.segment.Segment.{fields, sheet_fields, wire_changes}
 use Rattle.grammar.specs.segment.Frame.{packet_number, packet_of_bits}
@@ -38,8 +37,8 @@ segment_accepted s l e =
     other : packet_number s ≡ 4 → ⊥
     other n =
         by_cases (ltb (length s) 15)
-        (λ a. never (rw a at e))
-        (λ a. never (rw (a, n) at e))
+        (λ a. cc (rw a at e))
+        (λ a. cc (rw (a, n) at e))
 
 -- the packet number of a segment's sheet
 six : (a v : ℕ) → when (leb 6 a && leb a 6) a ≡ some v → (a ≡ 6) × (v ≡ 6)
@@ -50,7 +49,7 @@ six a v e =
     let l : 6 ≤ a = leb-true 6 a (and_left (leb 6 a) (leb a 6) d) in
     let h : a ≤ 6 = leb-true a 6 (and_right (leb 6 a) (leb a 6) d) in
     (omega arith, omega arith))
-    (λ d. let f : none ≡ some v = rw d at e in absurd (let z : ◌≡◌ {A = ℕ} 0 1 = cc in omega arith))
+    (λ d. let f : none ≡ some v = rw d at e in cc)
 
 -- a segment's values on the link, whose packet and sheet are the segment's
 pub record OnLink (l : List Item) : Type 0 where

@@ -8,8 +8,7 @@ use borrow.Author.Tests.{eqb-true, eqb-false, leb-true}
 use lib.Dec.{eqb, leb}
 use lib.ListN.{length}
 use Rattle.bits.proofs.Tests.{by_cases, and_left, and_right}
-use Rattle.numbers.specs.declared.Number.{Number}
-use Rattle.numbers.specs.declared.Number.TheVariants.{Value, Bad}
+use Rattle.std.specs.Prelude.{Some, None, Option}
 use Rattle.numbers.specs.Numbers.{number_in, groups_in}
 use Rattle.format.specs.Format.{read, follow}
 use Rattle.format.specs.Media.{sheet, numbered}
@@ -24,10 +23,10 @@ other a n d =
     (λ e. e)
 
 -- reading on from the first number n, by the link's tree and by the tree that n chooses
-by_first : (s : List ℕ) (n : Number) → follow 0 (numbered link_number n s) (λ i t. read sheet (tree_fields (tree_of i.packet)) (0 + length (groups_in i.sheet)) t)
+by_first : (s : List ℕ) (n : Option ℕ) → follow 0 (numbered link_number n s) (λ i t. read sheet (tree_fields (tree_of i.packet)) (0 + length (groups_in i.sheet)) t)
     ≡ follow 0 (numbered (tree_number_kind (by_number n)) n s) (λ i t. read sheet (tree_fields (by_number n)) (0 + length (groups_in i.sheet)) t)
-by_first s Bad = refl
-by_first s (Value a) =
+by_first s None = refl
+by_first s (Some a) =
     by_cases (eqb a 4)
     (λ d. rw (eqb-true a 4 d))
     (λ d. by_cases (eqb a 6)

@@ -14,7 +14,6 @@ use Rattle.kinds.specs.declared.Item.{Item}
 use Rattle.format.specs.Format.{Read, accepted, refused, read, write}
 use Rattle.format.specs.Media.{packet, sheet}
 use Rattle.format.specs.Conforming.{Conforming, also, InPacket}
-use Rattle.format.proofs.Generic.{never}
 use Rattle.format.proofs.Media.{sheet_again, sheet_only}
 use Rattle.grammar.specs.segment.Frame.{packet_number, number_item, unframed, packet_of_bits}
 use Rattle.grammar.proofs.segment.Framing.{framed_number, framed_again, framed_only}
@@ -79,10 +78,10 @@ either_packet_taken l v = taken_of l v.good v.few
 
 -- what the count of bits leaves accepted
 pub count_accepted : {C : Type 0} (r : Read) (l : List Item) → within_count r ≡ accepted l → (r ≡ accepted l → length (link_bits l) ≤ 96 + 65535 → C) → C
-count_accepted (refused q place) l e f = absurd (never e)
+count_accepted (refused q place) l e f = cc
 count_accepted (accepted m) l e f =
     by_cases (ltb 65535 (length (link_bits m) - 96))
-    (λ d. absurd (never (rw d at e)))
+    (λ d. cc (rw d at e))
     (λ d. let p : accepted m ≡ accepted l = rw d at e in let q : m ≡ l = cc in f p (rw (← q) (omega (arith, ltb-false 65535 (length (link_bits m) - 96) d))))
 
 pub either_sheet_values : (s : List ℕ) (l : List Item) → Bytes s → from_either_sheet s ≡ accepted l → EitherSheetValues l × (s ≡ to_either_sheet l)

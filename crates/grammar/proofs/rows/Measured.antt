@@ -3,7 +3,6 @@ use mathlib.Core.Path.{◌≡◌}
 use mathlib.Core.Bool.{true, false, ◌&&◌}
 use mathlib.Core.List.{List, [], ◌∷◌}
 use Prim.Native.Nat.{ℕ, ◌+◌, ◌^◌, ◌≤◌, ◌<◌}
-use native.Mathlib.Omega.{arith}
 use borrow.Author.Tests.{leb-true, ltb-true}
 use lib.Dec.{leb, ltb}
 use Rattle.bits.proofs.Tests.{and_left, and_right}
@@ -14,7 +13,7 @@ use Rattle.format.proofs.Sized.{Measured, plus}
 use Rattle.grammar.specs.internal.rows.Rows.{row, fits}
 
 pub no_row : {C : Type 0} → false ≡ true → C
-no_row e = absurd (let z : ◌≡◌ {A = ℕ} 0 1 = cc in omega arith)
+no_row e = cc
 
 -- what is known of the first field of a row, and of the fields after it
 pub record First (w m : ℕ) (ws ms : List ℕ) : Type 0 where

@@ -19,7 +19,6 @@ use Rattle.kinds.specs.declared.Item.{Item}
 use Rattle.format.specs.Format.{Format, Read, accepted, refused, read, write}
 use Rattle.format.specs.Media.{packet}
 use Rattle.format.specs.Conforming.{Conforming, InPacket}
-use Rattle.format.proofs.Generic.{never}
 use Rattle.format.proofs.Media.{packet_again, packet_only}
 use Rattle.grammar.specs.segment.Frame.{packet_number, body_bits, field_bits, padding, first_one, number_item, padded, unframed, frame, packet_of_bits}
 
@@ -39,7 +38,7 @@ no_one (suc n) at = no_one n (at + 1)
 
 all_zero : (at : ℕ) (s : List Bool) → first_one at s ≡ none → fill (length s) [] ≡ s
 all_zero at [] e = refl
-all_zero at (true ∷ s) e = absurd (let z : ◌≡◌ {A = ℕ} 0 1 = cc in omega arith)
+all_zero at (true ∷ s) e = cc
 all_zero at (false ∷ s) e = ap (λ (l : List Bool). false ∷ l) (all_zero (at + 1) s e)
 
 -- bits whose padding is zero are their front, filled up
@@ -123,9 +122,9 @@ framed_again n f l small c low high =
 
 pub padded_accepted : {C : Type 0} (n : ℕ) (one : Option ℕ) (r : Read) (l : List Item) → padded n one r ≡ accepted l
     → ((m : List Item) → r ≡ accepted m → one ≡ none → l ≡ number_item n ∷ m → C) → C
-padded_accepted n one (refused r place) l e f = absurd (never e)
+padded_accepted n one (refused r place) l e f = cc
 padded_accepted n none (accepted m) l e f = f m refl refl (cc)
-padded_accepted n (some place) (accepted m) l e f = absurd (never e)
+padded_accepted n (some place) (accepted m) l e f = cc
 
 pub record Framed (n : ℕ) (f : Format) (s : List ℕ) (l : List Item) : Type 0 where
   pub values : List Item
@@ -154,7 +153,7 @@ frame_bits s h =
 pub framed_only : (n : ℕ) (f : Format) (s : List ℕ) (l : List Item) → Bytes s → unframed n f s ≡ accepted l → Framed n f s l
 framed_only n f s l ok e =
     let m : ℕ = body_bits s in
-    by_cases (ltb (length s) 15) (λ a. absurd (never (rw a at e))) λ a.
+    by_cases (ltb (length s) 15) (λ a. cc (rw a at e)) λ a.
     by_cases (eqb (packet_number s) n) (λ b.
     by_cases (eqb (length s) (15 + (m + 7) / 8)) (λ c.
     padded_accepted n (first_one (120 + m) (padding s)) (read packet f 24 (field_bits s)) l (rw (a, b, c) at e) λ v p zero q.
@@ -174,5 +173,5 @@ framed_only n f s l ok e =
       bytes = rw (← r.1) (sym (bytes_only s (120 + m) ok room (omega arith) zero) ∙ ap bytes_of_bits (sym whole));
       few = rw (← r.1) (omega (arith, field_small s 8 16 16 (omega arith)));
     })
-    (λ c. absurd (never (rw (a, b, c) at e))))
-    (λ b. absurd (never (rw (a, b) at e)))
+    (λ c. cc (rw (a, b, c) at e)))
+    (λ b. cc (rw (a, b) at e))

@@ -18,7 +18,6 @@ use Rattle.format.specs.Format.{Format, Read, accepted, refused, read}
 use Rattle.format.specs.Media.{packet, sheet}
 use Rattle.format.specs.Conforming.{InSheet}
 use Rattle.format.specs.Grounds.{BitsFault, GroupsFault, Ground, at_field, left_over, Every, at_end, each, Among, first, later}
-use Rattle.format.proofs.Generic.{never}
 use Rattle.format.proofs.Grounds.{every_front, every_map, packet_written, packet_ground, sheet_ground}
 use Rattle.grammar.specs.segment.Segment.{entries, profile, voltage, current, changes, part, lists, body, fields, sheet_fields}
 use Rattle.grammar.specs.segment.Frame.{packet_number, body_bits, field_bits, padding, first_one, padded, unframed}
@@ -28,7 +27,7 @@ use Rattle.grammar.specs.segment.Grounds.{WellFramed, FirstOne, PacketGround, sh
 -- ---- the first padding bit that is 1
 
 one_first : (at : ℕ) (bits : List Bool) (place : ℕ) → first_one at bits ≡ some place → FirstOne at bits place
-one_first at [] place e = absurd (let z : ◌≡◌ {A = ℕ} 0 1 = cc in omega arith)
+one_first at [] place e = cc
 one_first at (true ∷ bits) place e =
     let q : at ≡ place = cc in
     record { zeros = 0; more = bits; whole = refl; stands = omega arith }
@@ -46,7 +45,7 @@ padded_refused : {C : Type 0} (n : ℕ) (one : Option ℕ) (t : Read) (r place :
     → (t ≡ refused r place → C)
     → ((l : List Item) → t ≡ accepted l → one ≡ some place → r ≡ 7 → C) → C
 padded_refused n one (refused q m) r place e inside after = inside e
-padded_refused n none (accepted l) r place e inside after = absurd (never (sym e))
+padded_refused n none (accepted l) r place e inside after = cc
 padded_refused n (some p) (accepted l) r place e inside after = let q : p ≡ place = cc in after l refl (rw q) (cc)
 
 module _ (n : ℕ) (f : Format) (s : List ℕ) (r place : ℕ) where

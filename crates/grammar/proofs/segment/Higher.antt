@@ -14,7 +14,6 @@ use Rattle.kinds.specs.declared.Item.{Item}
 use Rattle.kinds.specs.Kinds.{n_iter}
 use Rattle.format.specs.Format.{Format, accepted, read}
 use Rattle.format.specs.Media.{packet}
-use Rattle.format.proofs.Generic.{never}
 use Rattle.format.proofs.Media.{packet_lawful, sheet_lawful}
 use Rattle.format.proofs.Wider.{WiderKind, Wider, ends, goes, same_field, same_then, wider_written, wider_read, packet_widens, sheet_widens}
 use Rattle.grammar.specs.segment.Segment.{entries, profile, voltage, current, changes, part, lists, body, fields, sheet_fields, wire_changes}
@@ -59,7 +58,7 @@ module _ {low high : ℕ} (h : low ≤ high) where
     lower = λ a v e.
         by_cases ((n_iter low).allowed a)
         (λ d. rw (more a d) (rw d at e))
-        (λ d. let z : none ≡ some v = rw d at e in absurd (let y : ◌≡◌ {A = ℕ} 0 1 = cc in omega arith));
+        (λ d. let z : none ≡ some v = rw d at e in cc);
     raise = λ v. refl;
   }
 
@@ -90,13 +89,13 @@ module _ {low high : ℕ} (h : low ≤ high) where
   unfolding from_packet
   higher_packet s l e =
       let m : ℕ = body_bits s in
-      by_cases (ltb (length s) 15) (λ a. absurd (never (rw a at e))) λ a.
+      by_cases (ltb (length s) 15) (λ a. cc (rw a at e)) λ a.
       by_cases (eqb (packet_number s) segment_number) (λ b.
       by_cases (eqb (length s) (15 + (m + 7) / 8)) (λ c.
       padded_accepted segment_number (first_one (120 + m) (padding s)) (read packet (fields low) 24 (field_bits s)) l (rw (a, b, c) at e) λ v p zero q.
       rw (a, b, c, wider_read packet_widens packet_lawful fields_wider 24 (field_bits s) v tt p, zero) (ap accepted (sym q)))
-      (λ c. absurd (never (rw (a, b, c) at e))))
-      (λ b. absurd (never (rw (a, b) at e)))
+      (λ c. cc (rw (a, b, c) at e)))
+      (λ b. cc (rw (a, b) at e))
 
   pub higher_sheet : (s : List ℕ) (l : List Item) → Bytes s → from_sheet low s ≡ accepted l → from_sheet high s ≡ accepted l
   unfolding from_sheet

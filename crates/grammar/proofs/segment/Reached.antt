@@ -81,13 +81,13 @@ conforms (field k next) [] = false
 conforms (field k next) (i ∷ l) = good k i && conforms (next i.packet) l
 
 matched : (o : Option ℕ) (v : ℕ) → matches o v ≡ true → o ≡ some v
-matched none v e = absurd (let z : ◌≡◌ {A = ℕ} 0 1 = cc in omega arith)
+matched none v e = cc
 matched (some u) v e = ap (λ (n : ℕ). some n) (eqb-true u v e)
 
 pub conformed : (f : Format) (l : List Item) → conforms f l ≡ true → Conforming InSheet f l
 conformed end [] e = done
-conformed end (i ∷ l) e = absurd (let z : ◌≡◌ {A = ℕ} 0 1 = cc in omega arith)
-conformed (field k next) [] e = absurd (let z : ◌≡◌ {A = ℕ} 0 1 = cc in omega arith)
+conformed end (i ∷ l) e = cc
+conformed (field k next) [] e = cc
 conformed (field k next) (i ∷ l) e =
     let g : good k i ≡ true = and_left (good k i) (conforms (next i.packet) l) e in
     let test : Bool = matches (k.lower i.sheet) i.packet in

@@ -1,12 +1,13 @@
 // Layout of a journey's packet in bits: places of fields, from the start of their part, and lengths of parts.
 use crate::segment::layout::BODY;
+use kinds::UpTo;
 use kinds::body::{MCurrent, MSpVersion, NIter, NidC, NidSp};
 use kinds::journey::{
     DTcEndLocation, DTcStartLocation, NIterSp, NidTp, QAutomaticClosing, QCentralisedOpening,
     QDayLightSaving, QJpStatus, QLowAdhesionRate, QOpeningDoorSide, QRelaxedCoupler, QSpDir,
     QStopSkipPasses, QTcFront, QTcRange, QTcType, QTpAlignment, QTpInformation, QTrainHold,
     TArrivalWindow, TDepartureDate, TDepartureSeconds, TLatestArrivalDate, TLatestArrivalSeconds,
-    TMinimumDwellTime, VSpeedLevel,
+    TMinimumDwellTime, UnlessPassing, VSpeedLevel,
 };
 
 // Place of Q_JP_Status, the first field of the body, in bits from the packet's start.

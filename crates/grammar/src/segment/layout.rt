@@ -1,5 +1,5 @@
 // Layout of a segment's packet in bits: places of the fields before the lists, and lengths of the parts of a list.
-use kinds::{body, header};
+use kinds::{UpTo, body, header};
 
 // Bytes of a packet's header.
 pub const HEADER_BYTES: usize = 15;

@@ -12,8 +12,10 @@ returns-then-room-n c = let a = c.args in cut_completed a.n a.room.now (omega ar
 pub slice_bounds-packet-end : goal.slice_bounds-packet-end
 slice_bounds-packet-end c = let a = c.args in sym (length-take-le a.n a.room.now (omega arith))
 
-pub returns-in-Refused : goal.returns-in-Refused
-returns-in-Refused c = let a = c.args in held_completed a.n a.room.now (omega arith) (c.judge-in-Refused.ensures ∙ refused_judged a.n (take a.n a.room.now) (rw (c.in-Refused.is, c.tree_of.ensures) at c.judge_packet.ensures))
+pub returns-in-Err : goal.returns-in-Err
+returns-in-Err c =
+    let a = c.args in
+    held_completed a.n a.room.now (omega arith) (rw c.from.ensures at c.judge-in-Err.ensures ∙ refused_judged a.n (take a.n a.room.now) (rw c.tree_of.ensures at c.in-Err.ensures))
 
-pub returns-in-SheetBytes : goal.returns-in-SheetBytes
-returns-in-SheetBytes c = let a = c.args in held_completed a.n a.room.now (omega arith) (c.judge-in-SheetBytes.ensures ∙ accepted_judged a.n (take a.n a.room.now) (rw (c.in-SheetBytes.is, c.tree_of.ensures) at c.judge_packet.ensures))
+pub returns-in-Ok : goal.returns-in-Ok
+returns-in-Ok c = let a = c.args in held_completed a.n a.room.now (omega arith) (c.judge-in-Ok.ensures ∙ accepted_judged a.n (take a.n a.room.now) (rw c.tree_of.ensures at c.in-Ok.ensures))

@@ -3,10 +3,11 @@ use Rattle.std.specs.Prelude.{◌≡◌, ℕ}
 use Rattle.kinds.specs.declared.Rule.{Rule}
 use Rattle.kinds.specs.declared.Rule.TheVariants.{Range, Location, Operational, Speed, Current, Cant, Volts, After, NoCurrent}
 use Rattle.kinds.specs.Kind.{Kind, range}
+use Rattle.kinds.specs.Refusals.{refusal_number}
 use Rattle.kinds.specs.Kinds.{nid_operational, speed, nc_cd_diff, d_location, m_voltage, m_current, d_end_after, no_current}
 
 abbrev pub meaning : Rule → Kind
-meaning (Range width least largest refusal) = range width least largest refusal
+meaning (Range width least largest refusal) = range width least largest (refusal_number refusal)
 meaning (Location last lsp) = d_location last lsp
 meaning Operational = nid_operational
 meaning Speed = speed

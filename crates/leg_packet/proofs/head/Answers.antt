@@ -5,16 +5,6 @@ use lib.Dec.{lit≤, lit<}
 use Rattle.leg_packet.proofs.Parts.{head_inside, head_points, count_inside, leg_windows}
 use Rattle.leg_packet.proofs.head.Goals as goal
 
-pub read_window-nid_c-requires : goal.read_window-nid_c-requires
-read_window-nid_c-requires c =
-    let h = c.requires in
-    (lit< tt, lit≤ tt, omega (arith, head_inside c.args.packet.now h, h.reads.inside), h.reads.long)
-
-pub read_window-nid_sp-requires : goal.read_window-nid_sp-requires
-read_window-nid_sp-requires c =
-    let h = c.requires in
-    (lit< tt, lit≤ tt, omega (arith, head_inside c.args.packet.now h, h.reads.inside), h.reads.long)
-
 pub read_window-t-requires : goal.read_window-t-requires
 read_window-t-requires c =
     let h = c.requires in

@@ -19,14 +19,14 @@ returns-then-s-at t c =
 pub returns-then-b-lt128 : goal.returns-then-b-lt128
 returns-then-b-lt128 t c =
     let a = c.args in
-    rw c.wider-b.ensures (counted_last a.s.now a.at a.left (omega arith) (omega arith) (omega arith))
+    rw c.from-b.ensures (counted_last a.s.now a.at a.left (omega arith) (omega arith) (omega arith))
 
 pub join-requires : goal.join-requires
 join-requires t c =
     let a = c.args in
     let s = a.s.now in (
       omega arith,
-      omega (arith, c.wider-b.ensures, c.type_inv.s a.at),
+      omega (arith, c.from-b.ensures, c.type_inv.s a.at),
       rw (c.read_number.ensures, whole_part s) (counted_most (number_of (a.left - 1) (drop (a.at + 1) s)) (number_below (a.left - 1) (drop (a.at + 1) s))),
     )
 
@@ -35,6 +35,6 @@ returns t c =
     let a = c.args in
     let s = a.s.now in
     let n = number_of (a.left - 1) (drop (a.at + 1) s) in
-    let b = c.wider-b.ensures in
+    let b = c.from-b.ensures in
     c.join.ensures.of n (number_below (a.left - 1) (drop (a.at + 1) s)) (rw (whole_part s) at c.read_number.ensures)
     ∙ rw b (ap counted (number_more s a.at a.left (omega arith) (omega arith) (omega arith)))

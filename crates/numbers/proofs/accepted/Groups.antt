@@ -8,27 +8,26 @@ use borrow.Author.Tests.{ltb-true, ltb-false}
 use lib.Dec.{ltb}
 use lib.ListN.{length, drop, get_or}
 use Rattle.bits.proofs.Tests.{by_cases}
-use Rattle.numbers.specs.declared.Number.{Number}
-use Rattle.numbers.specs.declared.Number.TheVariants.{Value, Bad}
+use Rattle.std.specs.Prelude.{Some, None, Option}
 use Rattle.numbers.specs.Numbers.{joined, groups_at, below, number_of, number_in, groups_in}
 use Rattle.numbers.specs.internal.accepted.Accepted.{There, Reads}
 use Rattle.numbers.proofs.Counting.{last_count, count_more}
 use Rattle.numbers.proofs.Reading.{number_none, number_end_lem, number_last, number_more}
 
-bad : {C : Type 0} {v : ℕ} → Bad ≡ Value v → C
+bad : {C : Type 0} {v : ℕ} → None ≡ Some v → C
 bad e = absurd (let z : ◌≡◌ {A = ℕ} 0 1 = cc in omega arith)
 
-below_is : {C : Type 0} (n : Number) (v : ℕ) → below n ≡ Value v → (n ≡ Value v → v < 2 ^ 32 → C) → C
-below_is Bad v e f = absurd (let z : ◌≡◌ {A = ℕ} 0 1 = cc in omega arith)
-below_is (Value n) v e f =
+below_is : {C : Type 0} (n : Option ℕ) (v : ℕ) → below n ≡ Some v → (n ≡ Some v → v < 2 ^ 32 → C) → C
+below_is None v e f = absurd (let z : ◌≡◌ {A = ℕ} 0 1 = cc in omega arith)
+below_is (Some n) v e f =
     by_cases (ltb n 4294967296)
-    (λ d. let g : Value n ≡ Value v = rw d at e in let q : n ≡ v = cc in f g (omega (arith, ltb-true n 4294967296 d)))
-    (λ d. let g : Bad ≡ Value v = rw d at e in absurd (let z : ◌≡◌ {A = ℕ} 0 1 = cc in omega arith))
+    (λ d. let g : Some n ≡ Some v = rw d at e in let q : n ≡ v = cc in f g (omega (arith, ltb-true n 4294967296 d)))
+    (λ d. let g : None ≡ Some v = rw d at e in absurd (let z : ◌≡◌ {A = ℕ} 0 1 = cc in omega arith))
 
-joined_is : {C : Type 0} (b : ℕ) (n : Number) (v : ℕ) → joined b n ≡ Value v → ((u : ℕ) → n ≡ Value (suc u) → v ≡ b - 128 + 128 * suc u → C) → C
-joined_is b Bad v e f = absurd (let z : ◌≡◌ {A = ℕ} 0 1 = cc in omega arith)
-joined_is b (Value zero) v e f = absurd (let z : ◌≡◌ {A = ℕ} 0 1 = cc in omega arith)
-joined_is b (Value (suc u)) v e f = f u refl (cc)
+joined_is : {C : Type 0} (b : ℕ) (n : Option ℕ) (v : ℕ) → joined b n ≡ Some v → ((u : ℕ) → n ≡ Some (suc u) → v ≡ b - 128 + 128 * suc u → C) → C
+joined_is b None v e f = absurd (let z : ◌≡◌ {A = ℕ} 0 1 = cc in omega arith)
+joined_is b (Some zero) v e f = absurd (let z : ◌≡◌ {A = ℕ} 0 1 = cc in omega arith)
+joined_is b (Some (suc u)) v e f = f u refl (cc)
 
 spread : (value scale c u : ℕ) → value + scale * (c + 128 * u) ≡ value + c * scale + scale * 128 * u
 spread value scale c u = rw (mul-add scale c (128 * u), mul_comm c scale, mul_assoc scale 128 u) (omega arith)
@@ -36,39 +35,51 @@ spread value scale c u = rw (mul-add scale c (128 * u), mul_comm c scale, mul_as
 -- The rest of the number v at a place, with the group b in front: the value of the groups before it, and what a group here counts.
 pub record Rest (s : List ℕ) (from at value scale b : ℕ) : Type 0 where
   pub v : ℕ
-  pub whole : number_in (drop from s) ≡ Value v
+  pub whole : number_in (drop from s) ≡ Some v
   pub small : v < 2 ^ 32
   pub most : ℕ
+  pub left : most + at ≡ from + 5
   pub rest : ℕ
-  pub is : number_of most (drop at s) ≡ Value rest
+  pub is : number_of most (drop at s) ≡ Some rest
   pub parts : v ≡ value + scale * rest
   pub place : at + length (groups_in rest) ≡ from + length (groups_in v)
   pub group : b ≡ get_or s at 0
   pub byte : b < 256
 
-inside : (s : List ℕ) (at most v : ℕ) → number_of most (drop at s) ≡ Value v → at < length s
+pos : {n : ℕ} → (n ≡ 0 → ⊥) → 0 < n
+pos z = omega arith
+
+inside : (s : List ℕ) (at most v : ℕ) → number_of most (drop at s) ≡ Some v → at < length s
 inside s at most v e = by_cases (ltb at (length s)) (λ d. ltb-true at (length s) d) (λ d. bad (number_end_lem s at most (ltb-false at (length s) d) ∙ e))
 
 pub there_inside : {s : List ℕ} {at : ℕ} → There s at → at < length s
 unfolding number_of
 there_inside {s} {at} t = inside s at 5 t.value t.is
 
-pub rest_start : (s : List ℕ) (at v b : ℕ) → number_in (drop at s) ≡ Value v → b ≡ get_or s at 0 → b < 256 → Rest s at at 0 1 b
+pub rest_start : (s : List ℕ) (at v b : ℕ) → number_in (drop at s) ≡ Some v → b ≡ get_or s at 0 → b < 256 → Rest s at at 0 1 b
 unfolding number_of
 rest_start s at v b e g h =
     below_is (groups_at 5 (drop at s)) v e λ _ l.
-    record { v = v; whole = e; small = l; most = 5; rest = v; is = e; parts = omega arith; place = refl; group = g; byte = h }
+    record { v = v; whole = e; small = l; most = 5; left = omega arith; rest = v; is = e; parts = omega arith; place = refl; group = g; byte = h }
+
+-- the group as the code reads it
+pub rest_group : {s : List ℕ} {from at value scale b : ℕ} → Rest s from at value scale (get_or s at 0) → b ≡ get_or s at 0 → Rest s from at value scale b
+rest_group r e = rw e r
 
 module _ {s : List ℕ} {from at value scale b : ℕ} (r : Rest s from at value scale b) where
   some : r.most ≡ 0 → ⊥
   some z = bad (number_none s at r.most z ∙ r.is)
+
+  -- "a number has at most five groups"
+  pub rest_few : at < from + 5
+  rest_few = omega (arith, r.left, pos some)
 
   pub rest_inside : at < length s
   rest_inside = inside s at r.most r.rest r.is
 
   pub rest_last : b < 128 → (r.v ≡ value + b * scale) × (at + 1 ≡ from + length (groups_in r.v))
   rest_last h =
-      let e : Value b ≡ Value r.rest = rw r.group (number_last s at r.most some rest_inside (rw r.group at h) ∙ r.is) in
+      let e : Some b ≡ Some r.rest = rw r.group (number_last s at r.most some rest_inside (rw r.group at h) ∙ r.is) in
       let q : r.rest ≡ b = cc in
       (rw (← mul_comm scale b) (rw q at r.parts), omega (arith, rw q at r.place, last_count b h))
 
@@ -77,7 +88,7 @@ module _ {s : List ℕ} {from at value scale b : ℕ} (r : Rest s from at value 
 
   module _ (h : 128 ≤ b) where
     -- what follows the group
-    after : {C : Type 0} → ((u : ℕ) → number_of (r.most - 1) (drop (at + 1) s) ≡ Value (suc u) → r.rest ≡ b - 128 + 128 * suc u → r.rest < 2 ^ 32 → C) → C
+    after : {C : Type 0} → ((u : ℕ) → number_of (r.most - 1) (drop (at + 1) s) ≡ Some (suc u) → r.rest ≡ b - 128 + 128 * suc u → r.rest < 2 ^ 32 → C) → C
     after f =
         let e = rw (← r.group) at (number_more s at r.most some rest_inside (rw r.group at h)) in
         below_is (joined b (number_of (r.most - 1) (drop (at + 1) s))) r.rest (e ∙ r.is) λ d l.
@@ -100,6 +111,7 @@ module _ {s : List ℕ} {from at value scale b : ℕ} (r : Rest s from at value 
           whole = r.whole;
           small = r.small;
           most = r.most - 1;
+          left = omega (arith, r.left, pos some);
           rest = suc u;
           is = n;
           parts = rw q at r.parts ∙ spread value scale (b - 128) (suc u);
@@ -116,7 +128,7 @@ module _ {s : List ℕ} {from b : ℕ} (t : There s from) (g : b ≡ get_or s fr
   -- a number below 128 is its byte
   pub single_reads : t.value < 128 → Reads s from (record { value = b; next = from + 1 })
   single_reads k =
-      let e : Value start.v ≡ Value t.value = sym start.whole ∙ t.is in
+      let e : Some start.v ≡ Some t.value = sym start.whole ∙ t.is in
       let q : start.v ≡ t.value = cc in
       by_cases (ltb b 128)
       (λ d. let w = rest_last start (ltb-true b 128 d) in rest_reads start (omega (arith, w.0)) (omega (arith, w.1)))

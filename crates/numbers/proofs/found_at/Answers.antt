@@ -5,41 +5,22 @@ use lib.ListN.{drop}
 use Rattle.bits.proofs.Cells.{whole_part}
 use Rattle.numbers.specs.Numbers.{number_in}
 use Rattle.numbers.specs.internal.Groups.{counted, found}
-use Rattle.numbers.proofs.Reading.{number_end_lem, number_below, short_product, short_value, counted_short, found_is}
+use Rattle.numbers.proofs.Reading.{number_end_lem, number_below, counted_short, found_is}
 use native.Mathlib.Omega.{arith}
 use Rattle.numbers.proofs.found_at.Goals as goal
 
 pub returns-then-s-at : goal.returns-then-s-at
 returns-then-s-at c = let a = c.args in ap found (number_end_lem a.s.now a.at 5 c.if-s-at.true)
 
-pub overflow_mul-high : goal.overflow_mul-high
-overflow_mul-high c =
-    let a = c.args in
-    omega (arith, short_product c.wider.result c.wider-b.result (omega (arith, c.wider.ensures, c.type_inv.s (a.at + 1))) (omega (arith, c.wider-b.ensures, c.type_inv.s a.at)))
-
-pub overflow_mul-result : goal.overflow_mul-result
-overflow_mul-result c = omega (arith, short_value c.wider-b.result (c.wider.result * (c.wider-b.result / 128)) c.if-high-lt128.true)
-
-pub overflow_add-result : goal.overflow_add-result
-overflow_add-result c = omega (arith, short_value c.wider-b.result (c.wider.result * (c.wider-b.result / 128)) c.if-high-lt128.true)
-
-pub overflow_cast-result : goal.overflow_cast-result
-overflow_cast-result c = omega (arith, short_value c.wider-b.result (c.wider.result * (c.wider-b.result / 128)) c.if-high-lt128.true)
-
-pub overflow_cast-result-then-high-lt128 : goal.overflow_cast-result-then-high-lt128
-overflow_cast-result-then-high-lt128 c =
-    let a = c.args in
-    omega (arith, c.wider-b.ensures, c.type_inv.s a.at)
-
 pub returns-then-high-lt128 : goal.returns-then-high-lt128
 returns-then-high-lt128 c =
     let a = c.args in
-    let w = c.wider-b in
-    let high : ℕ = c.wider.result * (w.result / 128) in
+    let w = c.from-b in
+    let high : ℕ = c.from.result * (w.result / 128) in
     let few = c.if-high-lt128.true in
-    found_is (number_in (drop a.at a.s.now)) (number_below 5 (drop a.at a.s.now)) (w.result % 128 + 128 * high) (1 + w.result / 128) (omega (arith, short_value w.result high few))
+    found_is (number_in (drop a.at a.s.now)) (number_below 5 (drop a.at a.s.now)) (w.result % 128 + 128 * high) (1 + w.result / 128) (omega arith)
     (counted_short a.s.now a.at c.if-at-s.true w.result (w.result / 128) high w.ensures (omega (arith, w.ensures, c.type_inv.s a.at))
-    refl (ap (λ (x : ℕ). x * (w.result / 128)) c.wider.ensures) c.if-more-high.true few)
+    refl (ap (λ (x : ℕ). x * (w.result / 128)) c.from.ensures) c.if-more-high.true few)
 
 pub returns : goal.returns
 returns c =

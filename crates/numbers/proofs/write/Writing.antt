@@ -1,6 +1,5 @@
 -- The loop that writes a number: what is written, and what is left to write from the place i on, make the whole number.
 use mathlib.Core.Path.{◌≡◌, refl, sym, ap, ◌∙◌}
-use mathlib.Core.Bool.{Bool, true, false}
 use mathlib.Core.List.{List, [], ◌∷◌}
 use Prim.Native.Nat.{ℕ, suc, ◌+◌, ◌*◌, ◌-◌, ◌/◌, ◌%◌, ◌^◌, ◌≤◌, ◌<◌}
 use native.Mathlib.Nat.{lt_of_not-le}
@@ -8,13 +7,13 @@ use native.Mathlib.Numerals.{add-one}
 use native.Mathlib.Omega.{arith}
 use borrow.Author.Tests.{leb-true, leb-false}
 use mir.Val.{bool_byte}
-use lib.Dec.{leb, lit≤}
+use lib.Dec.{leb}
 use lib.ListN.{length, set, length-set}
 use lib.Seq.{sets, set-set, set_comm}
 use Rattle.bits.proofs.Tests.{by_cases}
 use Rattle.numbers.specs.Numbers.{groups_of, groups_in}
 use Rattle.numbers.specs.internal.Groups.{Put, put_number}
-use Rattle.numbers.proofs.Counting.{last_group, more_groups, fewer, some_group}
+use Rattle.numbers.proofs.Counting.{last_group, more_groups, fewer}
 
 not_one : (g x : ℕ) → g ≡ 0 → 128 ≤ x → x < 128 ^ suc g → ⊥
 not_one g x e h l = let l' : x < 128 ^ 1 = rw e at l in omega arith
@@ -53,21 +52,7 @@ module _ {s₀ : List ℕ} {at v : ℕ} {s : List ℕ} {x i : ℕ} (r : Rest s�
         bytes = rw (e, add-one i, b) (ap (sets s i) (sym g) ∙ r.bytes);
       }
 
-  pub rest_room : at + length (groups_in v) ≤ length s₀ → i < length s
-  rest_room h = omega (arith, r.next, r.long, some_group (at + 4 - i) x, ap (λ (k : ℕ). length (groups_of k x)) shape)
-
-  pub rest_last : x < 128 → ◌≡◌ {A = Put} (record { next = i + 1; bytes = set s i x }) (put_number s₀ at v)
-  rest_last h =
-      let g : groups_of (at + 5 - i) x ≡ x ∷ [] = rw shape (last_group (at + 4 - i) x h) in
-      let n : i + 1 ≡ at + length (groups_in v) = omega (arith, r.next, ap length g) in
-      let b : set s i x ≡ sets s₀ at (groups_in v) = ap (sets s i) (sym g) ∙ r.bytes in
-      λ j. record { next = n j; bytes = b j }
-
 -- ---- a number of at most two groups
-
-pub bit_small : (b : Bool) → bool_byte b ≤ 1
-bit_small true = lit≤ tt
-bit_small false = lit≤ tt
 
 module _ (s : List ℕ) (at v : ℕ) (h : v < 16384) where
   -- what is written of a number that has 1 + m groups

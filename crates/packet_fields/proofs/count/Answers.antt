@@ -3,11 +3,8 @@ use native.Mathlib.Omega.{arith}
 use mathlib.Core.Path.{refl}
 use lib.Dec.{lit≤}
 use Rattle.kinds.specs.Kinds.{n_iter}
-use Rattle.packet_fields.proofs.Steps.{took_short, took_none, took_some}
+use Rattle.packet_fields.proofs.Steps.{took_none, took_some}
 use Rattle.packet_fields.proofs.count.Goals as goal
-
-pub returns-then-stop-at-lt-COUNT : goal.returns-then-stop-at-lt-COUNT
-returns-then-stop-at-lt-COUNT c = let a = c.args in took_short a.s.now a.stop (n_iter a.limit) 5 refl c.requires.0 (omega arith)
 
 pub returns-then-bytes-eq0 : goal.returns-then-bytes-eq0
 returns-then-bytes-eq0 c =

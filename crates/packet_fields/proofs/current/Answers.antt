@@ -3,11 +3,8 @@ use native.Mathlib.Omega.{arith}
 use mathlib.Core.Path.{refl}
 use lib.Dec.{lit≤}
 use Rattle.kinds.specs.Kinds.{m_current}
-use Rattle.packet_fields.proofs.Steps.{took_short, took_none, took_some, past, past_off}
+use Rattle.packet_fields.proofs.Steps.{took_none, took_some, past, past_off}
 use Rattle.packet_fields.proofs.current.Goals as goal
-
-pub returns-then-stop-at-lt-CURRENT : goal.returns-then-stop-at-lt-CURRENT
-returns-then-stop-at-lt-CURRENT c = let a = c.args in past_off a.s.now a.stop (took_short a.s.now a.stop m_current 10 refl c.requires (omega arith))
 
 pub returns-then-bytes-eq0 : goal.returns-then-bytes-eq0
 returns-then-bytes-eq0 c =

@@ -1,14 +1,9 @@
 -- `packet_fields::field` meets its contract.
 use native.Mathlib.Omega.{arith}
-use mathlib.Core.Path.{refl, sym}
+use mathlib.Core.Path.{sym}
 use Rattle.kinds.specs.internal.Rules.{meaning}
-use Rattle.packet_fields.proofs.Steps.{took_short, took_none, took_some}
+use Rattle.packet_fields.proofs.Steps.{took_none, took_some}
 use Rattle.packet_fields.proofs.field.Goals as goal
-
-pub returns-then-stop-at : goal.returns-then-stop-at
-returns-then-stop-at c =
-    let a = c.args in
-    took_short a.s.now a.stop (meaning a.rule) _ refl c.requires.0 (omega (arith, c.width-width.ensures))
 
 pub returns-then-bytes-eq0 : goal.returns-then-bytes-eq0
 returns-then-bytes-eq0 c =

@@ -3,11 +3,8 @@ use native.Mathlib.Omega.{arith}
 use mathlib.Core.Path.{refl}
 use lib.Dec.{lit≤}
 use Rattle.kinds.specs.Kinds.{d_location}
-use Rattle.packet_fields.proofs.Steps.{took_short, took_none, took_some}
+use Rattle.packet_fields.proofs.Steps.{took_none, took_some}
 use Rattle.packet_fields.proofs.location.Goals as goal
-
-pub returns-then-stop-at-lt-LOCATION : goal.returns-then-stop-at-lt-LOCATION
-returns-then-stop-at-lt-LOCATION c = let a = c.args in took_short a.s.now a.stop (d_location a.last a.lsp) 24 refl c.requires (omega arith)
 
 pub returns-then-bytes-eq0 : goal.returns-then-bytes-eq0
 returns-then-bytes-eq0 c =

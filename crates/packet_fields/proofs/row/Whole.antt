@@ -17,9 +17,8 @@ use Rattle.fields.proofs.size.Bytes as counts
 use Rattle.format.specs.Format.{Format, field, then}
 use Rattle.format.proofs.Ways.{over_on, over_off}
 use Rattle.grammar.specs.internal.rows.Rows.{row, fits}
-use Rattle.packet_fields.specs.declared.PacketStep.TheVariants.{On, Refused}
-use Rattle.packet_fields.specs.declared.PacketValue.TheVariants as PacketValue
-use Rattle.packet_fields.specs.internal.Judging.{verdict_at, Standing, Over, Took}
+use Rattle.format.specs.internal.Ways.{Went, Got, Over, Took}
+use Rattle.packet_fields.specs.internal.Judging.{judge, verdict_at, Standing}
 use Rattle.packet_fields.proofs.Steps.{took_none, took_some, past, past_off}
 use Rattle.packet_fields.specs.internal.row.Values.{within, groups_all, row_bytes}
 use Rattle.packet_fields.proofs.row.Rows.{fits_first, fits_rest}
@@ -28,10 +27,10 @@ module _ (s : List ℕ) (stop : ℕ) where
   -- ---- one field
 
   module _ (w m : ℕ) {at n : ℕ} (some : 1 ≤ w) (h : Standing s stop at n) (room : w ≤ stop - at) where
-    field_in : leb (field_at s at w) m ≡ true → Took (up_to w m) s stop at n (PacketValue.Is (field_at s at w) (at + w) (n + length (groups_in (field_at s at w))))
+    field_in : leb (field_at s at w) m ≡ true → Took (judge s stop) (up_to w m) at n (Got.is (field_at s at w) (at + w) (n + length (groups_in (field_at s at w))))
     field_in e = took_some s stop (up_to w m) w refl h some room refl (counts.bytes_some (up_to w m) (field_at s at w) (counts.both_in 0 m (field_at s at w) (omega arith) (leb-true (field_at s at w) m e)) refl) (λ z. omega (arith, z, count_some (field_at s at w)))
 
-    field_out : leb (field_at s at w) m ≡ false → Took (up_to w m) s stop at n (PacketValue.Refused 4 at)
+    field_out : leb (field_at s at w) m ≡ false → Took (judge s stop) (up_to w m) at n (Got.off 4 at)
     field_out e = took_none s stop (up_to w m) w refl h some room refl (counts.bytes_none (up_to w m) (field_at s at w) (counts.high_out 0 m (field_at s at w) (leb-false (field_at s at w) m e))) refl
 
     -- what follows the field may as well be what follows its value
@@ -45,11 +44,11 @@ module _ (s : List ℕ) (stop : ℕ) where
 
   -- the first field of a row, and the others
   module _ (w m : ℕ) (ws ms : List ℕ) (e : fits (w ∷ ws) (m ∷ ms) ≡ true) {at n : ℕ} (h : Standing s stop at n) (room : w + bits_in ws ≤ stop - at) where
-    first_in : leb (field_at s at w) m ≡ true → Took (up_to w m) s stop at n (PacketValue.Is (field_at s at w) (at + w) (n + length (groups_in (field_at s at w))))
+    first_in : leb (field_at s at w) m ≡ true → Took (judge s stop) (up_to w m) at n (Got.is (field_at s at w) (at + w) (n + length (groups_in (field_at s at w))))
     first_in i = field_in w m (fits_first w m ws ms e).some h (omega arith) i
 
-    on : leb (field_at s at w) m ≡ true → Over (row ws ms) s stop (at + w) (n + length (groups_in (field_at s at w))) (On (at + w + bits_in ws) (n + length (groups_in (field_at s at w)) + groups_all (fields_at s (at + w) ws)))
-        → Over (row (w ∷ ws) (m ∷ ms)) s stop at n (On (at + (w + bits_in ws)) (n + (length (groups_in (field_at s at w)) + groups_all (fields_at s (at + w) ws))))
+    on : leb (field_at s at w) m ≡ true → Over (judge s stop) (row ws ms) (at + w) (n + length (groups_in (field_at s at w))) (Went.on (at + w + bits_in ws) (n + length (groups_in (field_at s at w)) + groups_all (fields_at s (at + w) ws)))
+        → Over (judge s stop) (row (w ∷ ws) (m ∷ ms)) at n (Went.on (at + (w + bits_in ws)) (n + (length (groups_in (field_at s at w)) + groups_all (fields_at s (at + w) ws))))
     unfolding row
     on i o =
         let p : at + w + bits_in ws ≡ at + (w + bits_in ws) = omega arith in
@@ -57,17 +56,17 @@ module _ (s : List ℕ) (stop : ℕ) where
         let r = over_on (past s stop (first_in i)) o in
         rw (← p, ← q) (record { goes = r.goes; stands = r.stands })
 
-    off : leb (field_at s at w) m ≡ true → {place : ℕ} → Over (row ws ms) s stop (at + w) (n + length (groups_in (field_at s at w))) (Refused 4 place)
-        → Over (row (w ∷ ws) (m ∷ ms)) s stop at n (Refused 4 place)
+    off : leb (field_at s at w) m ≡ true → {place : ℕ} → Over (judge s stop) (row ws ms) (at + w) (n + length (groups_in (field_at s at w))) (Went.off 4 place)
+        → Over (judge s stop) (row (w ∷ ws) (m ∷ ms)) at n (Went.off 4 place)
     unfolding row
     off i o = let r = over_on (past s stop (first_in i)) o in record { goes = r.goes; stands = r.stands }
 
-    first_off : leb (field_at s at w) m ≡ false → Over (row (w ∷ ws) (m ∷ ms)) s stop at n (Refused 4 at)
+    first_off : leb (field_at s at w) m ≡ false → Over (judge s stop) (row (w ∷ ws) (m ∷ ms)) at n (Went.off 4 at)
     unfolding row
     first_off i = let r = over_off {q = row ws ms} (past_off s stop (field_out w m (fits_first w m ws ms e).some h (omega arith) i)) in record { goes = r.goes; stands = r.stands }
 
   pub row_in : (ws ms : List ℕ) → fits ws ms ≡ true → {at n : ℕ} → Standing s stop at n → bits_in ws ≤ stop - at → within ms (fields_at s at ws) ≡ true
-      → Over (row ws ms) s stop at n (On (at + bits_in ws) (n + groups_all (fields_at s at ws)))
+      → Over (judge s stop) (row ws ms) at n (Went.on (at + bits_in ws) (n + groups_all (fields_at s at ws)))
   unfolding row
   row_in [] ms e {at} {n} h room i = let p : at + 0 ≡ at = omega arith in let q : n + 0 ≡ n = omega arith in rw (p, q) (record { goes = λ f. refl; stands = h })
   row_in (w ∷ ws) [] e h room i = absurd (let z : ◌≡◌ {A = ℕ} 0 1 = cc in omega arith)
@@ -77,7 +76,7 @@ module _ (s : List ℕ) (stop : ℕ) where
 
   -- a row that is refused at one of its fields
   row_out : (ws ms : List ℕ) → fits ws ms ≡ true → {at n : ℕ} → Standing s stop at n → bits_in ws ≤ stop - at → within ms (fields_at s at ws) ≡ false
-      → (place : ℕ) × Over (row ws ms) s stop at n (Refused 4 place)
+      → (place : ℕ) × Over (judge s stop) (row ws ms) at n (Went.off 4 place)
   row_out [] ms e h room i = absurd (let z : ◌≡◌ {A = ℕ} 0 1 = cc in omega arith)
   row_out (w ∷ ws) [] e h room i = absurd (let z : ◌≡◌ {A = ℕ} 0 1 = cc in omega arith)
   row_out (w ∷ ws) (m ∷ ms) e {at} h room i =
@@ -89,7 +88,7 @@ module _ (s : List ℕ) (stop : ℕ) where
 
   module _ (w m : ℕ) (ws ms : List ℕ) (e : fits (w ∷ ws) (m ∷ ms) ≡ true) {at n r : ℕ} (h : Standing s stop at n) (room : bits_in (w ∷ ws) ≤ stop - at)
       (er : r ≡ row_bytes (m ∷ ms) (fields_at s at (w ∷ ws))) where
-    pub bytes_some : (r ≡ 0 → ⊥) → Over (row (w ∷ ws) (m ∷ ms)) s stop at n (On (at + bits_in (w ∷ ws)) (n + r))
+    pub bytes_some : (r ≡ 0 → ⊥) → Over (judge s stop) (row (w ∷ ws) (m ∷ ms)) at n (Went.on (at + bits_in (w ∷ ws)) (n + r))
     bytes_some z =
         by_cases (within (m ∷ ms) (fields_at s at (w ∷ ws)))
         (λ i. let q : r ≡ groups_all (fields_at s at (w ∷ ws)) = er ∙ rw i in rw q (row_in (w ∷ ws) (m ∷ ms) e h room i))

@@ -1,28 +1,19 @@
 -- `packet_journey::body` meets its contract.
-use lib.Dec.{lit≤}
 use Rattle.format.specs.Format.{times}
 use Rattle.format.proofs.Ways.{over_on, over_off, value_on, value_off}
+use Rattle.verdict.proofs.Exits.{exit}
 use Rattle.grammar.specs.journey.Journey.{journey_segment, constraints}
 use Rattle.packet_journey.proofs.body.Goals as goal
 
-pub plain-requires : goal.plain-requires
-plain-requires c = (c.requires, rw c.rule.ensures.kind (record { some = lit≤ tt; most = lit≤ tt }))
+pub returns-in_err-count : goal.returns-in_err-count
+returns-in_err-count c = rw (exit c.from_residual.ensures.1) (over_off (rw c.rule.ensures.kind at c.in_err-count.ensures))
 
-pub field-requires : goal.field-requires
-field-requires c = ((rw c.in-On.is at c.plain.ensures).stands, rw c.rule-in-On.ensures.kind (record { some = lit≤ tt; most = lit≤ tt }))
+pub returns-in_err-segment_count : goal.returns-in_err-segment_count
+returns-in_err-segment_count c =
+    rw (exit c.from_residual-in_err-segment_count.ensures.1)
+    (over_on (rw c.rule.ensures.kind at c.in_ok-count.ensures) (value_off (times (journey_segment constraints)) (rw c.rule-2.ensures.kind at c.in_err-segment_count.ensures)))
 
-pub segments-requires : goal.segments-requires
-segments-requires c = (rw c.in-Is.is at c.field.ensures).stands
-
-pub returns-in-Refused : goal.returns-in-Refused
-returns-in-Refused c = over_off (rw (c.in-Refused.is, c.rule.ensures.kind) at c.plain.ensures)
-
-pub returns-in-Refused-field : goal.returns-in-Refused-field
-returns-in-Refused-field c =
-    over_on (rw (c.in-On.is, c.rule.ensures.kind) at c.plain.ensures)
-    (value_off (times (journey_segment constraints)) (rw (c.in-Refused-field.is, c.rule-in-On.ensures.kind) at c.field.ensures))
-
-pub returns-in-Is : goal.returns-in-Is
-returns-in-Is c =
-    over_on (rw (c.in-On.is, c.rule.ensures.kind) at c.plain.ensures)
-    (value_on (times (journey_segment constraints)) (rw (c.in-Is.is, c.rule-in-On.ensures.kind) at c.field.ensures) c.segments.ensures)
+pub returns : goal.returns
+returns c =
+    over_on (rw c.rule.ensures.kind at c.in_ok-count.ensures)
+    (value_on (times (journey_segment constraints)) (rw c.rule-2.ensures.kind at c.in_ok-segment_count.ensures) c.segments.ensures)

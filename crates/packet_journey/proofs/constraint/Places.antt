@@ -15,9 +15,8 @@ use Rattle.grammar.specs.journey.Journey as journey
 use Rattle.grammar.specs.journey.Journey.{temporary_constraint}
 use Rattle.grammar.specs.internal.journey.Parts.{after_type, after_range}
 use Rattle.grammar.proofs.journey.Tree.{end_width, level_width}
-use Rattle.packet_fields.specs.declared.PacketStep.TheVariants.{On}
-use Rattle.packet_fields.specs.declared.PacketValue.TheVariants as PacketValue
-use Rattle.packet_fields.specs.internal.Judging.{Standing, Over, Took}
+use Rattle.format.specs.internal.Ways.{Went, Got, Over, Took}
+use Rattle.packet_fields.specs.internal.Judging.{judge, Standing}
 use Rattle.packet_fields.proofs.Steps.{took_some, past}
 use Rattle.packet_journey.specs.internal.constraint_bytes.Bytes.{bytes_in, both, stretch_bytes, restriction_bytes}
 use Rattle.packet_journey.proofs.constraint_bytes.Both.{some_both}
@@ -36,7 +35,7 @@ module _ (s : List ℕ) (stop : ℕ) where
 
   module _ (range start end : ℕ) {at n : ℕ} (h : Standing s stop at n) (room : 48 ≤ stop - at) (es : start ≡ field_at s at 24) (ee : end ≡ field_at s (at + 24) 24)
       {a : ℕ} (ea : a ≡ stretch_bytes range start end) (some : a ≡ 0 → ⊥) where
-    stretch_on : Over (journey.stretch range) s stop at n (On (at + 48) (n + a))
+    stretch_on : Over (judge s stop) (journey.stretch range) at n (Went.on (at + 48) (n + a))
     stretch_on =
         let x : ℕ = bytes_in (d_tc_start_location range) start in
         let y : ℕ = bytes_in (d_tc_end_location range start) end in
@@ -52,7 +51,7 @@ module _ (s : List ℕ) (stop : ℕ) where
     uses : low_parts (1 ∷ 7 ∷ 3 ∷ 10 ∷ []) t ≡ fields_at s at (1 ∷ 7 ∷ 3 ∷ 10 ∷ [])
     uses = low_parts_at s at (1 ∷ 7 ∷ 3 ∷ 10 ∷ []) et (omega (arith, h.inside, h.before))
 
-    restriction_on : Over (journey.restriction type) s stop at n (On (at + 21) (n + a))
+    restriction_on : Over (judge s stop) (journey.restriction type) at n (Went.on (at + 21) (n + a))
     restriction_on =
         let w : ℕ = bytes_in (q_tc_front type) (t / 1048576 % 2) in
         let x : ℕ = bytes_in (v_speed_level type) (t / 8192 % 128) in
@@ -75,10 +74,10 @@ module _ (s : List ℕ) (stop : ℕ) where
     starts : parts (2 ∷ 2 ∷ 24 ∷ []) t ≡ fields_at s at (2 ∷ 2 ∷ 24 ∷ [])
     starts = parts_at s at (2 ∷ 2 ∷ 24 ∷ []) et (omega (arith, h.inside, h.before))
 
-    type_took : Took q_tc_type s stop at n (PacketValue.Is (t / 67108864) (at + 2) (n + 1))
+    type_took : Took (judge s stop) q_tc_type at n (Got.is (t / 67108864) (at + 2) (n + 1))
     type_took = took_some s stop q_tc_type 2 refl h (lit≤ tt) (omega arith) (part starts 0) (one_in 2 3 (t / 67108864) (omega (arith, window_small s at 28 et)) (omega (arith, window_small s at 28 et))) (λ z. omega arith)
 
-    range_took : Took q_tc_range s stop (at + 2) (n + 1) (PacketValue.Is (t / 16777216 % 4) (at + 4) (n + 2))
+    range_took : Took (judge s stop) q_tc_range (at + 2) (n + 1) (Got.is (t / 16777216 % 4) (at + 4) (n + 2))
     range_took =
         let p : at + 2 + 2 ≡ at + 4 = omega arith in
         let q : n + 1 + 1 ≡ n + 2 = omega arith in
@@ -87,7 +86,7 @@ module _ (s : List ℕ) (stop : ℕ) where
     pub constraint_small : a + b ≤ 30
     constraint_small = omega (arith, ea, stretch_most (t % 16777216) end (t / 16777216 % 4), eb, restriction_most uses (t / 67108864))
 
-    pub constraint_on : (a ≡ 0 → ⊥) → (b ≡ 0 → ⊥) → Over temporary_constraint s stop at n (On (at + 73) (n + (a + b + 2)))
+    pub constraint_on : (a ≡ 0 → ⊥) → (b ≡ 0 → ⊥) → Over (judge s stop) temporary_constraint at n (Went.on (at + 73) (n + (a + b + 2)))
     constraint_on za zb =
         let e : at + 28 ≡ at + 4 + 24 = omega arith in
         let f : at + 52 ≡ at + 4 + 48 = omega arith in

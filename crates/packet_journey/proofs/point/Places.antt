@@ -15,16 +15,14 @@ use Rattle.bits.proofs.Windows.{read_window, low_parts_at, fields_join}
 use Rattle.numbers.specs.Numbers.{groups_in}
 use Rattle.numbers.proofs.Counting.{count_some, count_five}
 use Rattle.format.specs.Format.{Format}
-use Rattle.format.specs.internal.Ways as ways
-use Rattle.format.specs.internal.Ways.{Went}
+use Rattle.format.specs.internal.Ways.{Went, Over}
 use Rattle.format.proofs.Ways.{over_on}
 use Rattle.grammar.specs.internal.rows.Rows.{row, fits}
 use Rattle.kinds.specs.journey.Kinds.{most_at}
 use Rattle.grammar.specs.journey.Journey.{timing_point}
 use Rattle.grammar.specs.internal.journey.Parts.{arrival_widths, arrival_most, stopping_widths, stopping_most}
 use Rattle.grammar.proofs.journey.Parts.{point_rows_lem, arrival_fits}
-use Rattle.packet_fields.specs.declared.PacketStep.TheVariants.{On}
-use Rattle.packet_fields.specs.internal.Judging.{verdict_at, judge, Standing, Over}
+use Rattle.packet_fields.specs.internal.Judging.{verdict_at, judge, Standing}
 use Rattle.packet_fields.specs.internal.row.Values.{within, groups_all, row_bytes}
 use Rattle.packet_fields.proofs.row.Whole.{bytes_some, row_known}
 use Rattle.packet_journey.specs.internal.point_bytes.Windows.{latest_widths, latest_most, marks_widths, marks_most, doors_widths, leaving_widths, eight_most}
@@ -65,7 +63,7 @@ module _ (s : List ℕ) (stop : ℕ) {at n : ℕ} (h : Standing s stop at n) (ro
       {a b c d : ℕ} (ea : a ≡ length (groups_in (field_at s at 32))) (eb : b ≡ row_bytes latest_most (low_parts latest_widths latest)) (ec : c ≡ row_bytes marks_most (low_parts marks_widths marks))
       (ee : d ≡ row_bytes (eight_most (marks / 8 % 4)) (low_parts doors_widths doors ++ low_parts leaving_widths leaving)) where
     -- Q_Stop_Skip_Passes is among the marks
-    from : {r : Went ℕ} → ways.Over (judge s stop) (point_rows (marks / 8 % 4)) at n r → ways.Over (judge s stop) timing_point at n r
+    from : {r : Went ℕ} → Over (judge s stop) (point_rows (marks / 8 % 4)) at n r → Over (judge s stop) timing_point at n r
     from o =
         let k : field_at s (at + 76) 2 ≡ marks / 8 % 4 = rw em (sym (read_window s (at + 64) (at + 76) 2 3 17 (omega arith) (omega arith) (omega (arith, inside)))) in
         record { goes = λ f. (rw k at (rows_same f)) ∙ o.goes f; stands = o.stands }
@@ -96,18 +94,18 @@ module _ (s : List ℕ) (stop : ℕ) {at n : ℕ} (h : Standing s stop at n) (ro
 
     -- ---- the steps over the rows
 
-    name_over : Over (row (32 ∷ []) (4294967295 ∷ [])) s stop at n (On (at + 32) (n + a))
+    name_over : Over (judge s stop) (row (32 ∷ []) (4294967295 ∷ [])) at n (Went.on (at + 32) (n + a))
     name_over = bytes_some s stop 32 4294967295 [] [] refl h (omega arith) name_bytes_lem (λ z. omega (arith, z, ea, count_some (field_at s at 32)))
 
     module _ (zb : b ≡ 0 → ⊥) where
-      latest_over : Over (row latest_widths latest_most) s stop (at + 32) (n + a) (On (at + 64) (n + a + b))
+      latest_over : Over (judge s stop) (row latest_widths latest_most) (at + 32) (n + a) (Went.on (at + 64) (n + a + b))
       latest_over = let p : at + 32 + 32 ≡ at + 64 = omega arith in rw p at (bytes_some s stop 15 32767 (17 ∷ []) (86400 ∷ []) refl name_over.stands (omega arith) latest_bytes zb)
 
       module _ (zc : c ≡ 0 → ⊥) where
-        marks_over : Over (row marks_widths marks_most) s stop (at + 64) (n + a + b) (On (at + 81) (n + a + b + c))
+        marks_over : Over (judge s stop) (row marks_widths marks_most) (at + 64) (n + a + b) (Went.on (at + 81) (n + a + b + c))
         marks_over = let p : at + 64 + 17 ≡ at + 81 = omega arith in rw p at (bytes_some s stop 10 1023 (2 ∷ 2 ∷ 2 ∷ 1 ∷ []) (2 ∷ 2 ∷ 1 ∷ 1 ∷ []) refl latest_over.stands (omega arith) marks_bytes zc)
 
-        pub point_on : (d ≡ 0 → ⊥) → Over timing_point s stop at n (On (at + 129) (n + (a + b + c + d)))
+        pub point_on : (d ≡ 0 → ⊥) → Over (judge s stop) timing_point at n (Went.on (at + 129) (n + (a + b + c + d)))
         point_on z =
             let p : at + 81 + 48 ≡ at + 129 = omega arith in
             let q : n + a + b + c + d ≡ n + (a + b + c + d) = omega arith in

@@ -1,23 +1,12 @@
-use native.Mathlib.Omega.{arith}
-use Rattle.format.proofs.Ways.{left_all, times_on, times_off, times_end_lem}
+-- `packet_journey::segments` meets its contract.
+use Rattle.std.proofs.Common.{rules}
 use Rattle.grammar.specs.journey.Journey.{journey_segment, constraints}
 use Rattle.packet_journey.proofs.segments.Goals as goal
 
-pub loop-left-init : goal.loop-left-init
-loop-left-init c = left_all c.requires
-
-pub segment-requires : goal.segment-requires
-segment-requires c = c.loop-left.invariant.stands
-
-pub returns-in-Refused : goal.returns-in-Refused
-returns-in-Refused c =
-    let l = c.loop-left in
-    times_off (journey_segment constraints) l.invariant (omega arith) (rw c.in-Refused.is at c.segment.ensures)
-
-pub loop-left-preserved : goal.loop-left-preserved
-loop-left-preserved c =
-    let l = c.loop-left in
-    times_on (journey_segment constraints) l.invariant (omega arith) (rw c.in-On.is at c.segment.ensures)
+pub times-requires : goal.times-requires
+times-requires c =
+    (record { s = c.args.s.now; stop = c.args.stop; part = journey_segment constraints }, record { stands = c.requires; called = λ x h. search rules; judges = λ x y h p. search rules })
 
 pub returns : goal.returns
-returns c = let l = c.loop-left in times_end_lem (journey_segment constraints) l.invariant (omega arith)
+returns c =
+    c.times.ensures (record { s = c.args.s.now; stop = c.args.stop; part = journey_segment constraints }) (record { stands = c.requires; called = λ x h. search rules; judges = λ x y h p. search rules })

@@ -6,10 +6,10 @@ use Rattle.packet_journey.proofs.Places.{small, head_on}
 use Rattle.packet_journey.proofs.whole_head.Goals as goal
 
 pub short-country-requires : goal.short-country-requires
-short-country-requires c = let a = c.args in omega (arith, window_small a.s.now a.at 10 c.read_window.ensures)
+short-country-requires c = let a = c.args in omega (arith, window_small a.s.now a.spot.at 10 c.read_window.ensures)
 
 pub short-major-requires : goal.short-major-requires
-short-major-requires c = let a = c.args in omega (arith, window_small a.s.now (a.at + 42) 22 c.read_window-t.ensures)
+short-major-requires c = let a = c.args in omega (arith, window_small a.s.now (a.spot.at + 42) 22 c.read_window-t.ensures)
 
 -- the bytes of the four numbers are few
 sum_small : (c : goal.After-short-minor) → c.short-country.result + c.groups-identity.result + c.short-major.result + c.short-minor.result ≤ 20

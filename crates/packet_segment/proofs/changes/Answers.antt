@@ -1,39 +1,31 @@
+use Prim.Native.Nat.{◌+◌, ◌-◌}
+use mathlib.Core.Path.{◌≡◌}
 use native.Mathlib.Omega.{arith}
 use Rattle.grammar.specs.internal.segment.Parts.{start_of}
 use Rattle.grammar.proofs.segment.Parts.{changes_none}
-use Rattle.format.proofs.Ways.{left_all, left_none, left_as}
+use Rattle.format.proofs.Ways.{left_none, left_as}
+use Rattle.verdict.proofs.Exits.{exit}
 use Rattle.grammar.proofs.segment.Changes.{location_off, element_off, element_on}
 use Rattle.packet_segment.proofs.changes.Goals as goal
 
-pub loop-left-init : goal.loop-left-init
-loop-left-init c = left_all c.requires
-
-pub location-requires : goal.location-requires
-location-requires c = c.loop-left.invariant.stands
-
-pub returns-in-Refused : goal.returns-in-Refused
-returns-in-Refused c =
+pub returns-in_err-at : goal.returns-in_err-at
+returns-in_err-at c =
     let a = c.args in
-    let l = c.loop-left in
-    location_off (start_of a.part) a.lsp l.last l.left (omega arith) l.invariant (rw c.in-Refused.is at c.location.ensures)
+    rw (exit c.from_residual.ensures.1) (location_off (start_of a.part) a.lsp c.loop.last (a.count - c.loop.counter) (omega arith) c.loop.invariant c.in_err-at.ensures)
 
-pub element-requires : goal.element-requires
-element-requires c = (rw c.in-Is.is at c.location.ensures).stands
-
-pub returns-in-Refused-element : goal.returns-in-Refused-element
-returns-in-Refused-element c =
+pub returns-in_err-next : goal.returns-in_err-next
+returns-in_err-next c =
     let a = c.args in
-    let l = c.loop-left in
-    element_off (start_of a.part) a.lsp l.last l.left (omega arith) l.invariant (rw c.in-Is.is at c.location.ensures) (rw c.in-Refused-element.is at c.element.ensures)
+    rw (exit c.from_residual-in_err-next.ensures.1)
+    (element_off (start_of a.part) a.lsp c.loop.last (a.count - c.loop.counter) (omega arith) c.loop.invariant c.in_ok-at.ensures c.in_err-next.ensures)
 
-pub loop-left-preserved : goal.loop-left-preserved
-loop-left-preserved c =
+pub loop-preserved : goal.loop-preserved
+loop-preserved c =
     let a = c.args in
-    let l = c.loop-left in
-    element_on (start_of a.part) a.lsp l.last l.left (omega arith) l.invariant (rw c.in-Is.is at c.location.ensures) (rw c.in-On.is at c.element.ensures)
+    let e : a.count - c.loop.counter - 1 ≡ a.count - (c.loop.counter + 1) = omega arith in
+    rw (← e) (element_on (start_of a.part) a.lsp c.loop.last (a.count - c.loop.counter) (omega arith) c.loop.invariant c.in_ok-at.ensures c.in_ok-next.ensures)
 
 pub returns : goal.returns
 returns c =
     let a = c.args in
-    let l = c.loop-left in
-    left_none (left_as (λ f. f) (changes_none (start_of a.part) a.lsp l.last l.left (omega arith)) l.invariant)
+    left_none (left_as (λ f. f) (changes_none (start_of a.part) a.lsp c.loop.last (a.count - c.loop.counter) (omega arith)) c.loop.invariant)

@@ -1,5 +1,5 @@
 -- Fields that are read at once, as parts of one number; and the steps over them, from the bytes counted of each.
-use mathlib.Core.Path.{◌≡◌, refl, ◌∙◌}
+use mathlib.Core.Path.{◌≡◌, refl, ap, ◌∙◌}
 use mathlib.Core.List.{List, [], ◌∷◌}
 use Prim.Native.Nat.{ℕ, zero, suc, ◌+◌, ◌*◌, ◌-◌, ◌/◌, ◌%◌, ◌≤◌, ◌<◌}
 use native.Mathlib.Omega.{arith}
@@ -12,20 +12,18 @@ use Rattle.bits.proofs.Tests.{by_cases}
 use Rattle.bits.proofs.Windows.{parts_at, part}
 use Rattle.numbers.proofs.Counting.{count_some, count_five}
 use Rattle.kinds.specs.Kinds.{speed, q_front, n_iter, q_diff, class, m_voltage, nid_c_traction}
-use Rattle.kinds.specs.declared.Field.{Field}
-use Rattle.kinds.specs.declared.Field.TheVariants.{Is}
-use Rattle.kinds.specs.declared.Field.TheVariants as Judged
+use Rattle.std.specs.Prelude.{Result, Ok, Err}
+use Rattle.kinds.specs.declared.Item.{Item}
 use Rattle.kinds.specs.Judged.{value_in_packet}
 use Rattle.fields.specs.internal.size.Counts.{bytes_of}
 use Rattle.fields.proofs.size.Bytes.{bytes_some, bytes_none, both_in, high_out, one_byte, class_refusal}
-use Rattle.format.specs.Format.{then}
+use Rattle.format.specs.Format.{Format, then, times}
 use Rattle.format.proofs.Ways.{over_on, over_off, value_on, value_off, gave_on, gave_off, gave_took}
-use Rattle.grammar.specs.segment.Segment.{voltage}
+use Rattle.grammar.specs.segment.Segment.{entries, voltage}
 use Rattle.grammar.specs.internal.segment.Parts.{entry}
 use Rattle.grammar.proofs.segment.Parts.{class_width}
-use Rattle.packet_fields.specs.declared.PacketStep.TheVariants.{On, Refused}
-use Rattle.packet_fields.specs.declared.PacketValue.TheVariants as PacketValue
-use Rattle.packet_fields.specs.internal.Judging.{Standing, Wide, Over, Took, Gave}
+use Rattle.format.specs.internal.Ways.{Went, Got, Over, Took, Gave}
+use Rattle.packet_fields.specs.internal.Judging.{judge, Standing, Wide}
 use Rattle.packet_fields.proofs.Steps.{took_none, took_some, past, past_off}
 use Rattle.packet_segment.specs.internal.element.Profile.{profile_head, both_bytes, name_bytes, past_entry}
 
@@ -34,9 +32,9 @@ class_wide zero = record { some = lit≤ tt; most = lit≤ tt }
 class_wide (suc q) = record { some = lit≤ tt; most = lit≤ tt }
 
 -- a value has at most five bytes, and an entry fewer than 16
-bytes_five : (f : Field) → bytes_of f ≤ 5
-bytes_five (Is i) = count_five i.sheet
-bytes_five (Judged.Refused r) = omega arith
+bytes_five : (f : Result Item ℕ) → bytes_of f ≤ 5
+bytes_five (Ok i) = count_five i.sheet
+bytes_five (Err r) = omega arith
 
 both_few : (a b : ℕ) → both_bytes a b ≤ a + b
 both_few a b = by_cases (eqb a 0) (λ e. rw e (omega arith)) (λ e. by_cases (eqb b 0) (λ d. rw (e, d) (omega arith)) (λ d. rw (e, d) (omega arith)))
@@ -61,12 +59,21 @@ both_cases (suc a) zero f g k = g (λ z. omega arith) refl
 both_cases (suc a) (suc b) f g k =
     k (λ z. omega arith) (λ z. omega arith) (rw (ne_eqb (suc a) 0 (λ z. omega arith), ne_eqb (suc b) 0 (λ z. omega arith)))
 
+-- the entries are one entry as many times
+entries_times : (n : ℕ) (f : Format) → entries n f ≡ times entry n f
+unfolding entries times
+entries_times zero f = refl
+entries_times (suc n) f = ap entry (entries_times n f)
+
+pub entries_over : (count : ℕ) {s : List ℕ} {stop at n : ℕ} {r : Went ℕ} → Over (judge s stop) (times entry count) at n r → Over (judge s stop) (entries count) at n r
+entries_over count {s} {stop} {at} {n} o = record { goes = λ f. ap (λ (g : Format). (judge s stop).run g at n) (entries_times count f) ∙ o.goes f; stands = o.stands }
+
 -- the step over an entry, from its bytes
 module _ (s : List ℕ) (stop : ℕ) {at n r : ℕ} where
-  pub entry_refused : Over entry s stop at n (past_entry at n r) → 16 ≤ r → Over entry s stop at n (Refused 4 (at + (r - 16)))
+  pub entry_refused : Over (judge s stop) entry at n (past_entry at n r) → 16 ≤ r → Over (judge s stop) entry at n (Went.off 4 (at + (r - 16)))
   entry_refused o h = rw (le-ltb r 16 h) at o
 
-  pub entry_passed : Over entry s stop at n (past_entry at n r) → r < 16 → Over entry s stop at n (On (at + 13) (n + r))
+  pub entry_passed : Over (judge s stop) entry at n (past_entry at n r) → r < 16 → Over (judge s stop) entry at n (Went.on (at + 13) (n + r))
   entry_passed o h = rw (lt-ltb r 16 h) at o
 
 module _ (s : List ℕ) (stop : ℕ) {at n : ℕ} (h : Standing s stop at n) where
@@ -80,28 +87,28 @@ module _ (s : List ℕ) (stop : ℕ) {at n : ℕ} (h : Standing s stop at n) whe
     entry_values : parts (2 ∷ 4 ∷ 7 ∷ []) t ≡ fields_at s at (2 ∷ 4 ∷ 7 ∷ [])
     entry_values = parts_at s at (2 ∷ 4 ∷ 7 ∷ []) e (inside 13 room)
 
-    entry_off : a ≡ 0 → Over entry s stop at n (Refused 4 at)
+    entry_off : a ≡ 0 → Over (judge s stop) entry at n (Went.off 4 at)
     entry_off z = value_off (λ q f. then (class q) (then speed f)) (took_none s stop q_diff 2 refl h (lit≤ tt) (omega arith) (part entry_values 0) ea z)
 
     module _ (za : a ≡ 0 → ⊥) where
-      q_took : Took q_diff s stop at n (PacketValue.Is (t / 2048) (at + 2) (n + a))
+      q_took : Took (judge s stop) q_diff at n (Got.is (t / 2048) (at + 2) (n + a))
       q_took = took_some s stop q_diff 2 refl h (lit≤ tt) (omega arith) (part entry_values 0) ea za
 
-      class_off : b ≡ 0 → Over entry s stop at n (Refused 4 (at + 2))
+      class_off : b ≡ 0 → Over (judge s stop) entry at n (Went.off 4 (at + 2))
       class_off z =
           value_on (λ q f. then (class q) (then speed f)) q_took
           (over_off (past_off s stop (rw (class_refusal (t / 2048)) at (took_none s stop (class (t / 2048)) 4 (class_width (t / 2048)) q_took.stands (lit≤ tt) (omega arith) (part entry_values 1) eb z))))
 
       module _ (zb : b ≡ 0 → ⊥) where
-        class_took : Took (class (t / 2048)) s stop (at + 2) (n + a) (PacketValue.Is (t / 128 % 16) (at + 2 + 4) (n + a + b))
+        class_took : Took (judge s stop) (class (t / 2048)) (at + 2) (n + a) (Got.is (t / 128 % 16) (at + 2 + 4) (n + a + b))
         class_took = took_some s stop (class (t / 2048)) 4 (class_width (t / 2048)) q_took.stands (lit≤ tt) (omega arith) (part entry_values 1) eb zb
 
-        speed_off : d ≡ 0 → Over entry s stop at n (Refused 4 (at + 2 + 4))
+        speed_off : d ≡ 0 → Over (judge s stop) entry at n (Went.off 4 (at + 2 + 4))
         speed_off z =
             value_on (λ q f. then (class q) (then speed f)) q_took
             (over_on (past s stop class_took) (past_off s stop (took_none s stop speed 7 refl class_took.stands (lit≤ tt) (omega arith) (part entry_values 2) ed z)))
 
-        entry_on : (d ≡ 0 → ⊥) → Over entry s stop at n (On (at + 13) (n + (a + b + d)))
+        entry_on : (d ≡ 0 → ⊥) → Over (judge s stop) entry at n (Went.on (at + 13) (n + (a + b + d)))
         entry_on z =
             let p : at + 2 + 4 + 7 ≡ at + 13 = omega arith in
             let m : n + a + b + d ≡ n + (a + b + d) = omega arith in
@@ -120,10 +127,10 @@ module _ (s : List ℕ) (stop : ℕ) {at n : ℕ} (h : Standing s stop at n) whe
     unfolding q_bytes class_bytes
     named = let q : t / 128 / 16 ≡ t / 2048 = omega arith in rw q at er
 
-    pub q_refused : 2 < t / 2048 → Over entry s stop at n (past_entry at n 16)
+    pub q_refused : 2 < t / 2048 → Over (judge s stop) entry at n (past_entry at n 16)
     q_refused z = let p : at + 0 ≡ at = omega arith in rw p (entry_off room e (q_none (t / 2048) z) refl ed refl)
 
-    pub class_refused : r ≡ 0 → t / 2048 ≤ 2 → Over entry s stop at n (past_entry at n 18)
+    pub class_refused : r ≡ 0 → t / 2048 ≤ 2 → Over (judge s stop) entry at n (past_entry at n 18)
     unfolding q_bytes class_bytes
     class_refused z q =
         both_cases q_bytes class_bytes (λ za. absurd (q_some (t / 2048) q za))
@@ -131,7 +138,7 @@ module _ (s : List ℕ) (stop : ℕ) {at n : ℕ} (h : Standing s stop at n) whe
         (λ za zb p. absurd (za (omega (arith, named, p))))
 
     module _ (z : r ≡ 0 → ⊥) where
-      pub speed_refused : d ≡ 0 → Over entry s stop at n (past_entry at n 22)
+      pub speed_refused : d ≡ 0 → Over (judge s stop) entry at n (past_entry at n 22)
       unfolding q_bytes class_bytes
       speed_refused zd =
           let p : at + 2 + 4 ≡ at + 6 = omega arith in
@@ -140,7 +147,7 @@ module _ (s : List ℕ) (stop : ℕ) {at n : ℕ} (h : Standing s stop at n) whe
           (λ za zb. absurd (z (named ∙ rw (ne_eqb q_bytes 0 za, zb))))
           (λ za zb _. rw p at (speed_off room e refl refl ed za zb zd))
 
-      pub entry_counted : (d ≡ 0 → ⊥) → Over entry s stop at n (past_entry at n (r + d))
+      pub entry_counted : (d ≡ 0 → ⊥) → Over (judge s stop) entry at n (past_entry at n (r + d))
       unfolding q_bytes class_bytes
       entry_counted zd =
           both_cases q_bytes class_bytes
@@ -154,24 +161,24 @@ module _ (s : List ℕ) (stop : ℕ) {at n : ℕ} (h : Standing s stop at n) whe
     head_values : parts (7 ∷ 1 ∷ 5 ∷ []) t ≡ fields_at s at (7 ∷ 1 ∷ 5 ∷ [])
     head_values = parts_at s at (7 ∷ 1 ∷ 5 ∷ []) e (inside 13 room)
 
-    pub head_off : a ≡ 0 → Gave profile_head s stop at n (PacketValue.Refused 4 at)
+    pub head_off : a ≡ 0 → Gave (judge s stop) profile_head at n (Got.off 4 at)
     head_off z = gave_off (past_off s stop (took_none s stop speed 7 refl h (lit≤ tt) (omega arith) (part head_values 0) ea z))
 
     module _ (z : a ≡ 0 → ⊥) where
-      static_took : Took speed s stop at n (PacketValue.Is (t / 64) (at + 7) (n + a))
+      static_took : Took (judge s stop) speed at n (Got.is (t / 64) (at + 7) (n + a))
       static_took = took_some s stop speed 7 refl h (lit≤ tt) (omega arith) (part head_values 0) ea z
 
-      front_took : Took q_front s stop (at + 7) (n + a) (PacketValue.Is (t / 32 % 2) (at + 7 + 1) (n + a + 1))
+      front_took : Took (judge s stop) q_front (at + 7) (n + a) (Got.is (t / 32 % 2) (at + 7 + 1) (n + a + 1))
       front_took =
           took_some s stop q_front 1 refl static_took.stands (lit≤ tt) (omega arith) (part head_values 1)
           (bytes_some q_front (t / 32 % 2) (both_in 0 1 (t / 32 % 2) (omega arith) (omega arith)) (one_byte (t / 32 % 2) (omega arith))) (λ u. omega arith)
 
-      count_took : Took (n_iter 31) s stop (at + 7 + 1) (n + a + 1) (PacketValue.Is (t % 32) (at + 7 + 1 + 5) (n + a + 1 + 1))
+      count_took : Took (judge s stop) (n_iter 31) (at + 7 + 1) (n + a + 1) (Got.is (t % 32) (at + 7 + 1 + 5) (n + a + 1 + 1))
       count_took =
           took_some s stop (n_iter 31) 5 refl front_took.stands (lit≤ tt) (omega arith) (part head_values 2)
           (bytes_some (n_iter 31) (t % 32) (both_in 0 31 (t % 32) (omega arith) (omega arith)) (one_byte (t % 32) (omega arith))) (λ u. omega arith)
 
-      pub head_on : Gave profile_head s stop at n (PacketValue.Is (t % 32) (at + 13) (n + a + 2))
+      pub head_on : Gave (judge s stop) profile_head at n (Got.is (t % 32) (at + 13) (n + a + 2))
       head_on =
           let p : at + 7 + 1 + 5 ≡ at + 13 = omega arith in
           let m : n + a + 1 + 1 ≡ n + a + 2 = omega arith in
@@ -184,19 +191,19 @@ module _ (s : List ℕ) (stop : ℕ) {at n : ℕ} (h : Standing s stop at n) whe
     wire_values : parts (4 ∷ 10 ∷ []) t ≡ fields_at s at (4 ∷ 10 ∷ [])
     wire_values = parts_at s at (4 ∷ 10 ∷ []) e (inside 14 room)
 
-    pub volts_off : a ≡ 0 → Over voltage s stop at n (Refused 4 at)
+    pub volts_off : a ≡ 0 → Over (judge s stop) voltage at n (Went.off 4 at)
     volts_off z = value_off (λ u f. then (nid_c_traction u) f) (took_none s stop m_voltage 4 refl h (lit≤ tt) (omega arith) (part wire_values 0) ea z)
 
     module _ (za : a ≡ 0 → ⊥) where
-      volts_took : Took m_voltage s stop at n (PacketValue.Is (t / 1024) (at + 4) (n + a))
+      volts_took : Took (judge s stop) m_voltage at n (Got.is (t / 1024) (at + 4) (n + a))
       volts_took = took_some s stop m_voltage 4 refl h (lit≤ tt) (omega arith) (part wire_values 0) ea za
 
-      pub traction_off : b ≡ 0 → Over voltage s stop at n (Refused 4 (at + 4))
+      pub traction_off : b ≡ 0 → Over (judge s stop) voltage at n (Went.off 4 (at + 4))
       traction_off z =
           value_on (λ u f. then (nid_c_traction u) f) volts_took
           (past_off s stop (took_none s stop (nid_c_traction (t / 1024)) 10 refl volts_took.stands (lit≤ tt) (omega arith) (part wire_values 1) eb z))
 
-      pub wire_on : (b ≡ 0 → ⊥) → Over voltage s stop at n (On (at + 14) (n + a + b))
+      pub wire_on : (b ≡ 0 → ⊥) → Over (judge s stop) voltage at n (Went.on (at + 14) (n + a + b))
       wire_on z =
           let p : at + 4 + 10 ≡ at + 14 = omega arith in
           rw p at (value_on (λ u f. then (nid_c_traction u) f) volts_took

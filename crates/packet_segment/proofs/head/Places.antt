@@ -19,8 +19,8 @@ use Rattle.fields.proofs.size.Bytes.{bytes_some, both_in}
 use Rattle.format.proofs.Ways.{gave_on, gave_then, gave_took}
 use Rattle.grammar.specs.internal.segment.Parts.{header_widths, header_most, identity_widths, identity_most, offset_widths, offset_most}
 use Rattle.grammar.proofs.segment.Parts.{header_fits, identity_fits, offset_fits}
-use Rattle.packet_fields.specs.declared.PacketValue.TheVariants as PacketValue
-use Rattle.packet_fields.specs.internal.Judging.{Standing, Took, Gave}
+use Rattle.format.specs.internal.Ways.{Got, Took, Gave}
+use Rattle.packet_fields.specs.internal.Judging.{judge, Standing}
 use Rattle.packet_fields.specs.internal.row.Values.{groups_all, row_bytes}
 use Rattle.packet_fields.proofs.Steps.{took_some, past}
 use Rattle.packet_fields.proofs.row.Held.{Held, all_bytes, no_bytes, held_within, any_held, bytes_held, bytes_over}
@@ -67,13 +67,13 @@ module _ (s : List ℕ) where
     any_identity : Held identity_most (fields_at s 120 identity_widths)
     any_identity = (any_held s 120 10 1023 refl, (any_held s 130 32 4294967295 refl, (any_held s 162 8 255 refl, (any_held s 170 8 255 refl, tt))))
 
-    pub head_on : Gave head_part s stop 24 1 (PacketValue.Is v 253 (1 + o + a + b + r + d))
+    pub head_on : Gave (judge s stop) head_part 24 1 (Got.is v 253 (1 + o + a + b + r + d))
     head_on =
         let operational = past s stop (took_some s stop nid_operational 32 refl h (lit≤ tt) (omega arith) refl eo zo) in
         let header = whole.bytes_some s stop 24 16777215 (15 ∷ 17 ∷ 8 ∷ []) (32767 ∷ 86399 ∷ 255 ∷ []) header_fits operational.stands (omega arith) ea za in
         let identity = rw (← eb) at (whole.row_in s stop identity_widths identity_most identity_fits header.stands (omega arith) (held_within identity_most (fields_at s 120 identity_widths) any_identity)) in
         let l : field_at s 178 24 < 2 ^ 24 = field_small s 178 24 24 (le_refl 24) in
-        let t : Took l_sp s stop 178 (1 + o + a + b) (PacketValue.Is v 202 (1 + o + a + b + r)) =
+        let t : Took (judge s stop) l_sp 178 (1 + o + a + b) (Got.is v 202 (1 + o + a + b + r)) =
         took_some s stop l_sp 24 refl identity.stands (lit≤ tt) (omega arith) ev
         (bytes_some l_sp v (both_in 1 16777215 v (omega (arith, zv)) (omega (arith, ev, l))) er) (λ y. omega (arith, er, y, count_some v)) in
         let offsets = whole.bytes_some s stop 24 16777215 (7 ∷ 20 ∷ []) (112 ∷ 1048575 ∷ []) offset_fits t.stands (omega arith) ed zd in

@@ -1,25 +1,13 @@
 -- `packet_segment::lists` meets its contract.
-use lib.Dec.{lit<}
 use Rattle.format.proofs.Ways.{over_on, over_off}
+use Rattle.verdict.proofs.Exits.{exit}
 use Rattle.packet_segment.proofs.lists.Goals as goal
 
-pub list-requires : goal.list-requires
-list-requires c = (c.requires, lit< tt)
+pub returns-in_err-volts : goal.returns-in_err-volts
+returns-in_err-volts c = rw (exit c.from_residual.ensures.1) (over_off c.in_err-volts.ensures)
 
-pub list-requires-in-On : goal.list-requires-in-On
-list-requires-in-On c = ((rw c.in-On.is at c.list.ensures).stands, lit< tt)
+pub returns-in_err-amperes : goal.returns-in_err-amperes
+returns-in_err-amperes c = rw (exit c.from_residual-in_err-amperes.ensures.1) (over_on c.in_ok-volts.ensures (over_off c.in_err-amperes.ensures))
 
-pub list-requires-in-On-list : goal.list-requires-in-On-list
-list-requires-in-On-list c = ((rw c.in-On-list.is at c.list-in-On.ensures).stands, lit< tt)
-
-pub returns-in-Refused : goal.returns-in-Refused
-returns-in-Refused c =
-    over_off (rw c.in-Refused.is at c.list.ensures)
-
-pub returns-in-Refused-list : goal.returns-in-Refused-list
-returns-in-Refused-list c =
-    over_on (rw c.in-On.is at c.list.ensures) (over_off (rw c.in-Refused-list.is at c.list-in-On.ensures))
-
-pub returns-in-On-list : goal.returns-in-On-list
-returns-in-On-list c =
-    over_on (rw c.in-On.is at c.list.ensures) (over_on (rw c.in-On-list.is at c.list-in-On.ensures) c.list-in-On-list.ensures)
+pub returns : goal.returns
+returns c = over_on c.in_ok-volts.ensures (over_on c.in_ok-amperes.ensures c.list-3.ensures)

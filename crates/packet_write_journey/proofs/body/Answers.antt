@@ -9,9 +9,9 @@ number-status-requires c = (body_status c.requires, lit≤ tt, lit≤ tt, lit< t
 pub number-count-requires : goal.number-count-requires
 number-count-requires c = (body_count c.requires c.number-status.ensures, lit≤ tt, lit≤ tt, lit< tt)
 
-pub segments-requires : goal.segments-requires
-segments-requires c = body_segments c.requires c.number-status.ensures c.number-count.ensures
+pub times-requires : goal.times-requires
+times-requires c = body_segments c.requires c.number-status.ensures c.number-count.ensures
 
 pub returns : goal.returns
 returns c =
-    body_wrote c.requires c.number-status.ensures c.number-count.ensures c.segments.ensures
+    body_wrote c.requires c.number-status.ensures c.number-count.ensures c.times.ensures

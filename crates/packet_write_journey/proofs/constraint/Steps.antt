@@ -7,7 +7,6 @@ use lib.Dec.{lit<}
 use Rattle.bits.specs.Bits.{bits_of}
 use Rattle.numbers.specs.declared.accepted.ReadNumber.{ReadNumber}
 use Rattle.numbers.specs.internal.accepted.Accepted.{There, Reads}
-use Rattle.bits.specs.internal.write.Filling.{Filling}
 use Rattle.kinds.specs.Kind.{Kind}
 use Rattle.kinds.specs.Kinds.{speed, no_current}
 use Rattle.fields.proofs.Lawful.{narrow, up_to_lawful}
@@ -18,9 +17,10 @@ use Rattle.grammar.specs.journey.Journey.{restriction, temporary_constraint}
 use Rattle.grammar.specs.internal.journey.Parts.{after_type, after_range}
 use Rattle.grammar.proofs.journey.Tree.{end_width, level_width, start_lawful, end_lawful, front_lawful, level_lawful, adhesion_lawful}
 use Rattle.packet_write_segment.specs.declared.elements.PacketSpot.{PacketSpot}
-use Rattle.packet_write_segment.specs.internal.elements.Writing.{Ready, Wrote}
-use Rattle.packet_write_segment.proofs.elements.Writing.{bits_join, Has, has_same, has_small, Gone, gone_all, gone_there, gone_has, gone_field, Along, along_next, along_on, along_none, wrote_once, along_once, Next, next_on}
+use Rattle.packet_write_segment.specs.internal.elements.Writing.{FieldPut, Ready, Wrote}
+use Rattle.packet_write_segment.proofs.elements.Writing.{bits_join, Has, has_same, has_small, Gone, gone_all, gone_there, gone_has, gone_field, Along, along_next, along_on, along_none, wrote_once, along_once, Next, next_fits, next_on}
 use Rattle.packet_write_segment.specs.declared.row.Given.{Given}
+use Rattle.packet_write_segment.specs.internal.row.Alone.{Copied, Fitting}
 use Rattle.packet_write_journey.specs.internal.constraint.Begun.{Begun}
 use Rattle.packet_write_journey.proofs.constraint.Values.{end_same, level_steps, no_limit}
 
@@ -83,25 +83,17 @@ module _ {s room : List ℕ} {p : PacketSpot} (h : Ready temporary_constraint s 
         pub location_small : (t.value < 4) × (g.value < 4) × (a.value < 16777216)
         location_small = (type_small, range_small, start_small)
 
-        pub end_there : There s a.next
-        end_there = gone_there h refl end after_end three
-
-        module _ {e : ReadNumber} (de : Reads s a.next e) where
-          last : Has end s a.next e.value e.next e.value
-          last = has_same (gone_has h refl end after_end three de) (end.allowed e.value) (end_same g.value a.value e.value)
-
-          pub end_small : e.value < 16777216
-          end_small = rw (end_width g.value a.value) at (has_small last (end_lawful g.value a.value))
-
-          pub begun : {mid after : List ℕ} {r z : ℕ} → Filling room p.at p.wait 28 (t.value * 67108864 + g.value * 16777216 + a.value) mid r
-              → Filling mid (p.at + 28) r 24 e.value after z
-              → Begun temporary_constraint restriction s room p after (record { value = t.value; next = record { from = e.next; at = p.at + 28 + 24; wait = z } })
-          begun {mid} {r = r} f f2 =
+        module _ {mid : List ℕ} {q : PacketSpot} (f : FieldPut room p 28 (t.value * 67108864 + g.value * 16777216 + a.value) a.next mid q) where
+          last : Next temporary_constraint end after_end s room p mid q
+          last =
               let n : (t.value * 4 + g.value) * 16777216 + a.value ≡ t.value * 67108864 + g.value * 16777216 + a.value = omega arith in
-              let l : Along temporary_constraint (after_start a.value) s room p mid (record { from = a.next; at = p.at + 28; wait = r }) = along_once (rw n at three) refl f in
-              let x : Next temporary_constraint end after_end s room p mid (record { from = a.next; at = p.at + 28; wait = r }) = record { ready = h; along = l; lawful = end_lawful g.value a.value; same = end_same g.value a.value } in
-              let m = next_on x de (end_width g.value a.value) f2 in
-              record { bits = m.bits; left = m.gone; puts = m.puts }
+              record { ready = h; along = along_once (rw n at three) refl f; lawful = end_lawful g.value a.value; same = end_same g.value a.value }
+
+          pub end_fits : Fitting s q 24
+          end_fits = rw (end_width g.value a.value) at (next_fits last)
+
+          pub begun : {after : List ℕ} {r : Given} → Copied s mid q 24 after r → Begun temporary_constraint restriction s room p after (record { value = t.value; next = r.next })
+          begun d = let m = next_on last (end_width g.value a.value) d in record { bits = m.bits; left = m.gone; puts = m.puts }
 
 -- ---- the restriction
 
@@ -168,8 +160,8 @@ module _ (type : ℕ) {s room : List ℕ} {p : PacketSpot} (h : Ready (restricti
               let k = gone_has h refl no_current (λ _ f. f) third dc in
               rw (no_limit c.value (lowered no_current c.value) k.lower) at k
 
-          pub restriction_wrote : {after : List ℕ} {r : ℕ} → Filling room p.at p.wait 21 (t.value * 1048576 + w * 8192 + a.value * 1024 + 1023) after r
-              → Wrote (restriction type) s room p after (record { from = c.next; at = p.at + 21; wait = r })
+          pub restriction_wrote : {after : List ℕ} {r : PacketSpot} → FieldPut room p 21 (t.value * 1048576 + w * 8192 + a.value * 1024 + 1023) c.next after r
+              → Wrote (restriction type) s room p after r
           restriction_wrote f =
               let n : ((t.value * 128 + w) * 8 + a.value) * 1024 + 1023 ≡ t.value * 1048576 + w * 8192 + a.value * 1024 + 1023 = omega arith in
               wrote_once (more 11 ((t.value * 128 + w) * 8 + a.value) no_current (λ _ f. f) third current refl (lit< tt)) (rw n) f

@@ -1,32 +1,31 @@
 -- `packet_write_segment::body` meets its contract.
-use lib.Dec.{lit<, lit≤}
-use Rattle.packet_write_segment.proofs.elements.Writing.{next_near, next_there, next_small}
+use Rattle.grammar.proofs.segment.Parts.{identity_fits, offset_fits}
+use Rattle.packet_write_segment.proofs.elements.Writing.{next_fits}
 use Rattle.packet_write_segment.proofs.Steps.{identity_ready, length_next, offsets_ready, lists_ready, body_wrote}
-use native.Mathlib.Omega.{arith}
 use Rattle.packet_write_segment.proofs.body.Goals as goal
 
-pub identity-names-requires : goal.identity-names-requires
-identity-names-requires c = identity_ready c.requires
+pub row-names-requires : goal.row-names-requires
+row-names-requires c = rw (c.identity_widths-widths.ensures, c.identity_most-most.ensures) (identity_ready c.requires, identity_fits)
 
-pub number-l-requires : goal.number-l-requires
-number-l-requires c = next_there (length_next c.requires c.identity-names.ensures)
+pub copy_number-l-requires : goal.copy_number-l-requires
+copy_number-l-requires c =
+    let a = rw (c.identity_widths-widths.ensures, c.identity_most-most.ensures) at c.row-names.ensures.0 in
+    next_fits (length_next c.requires a)
 
-pub put-wait-requires : goal.put-wait-requires
-put-wait-requires c = (lit< tt, lit≤ tt, next_small (length_next c.requires c.identity-names.ensures) c.number-l.ensures)
-
-pub overflow_add-next : goal.overflow_add-next
-overflow_add-next c = omega (arith, next_near (length_next c.requires c.identity-names.ensures))
-
-pub offsets-first-requires : goal.offsets-first-requires
-offsets-first-requires c =
-    offsets_ready c.requires c.identity-names.ensures c.number-l.ensures c.put-wait.ensures
+pub row-first-requires : goal.row-first-requires
+row-first-requires c =
+    let a = rw (c.identity_widths-widths.ensures, c.identity_most-most.ensures) at c.row-names.ensures.0 in
+    rw (c.offset_widths-offset_widths.ensures, c.offset_most-offset_most.ensures) (offsets_ready c.requires a c.copy_number-l.ensures, offset_fits)
 
 pub lists-requires : goal.lists-requires
 lists-requires c =
-    let h = c.requires in
-    let a = c.identity-names.ensures in
-    (lists_ready h a c.number-l.ensures c.put-wait.ensures c.offsets-first.ensures, next_small (length_next h a) c.number-l.ensures)
+    let a = rw (c.identity_widths-widths.ensures, c.identity_most-most.ensures) at c.row-names.ensures.0 in
+    let b = rw (c.offset_widths-offset_widths.ensures, c.offset_most-offset_most.ensures) at c.row-first.ensures.0 in
+    let l = c.copy_number-l.ensures in
+    (lists_ready c.requires a l b, (next_fits (length_next c.requires a)).small l.reads)
 
 pub returns : goal.returns
 returns c =
-    body_wrote c.requires c.identity-names.ensures c.number-l.ensures c.put-wait.ensures c.offsets-first.ensures c.lists.ensures
+    let a = rw (c.identity_widths-widths.ensures, c.identity_most-most.ensures) at c.row-names.ensures.0 in
+    let b = rw (c.offset_widths-offset_widths.ensures, c.offset_most-offset_most.ensures) at c.row-first.ensures.0 in
+    body_wrote c.requires a c.copy_number-l.ensures b c.lists.ensures

@@ -8,7 +8,6 @@ use Rattle.bits.specs.Bits.{bits_of}
 use Rattle.bits.proofs.Parts.{join_small}
 use Rattle.numbers.specs.declared.accepted.ReadNumber.{ReadNumber}
 use Rattle.numbers.specs.internal.accepted.Accepted.{There, Single, Reads}
-use Rattle.bits.specs.internal.write.Filling.{Filling}
 use Rattle.kinds.specs.Kinds.{q_diff, class, speed, q_front, n_iter, m_voltage, nid_c_traction, m_current}
 use Rattle.fields.proofs.Lawful.{narrow, up_to_lawful, class_lawful, speed_lawful, voltage_lawful, traction_lawful, current_lawful}
 use Rattle.fields.specs.internal.lower.Lowered.{lowered}
@@ -17,7 +16,7 @@ use Rattle.grammar.specs.segment.Segment.{profile, voltage, current, entries}
 use Rattle.grammar.specs.internal.segment.Parts.{entry}
 use Rattle.grammar.proofs.segment.Parts.{class_width}
 use Rattle.packet_write_segment.specs.declared.elements.PacketSpot.{PacketSpot}
-use Rattle.packet_write_segment.specs.internal.elements.Writing.{Ready, Wrote}
+use Rattle.packet_write_segment.specs.internal.elements.Writing.{FieldPut, Ready, Wrote}
 use Rattle.packet_write_segment.proofs.elements.Writing.{bits_join, Has, has_same, has_small, Gone, gone_all, gone_there, gone_single, gone_has, gone_field, Along, wrote_once, along_once}
 
 -- three fields in one piece
@@ -65,8 +64,7 @@ module _ {s room : List ℕ} {p : PacketSpot} (h : Ready entry s room p) where
         pub entry_speed : w < 128
         entry_speed = has_small third speed_lawful
 
-        pub entry_wrote : {end : List ℕ} {r : ℕ} → Filling room p.at p.wait 13 (q.value * 2048 + c * 128 + w) end r
-            → Wrote entry s room p end (record { from = v.next; at = p.at + 13; wait = r })
+        pub entry_wrote : {end : List ℕ} {r : PacketSpot} → FieldPut room p 13 (q.value * 2048 + c * 128 + w) v.next end r → Wrote entry s room p end r
         entry_wrote f =
             wrote_once (gone_field speed (λ x f. f) two third) (three 2 4 7 q.value c w (q.value * 2048 + c * 128 + w) (class_width q.value) entry_class entry_speed (omega arith)) f
 
@@ -110,8 +108,7 @@ module _ {s room : List ℕ} {p : PacketSpot} (h : Ready profile s room p) where
         pub profile_count : n.value < 32
         profile_count = has_small count (up_to_lawful 5 31 (narrow tt) (lit< tt))
 
-        pub profile_along : {end : List ℕ} {r : ℕ} → Filling room p.at p.wait 13 (w * 64 + q.value * 32 + n.value) end r
-            → Along profile (entries n.value) s room p end (record { from = n.next; at = p.at + 13; wait = r })
+        pub profile_along : {end : List ℕ} {r : PacketSpot} → FieldPut room p 13 (w * 64 + q.value * 32 + n.value) n.next end r → Along profile (entries n.value) s room p end r
         profile_along f =
             along_once (gone_field (n_iter 31) entries after_front_lem count) (three 7 1 5 w q.value n.value (w * 64 + q.value * 32 + n.value) refl profile_front profile_count (omega arith)) f
 
@@ -139,8 +136,7 @@ module _ {s room : List ℕ} {p : PacketSpot} (h : Ready voltage s room p) where
       pub wire_traction : n.value < 1024
       wire_traction = has_small traction (traction_lawful w)
 
-      pub wire_wrote : {end : List ℕ} {r : ℕ} → Filling room p.at p.wait 14 (w * 1024 + n.value) end r
-          → Wrote voltage s room p end (record { from = n.next; at = p.at + 14; wait = r })
+      pub wire_wrote : {end : List ℕ} {r : PacketSpot} → FieldPut room p 14 (w * 1024 + n.value) n.next end r → Wrote voltage s room p end r
       wire_wrote f = wrote_once (gone_field (nid_c_traction w) (λ x f. f) after_volts traction) (sym (bits_join 4 10 w n.value wire_traction)) f
 
 module _ {s room : List ℕ} {p : PacketSpot} (h : Ready current s room p) where
@@ -154,5 +150,5 @@ module _ {s room : List ℕ} {p : PacketSpot} (h : Ready current s room p) where
     pub current_small : w < 1024
     current_small = has_small amperes current_lawful
 
-    pub current_wrote : {end : List ℕ} {r : ℕ} → Filling room p.at p.wait 10 w end r → Wrote current s room p end (record { from = a.next; at = p.at + 10; wait = r })
+    pub current_wrote : {end : List ℕ} {r : PacketSpot} → FieldPut room p 10 w a.next end r → Wrote current s room p end r
     current_wrote f = wrote_once (gone_field m_current (λ x f. f) (gone_all h.inside) amperes) refl f

@@ -10,14 +10,13 @@ use lib.ListN.{length, drop, length-append, length-drop}
 use lib.Pow.{high, low}
 use Rattle.bits.specs.Bits.{Bytes, bits_of}
 use Rattle.bits.proofs.Spelling.{bits_append, bits_low}
-use Rattle.numbers.specs.declared.Number.{Number}
-use Rattle.numbers.specs.declared.Number.TheVariants.{Value, Bad}
+use Rattle.std.specs.Prelude as std
+use Rattle.std.specs.Prelude.{Some, None}
 use Rattle.numbers.specs.Numbers.{number_in, groups_in}
 use Rattle.numbers.proofs.Counting.{count_some}
 use Rattle.numbers.proofs.Reading.{number_only}
 use Rattle.numbers.specs.declared.accepted.ReadNumber.{ReadNumber}
 use Rattle.numbers.specs.internal.accepted.Accepted.{There, Single, Reads}
-use Rattle.bits.specs.internal.write.Filling.{Filling}
 use Rattle.kinds.specs.Kind.{Kind, when}
 use Rattle.kinds.specs.Judged.{number_in_sheet}
 use Rattle.fields.proofs.Lawful.{LawfulKind, value_small}
@@ -34,7 +33,9 @@ use Rattle.format.proofs.Passing.{pass_read, sheet_seen}
 use Rattle.format.proofs.Tasks.{made_record}
 use Rattle.format.proofs.Ways.{took_is, took_off, left_all, left_as, left_none, left_on, left_value, times_more, times_none, ahead_first, ahead_left, ahead_never}
 use Rattle.packet_write_segment.specs.declared.elements.PacketSpot.{PacketSpot}
-use Rattle.packet_write_segment.specs.internal.elements.Writing.{writer, Few, Ready, Puts, Wrote}
+use Rattle.packet_write_segment.specs.declared.row.Given.{Given}
+use Rattle.packet_write_segment.specs.internal.row.Alone.{Copied, Fitting, Gives}
+use Rattle.packet_write_segment.specs.internal.elements.Writing.{writer, Few, FieldPut, Ready, Puts, Wrote}
 
 -- ---- bits
 
@@ -75,7 +76,7 @@ module _ (k : Kind) (part : ℕ → Format → Format) (s : List ℕ) (ok : Byte
   never : {C : Type 0} {r : ℕ} → Refused r ≡ number_taken k s at → C
   never e = ahead_never part (λ z. z) (took_off (sheet_seen s) (recording packet) (λ n y. n ≤ length s) k tt e) a
 
-  lower_some : (b : ℕ) → number_in (drop at s) ≡ Value b → k.lower b ≡ some (lowered k b)
+  lower_some : (b : ℕ) → number_in (drop at s) ≡ Some b → k.lower b ≡ some (lowered k b)
   lower_some b e = go (k.lower b) refl
     where
       go : (o : Option ℕ) → k.lower b ≡ o → o ≡ some (value_or (2 ^ k.width) o)
@@ -86,9 +87,9 @@ module _ (k : Kind) (part : ℕ → Format → Format) (s : List ℕ) (ok : Byte
   pub number_there : There s at
   number_there = go (number_in (drop at s)) refl
     where
-      go : (m : Number) → number_in (drop at s) ≡ m → There s at
-      go Bad e = never (number_none k s at e)
-      go (Value v) e = record { value = v; is = e }
+      go : (m : std.Option ℕ) → number_in (drop at s) ≡ m → There s at
+      go None e = never (number_none k s at e)
+      go (Some v) e = record { value = v; is = e }
 
   -- of one group, where the kind's numbers are
   pub number_single : LawfulKind k → k.highest < 128 → Single s at
@@ -158,10 +159,11 @@ module _ {s : List ℕ} {p : Format → Format} {from to : ℕ} {bits : List Boo
 pub puts_none : {room : List ℕ} {at wait : ℕ} → Puts room at wait [] room at wait
 puts_none = record { long = refl; fills = λ x h. rw append-nil h }
 
-pub puts_field : {room mid end : List ℕ} {at wait to left v w last : ℕ} {bits : List Bool} → Puts room at wait bits mid to left → Filling mid to left w v end last
-    → Puts room at wait (bits ++ bits_of w v) end (to + w) last
+pub puts_field : {room mid end : List ℕ} {at wait v w next : ℕ} {p q : PacketSpot} {bits : List Bool} → Puts room at wait bits mid p.at p.wait → FieldPut mid p w v next end q
+    → Puts room at wait (bits ++ bits_of w v) end q.at q.wait
 puts_field {v = v} {w = w} {bits = bits} a b =
-    record { long = b.long ∙ a.long; fills = λ x h. rw (← append_assoc x bits (bits_of w v)) (b.fills (x ++ bits) (a.fills x h)) }
+    let f = b.filling in
+    record { long = f.long ∙ a.long; fills = λ x h. rw (b.at, ← append_assoc x bits (bits_of w v)) (f.fills (x ++ bits) (a.fills x h)) }
 
 pub puts_on : {room mid end : List ℕ} {at wait to left after last : ℕ} {bits more : List Bool} → Puts room at wait bits mid to left → Puts mid to left more end after last
     → Puts room at wait (bits ++ more) end after last
@@ -216,15 +218,14 @@ module _ {s room : List ℕ} {u : PacketSpot} where
     pub times_end_lem : n ≤ 0 → Wrote p s room u mid v
     times_end_lem h = along_none (along_as (λ f. f) (times_none part n h) l)
 
-  -- a part that is put in one piece
-  pub wrote_once : {p : Format → Format} {to : ℕ} {b : List Bool} → Gone s p (λ f. f) u.from to b → {w v : ℕ} → b ≡ bits_of w v → {end : List ℕ} {r : ℕ}
-      → Filling room u.at u.wait w v end r → Wrote p s room u end (record { from = to; at = u.at + w; wait = r })
-  wrote_once g {w} {v} e f = record { bits = bits_of w v; over = λ x. left_none (rw e at (g x)); puts = puts_field puts_none f }
+  -- what is left once some of it is put in one piece, and a part that is
+  pub along_once : {p q : Format → Format} {to : ℕ} {b : List Bool} → Gone s p q u.from to b → {w v : ℕ} → b ≡ bits_of w v → {end : List ℕ} {r : PacketSpot}
+      → FieldPut room u w v to end r → Along p q s room u end r
+  along_once g {w} {v} e f = record { bits = bits_of w v; gone = λ x. rw (f.from) (rw e at (g x)); puts = puts_field puts_none f }
 
-  -- what is left once some of it is
-  pub along_once : {p q : Format → Format} {to : ℕ} {b : List Bool} → Gone s p q u.from to b → {w v : ℕ} → b ≡ bits_of w v → {end : List ℕ} {r : ℕ}
-      → Filling room u.at u.wait w v end r → Along p q s room u end (record { from = to; at = u.at + w; wait = r })
-  along_once g {w} {v} e f = record { bits = bits_of w v; gone = λ x. rw e at (g x); puts = puts_field puts_none f }
+  pub wrote_once : {p : Format → Format} {to : ℕ} {b : List Bool} → Gone s p (λ f. f) u.from to b → {w v : ℕ} → b ≡ bits_of w v → {end : List ℕ} {q : PacketSpot}
+      → FieldPut room u w v to end q → Wrote p s room u end q
+  wrote_once g {w} {v} e f = along_none (along_once g e f)
 
 -- ---- a field that is put alone, and whose number in the sheet is its value
 
@@ -236,20 +237,24 @@ pub record Next (p : Format → Format) (k : Kind) (part : ℕ → Format → Fo
   pub same : (n : ℕ) → k.lower n ≡ when (k.allowed n) n
 
 module _ {p : Format → Format} {k : Kind} {part : ℕ → Format → Format} {s room mid : List ℕ} {u v : PacketSpot} (g : Next p k part s room u mid v) where
-  pub next_near : v.at < 2 ^ 32
-  next_near = at_small (along_next (λ f. field k (λ x. part x f)) (λ f. f) g.along g.ready)
+  next_has : {t : ReadNumber} → Reads s v.from t → Has k s v.from t.value t.next t.value
+  next_has {t} d = has_same (gone_has g.ready refl k part g.along.gone d) (k.allowed t.value) (g.same t.value)
 
-  pub next_there : There s v.from
-  next_there = gone_there g.ready refl k part g.along.gone
+  pub next_fits : Fitting s v k.width
+  next_fits =
+      record {
+        there = gone_there g.ready refl k part g.along.gone;
+        some = g.lawful.narrow.some;
+        most = g.lawful.narrow.most;
+        small = λ d. has_small (next_has d) g.lawful;
+        near = at_small (along_next (λ f. field k (λ x. part x f)) (λ f. f) g.along g.ready);
+      }
 
-  module _ {t : ReadNumber} (d : Reads s v.from t) where
-    pub next_has : Has k s v.from t.value t.next t.value
-    next_has = has_same (gone_has g.ready refl k part g.along.gone d) (k.allowed t.value) (g.same t.value)
+  module _ {end : List ℕ} {r : Given} where
+    -- it is put, and what is left
+    pub next_on : {w : ℕ} → k.width ≡ w → Copied s mid v w end r → Along p (part r.value) s room u end r.next
+    next_on {w} e c =
+        record { bits = g.along.bits ++ bits_of w r.value; gone = rw e at (gone_field k part g.along.gone (next_has c.reads)); puts = puts_field g.along.puts c.put }
 
-    pub next_small : t.value < 2 ^ k.width
-    next_small = has_small next_has g.lawful
-
-    pub next_on : {w : ℕ} → k.width ≡ w → {end : List ℕ} {r : ℕ} → Filling mid v.at v.wait w t.value end r
-        → Along p (part t.value) s room u end (record { from = t.next; at = v.at + w; wait = r })
-    next_on {w} q f =
-        record { bits = g.along.bits ++ bits_of w t.value; gone = rw q at (gone_field k part g.along.gone next_has); puts = puts_field g.along.puts f }
+    pub next_gives : Copied s mid v k.width end r → Gives k s mid v end r
+    next_gives c = record { took = (next_has c.reads).took; puts = puts_field puts_none c.put }

@@ -1,28 +1,21 @@
 -- A single field written: from what is left of a part to what is left after the field.
 use mathlib.Core.Path.{refl}
 use mathlib.Core.List.{List, ◌++◌, append_assoc}
-use Prim.Native.Nat.{ℕ, ◌≤◌, ◌<◌, ◌^◌, ◌+◌}
+use Prim.Native.Nat.{ℕ, ◌≤◌, ◌<◌, ◌^◌}
 use Rattle.bits.specs.Bits.{bits_of}
-use Rattle.bits.specs.internal.write.Filling.{Filling}
-use Rattle.numbers.specs.declared.accepted.ReadNumber.{ReadNumber}
-use Rattle.numbers.specs.internal.accepted.Accepted.{Reads}
 use Rattle.kinds.specs.Kind.{Kind, up_to}
 use Rattle.fields.proofs.Lawful.{up_to_lawful}
 use Rattle.format.specs.Format.{Format, field}
 use Rattle.format.proofs.Ways.{left_value}
 use Rattle.packet_write_segment.specs.declared.elements.PacketSpot.{PacketSpot}
 use Rattle.packet_write_segment.specs.internal.elements.Writing.{Ready}
-use Rattle.packet_write_segment.proofs.elements.Writing.{Along, along_all, along_next, puts_none, puts_field, puts_on, Next, next_has}
+use Rattle.packet_write_segment.proofs.elements.Writing.{Along, along_all, along_next, puts_on, Next}
 use Rattle.packet_write_segment.specs.declared.row.Given.{Given}
 use Rattle.packet_write_segment.specs.internal.row.Alone.{Offers, Gives}
 
-module _ {width most : ℕ} {s room : List ℕ} {p : PacketSpot} (h : Offers (up_to width most) s room p) (l : 1 ≤ width) (u : width ≤ 32) (m : most < 2 ^ width) where
-  pub number_next : Next (λ f. field (up_to width most) (λ v. h.part v f)) (up_to width most) h.part s room p room p
-  number_next = record { ready = h.ready; along = along_all h.ready; lawful = up_to_lawful width most (record { some = l; most = u }) m; same = λ n. refl }
-
-  pub number_gives : {a : ReadNumber} → Reads s p.from a → {end : List ℕ} {r : ℕ} → Filling room p.at p.wait width a.value end r
-      → Gives (up_to width most) s room p end (record { value = a.value; next = record { from = a.next; at = p.at + width; wait = r } })
-  number_gives t f = record { took = (next_has number_next t).took; puts = puts_field puts_none f }
+module _ {width most : ℕ} {s room : List ℕ} {p : PacketSpot} (h : Offers (up_to width most) s room p × (1 ≤ width) × (width ≤ 32) × (most < 2 ^ width)) where
+  pub number_next : Next (λ f. field (up_to width most) (λ v. h.0.part v f)) (up_to width most) h.0.part s room p room p
+  number_next = record { ready = h.0.ready; along = along_all h.0.ready; lawful = up_to_lawful width most (record { some = h.1; most = h.2 }) h.3; same = λ n. refl }
 
 module _ {s room mid : List ℕ} {u v : PacketSpot} {p : Format → Format} (k : Kind) (part : ℕ → Format → Format) (l : Along p (λ f. field k (λ x. part x f)) s room u mid v) where
   pub along_offers : Ready p s room u → Offers k s mid v

@@ -11,7 +11,6 @@ use lib.Pow.{pow_mono}
 use Rattle.bits.specs.internal.Windows.{bits_in}
 use Rattle.bits.specs.Bits.{bits_of}
 use Rattle.bits.proofs.Parts.{join_small}
-use Rattle.bits.specs.internal.write.Filling.{Filling}
 use Rattle.numbers.specs.declared.accepted.ReadNumber.{ReadNumber}
 use Rattle.numbers.specs.internal.accepted.Accepted.{There, Reads}
 use Rattle.kinds.specs.Kind.{up_to}
@@ -19,7 +18,7 @@ use Rattle.fields.proofs.Lawful.{LawfulKind}
 use Rattle.format.specs.Format.{then}
 use Rattle.grammar.specs.internal.rows.Rows.{row, fits}
 use Rattle.packet_write_segment.specs.declared.elements.PacketSpot.{PacketSpot}
-use Rattle.packet_write_segment.specs.internal.elements.Writing.{Ready, Wrote}
+use Rattle.packet_write_segment.specs.internal.elements.Writing.{FieldPut, Ready, Wrote}
 use Rattle.packet_write_segment.proofs.elements.Writing.{bits_join, Has, has_same, has_small, Gone, gone_all, gone_as, gone_there, gone_has, gone_field, wrote_once}
 use Rattle.packet_write_segment.specs.internal.row.Pieces.{part, between, Puttable}
 use Rattle.packet_write_segment.proofs.row.Rows.{row_from, fits_long, fits_at, row_more, row_none, bits_more, bits_none}
@@ -100,7 +99,6 @@ module _ {ws ms s room : List ℕ} {u : PacketSpot} {total i from bits : ℕ} (g
     pub gathered_small : bits < 2 ^ total
     gathered_small = rw all at g.small
 
-    pub gathers_wrote : {end : List ℕ} {r : ℕ} → Filling room u.at u.wait total bits end r
-        → Wrote (row ws ms) s room u end (record { from = from; at = u.at + total; wait = r })
+    pub gathers_wrote : {end : List ℕ} {r : PacketSpot} → FieldPut room u total bits from end r → Wrote (row ws ms) s room u end r
     gathers_wrote d =
         wrote_once (rw all at (gone_as (λ x. x) (row_none ws ms (fits_long ws ms g.fit) i l) g.gone)) refl d

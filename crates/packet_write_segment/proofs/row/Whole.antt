@@ -6,14 +6,13 @@ use Prim.Native.Nat.{ℕ, ◌+◌, ◌≤◌, ◌<◌}
 use native.Mathlib.Omega.{arith}
 use lib.ListN.{length, drop, get_or}
 use Rattle.bits.specs.internal.Windows.{bits_in}
-use Rattle.bits.specs.internal.write.Filling.{Filling}
-use Rattle.numbers.specs.declared.accepted.ReadNumber.{ReadNumber}
-use Rattle.numbers.specs.internal.accepted.Accepted.{Reads}
 use Rattle.kinds.specs.Kind.{up_to}
 use Rattle.format.specs.Format.{then}
 use Rattle.grammar.specs.internal.rows.Rows.{row, fits}
 use Rattle.packet_write_segment.specs.declared.elements.PacketSpot.{PacketSpot}
 use Rattle.packet_write_segment.specs.internal.elements.Writing.{Ready, Wrote}
+use Rattle.packet_write_segment.specs.declared.row.Given.{Given}
+use Rattle.packet_write_segment.specs.internal.row.Alone.{Copied}
 use Rattle.packet_write_segment.proofs.elements.Writing.{Along, along_all, along_as, along_none, Next, next_on}
 use Rattle.packet_write_segment.proofs.row.Rows.{row_from, fits_long, fits_at, row_more, row_none, bits_more, bits_none}
 
@@ -38,9 +37,8 @@ module _ {ws ms s room mid : List ℕ} {u v : PacketSpot} {i : ℕ} (g : Putting
       same = λ n. refl;
     }
 
-    pub putting_more : {t : ReadNumber} → Reads s v.from t → {end : List ℕ} {r : ℕ} → Filling mid v.at v.wait (get_or ws i 0) t.value end r
-        → Putting ws ms s room u (i + 1) end (record { from = t.next; at = v.at + get_or ws i 0; wait = r })
-    putting_more d f = record { ready = g.ready; fit = g.fit; along = next_on putting_next d refl f; sum = omega (arith, g.sum, bits_more ws i l) }
+    pub putting_more : {end : List ℕ} {r : Given} → Copied s mid v (get_or ws i 0) end r → Putting ws ms s room u (i + 1) end r.next
+    putting_more d = record { ready = g.ready; fit = g.fit; along = next_on putting_next refl d; sum = omega (arith, g.sum, bits_more ws i l, d.put.at) }
 
   pub putting_wrote : length ws ≤ i → Wrote (row ws ms) s room u mid v × (v.at ≡ u.at + bits_in ws)
   putting_wrote l = (along_none (along_as (λ f. f) (row_none ws ms (fits_long ws ms g.fit) i l) g.along), omega (arith, g.sum, bits_none ws i l))

@@ -1,18 +1,18 @@
 -- The numbers of a cards file, read one after the other into an array.
 use mathlib.Core.Path.{◌≡◌, refl, sym, ap, ◌∙◌}
-use mathlib.Core.Bool.{Bool, true, false}
+use mathlib.Core.Bool.{true, false}
 use mathlib.Core.List.{List, [], ◌∷◌, ◌++◌, append-nil}
 use Prim.Native.Nat.{ℕ, zero, suc, ◌+◌, ◌*◌, ◌-◌, ◌/◌, ◌%◌, ◌≤◌, ◌<◌}
 use native.Mathlib.Omega.{arith}
 use native.Mathlib.Numerals.{add-one}
-use borrow.Author.Tests.{eq-eqb, ne_eqb, le-leb, lt-leb}
-use lib.Dec.{ltb}
+use borrow.Author.Tests.{eq-eqb, ne_eqb}
 use lib.ListN.{length, take, drop, get_or, set, length-set, drop_of_length-le}
 use lib.Seq.{take-suc-set, append_snoc, drop-drop, drop-cons}
-use Rattle.numbers.specs.declared.Number.TheVariants.{Value, Bad}
 use Rattle.numbers.specs.Numbers.{number_in, groups_in}
 use Rattle.numbers.proofs.Counting.{count_five}
-use Rattle.screen.specs.declared.file.FileRead.TheVariants.{Cards, Refused}
+use Rattle.std.specs.Prelude.{Ok, Err, Some, None}
+use Rattle.kinds.specs.declared.refusals.Refused.{Refused}
+use Rattle.kinds.specs.Refusals.{refusal_number}
 use Rattle.screen.specs.File.{Numbers, accepted, refused, in_front, wrong, judged, ended, numbers_from, file_numbers}
 use Rattle.screen.specs.internal.Reading.{Read}
 
@@ -24,18 +24,6 @@ behind p (refused r place) = refused r place
 behind_snoc : (p : List ℕ) (v : ℕ) (o : Numbers) → behind (p ++ (v ∷ [])) o ≡ behind p (in_front v o)
 behind_snoc p v (accepted l) = ap accepted (append_snoc p v l)
 behind_snoc p v (refused r place) = refl
-
--- ---- whether a membership is wrong
-
-module _ (k v : ℕ) where
-  pub right_before : k % 7 < 2 → false ≡ wrong k v
-  right_before h = rw (lt-leb 2 (k % 7) h)
-
-  pub right_after : 2 ≤ k % 7 → 4 < k % 7 → false ≡ wrong k v
-  right_after a h = rw (le-leb 2 (k % 7) a, lt-leb (k % 7) 4 h)
-
-  pub member_is : 2 ≤ k % 7 → k % 7 ≤ 4 → {b : Bool} → b ≡ ltb 1 v → b ≡ wrong k v
-  member_is a h e = rw (le-leb 2 (k % 7) a, le-leb (k % 7) 4 h) e
 
 -- ---- the loop: k numbers are read, and the next one starts at the byte `at`
 
@@ -69,8 +57,8 @@ module _ {s : List ℕ} {k at : ℕ} {values : List ℕ} (g : Reading s k at val
     left_is = drop-cons s at 0 more
 
     -- "bytes after 64 cards give 20"
-    pub reading_many : {out : List ℕ} → k ≡ 448 → Read s (Refused 20 0) out
-    reading_many e = record { says = refused_so over; few = omega arith }
+    pub reading_many : {out : List ℕ} {f : Refused ℕ} → refusal_number f.0 ≡ 20 → f.1 ≡ 0 → k ≡ 448 → Read s (Err f) out
+    reading_many p q e = record { says = rw (p, q) (refused_so over); few = omega arith }
       where
         z : 448 - k ≡ 0
         z = omega arith
@@ -85,13 +73,13 @@ module _ {s : List ℕ} {k at : ℕ} {values : List ℕ} (g : Reading s k at val
           ap (λ (i : ℕ). numbers_from i k at (drop at s)) z ∙ rw left_is
 
       -- "9"
-      pub reading_bad : {out : List ℕ} → number_in (drop at s) ≡ Bad → Read s (Refused 9 at) out
-      reading_bad e = record { says = refused_so (step _ refl ∙ rw e); few = omega arith }
+      pub reading_bad : {out : List ℕ} {f : Refused ℕ} → refusal_number f.0 ≡ 9 → f.1 ≡ at → number_in (drop at s) ≡ None → Read s (Err f) out
+      reading_bad p q e = record { says = rw (p, q) (refused_so (step _ refl ∙ rw e)); few = omega arith }
 
-      module _ (v : ℕ) (e : number_in (drop at s) ≡ Value v) where
+      module _ (v : ℕ) (e : number_in (drop at s) ≡ Some v) where
         -- "4 for a membership not 0 or 1"
-        pub reading_wrong : {out : List ℕ} → wrong k v ≡ true → Read s (Refused 4 at) out
-        reading_wrong w = record { says = refused_so (step _ refl ∙ rw (e, w)); few = omega arith }
+        pub reading_wrong : {out : List ℕ} {f : Refused ℕ} → refusal_number f.0 ≡ 4 → f.1 ≡ at → wrong k v ≡ true → Read s (Err f) out
+        reading_wrong p q w = record { says = rw (p, q) (refused_so (step _ refl ∙ rw (e, w))); few = omega arith }
 
         pub reading_next : {c : ℕ} → length (groups_in v) ≡ c → wrong k v ≡ false → Reading s (k + 1) (at + c) (set values k v)
         reading_next {c} d w = record {
@@ -113,10 +101,10 @@ module _ {s : List ℕ} {k at : ℕ} {values : List ℕ} (g : Reading s k at val
         go (suc m) = refl
 
     -- a file that ends within a card
-    pub reading_cut : {out : List ℕ} → (k % 7 ≡ 0 → ⊥) → Read s (Refused 9 at) out
-    reading_cut h = record { says = refused_so (last ∙ rw (ne_eqb (k % 7) 0 h)); few = omega arith }
+    pub reading_cut : {out : List ℕ} {f : Refused ℕ} → refusal_number f.0 ≡ 9 → f.1 ≡ at → (k % 7 ≡ 0 → ⊥) → Read s (Err f) out
+    reading_cut p q h = record { says = rw (p, q) (refused_so (last ∙ rw (ne_eqb (k % 7) 0 h))); few = omega arith }
 
-    pub reading_last : k % 7 ≡ 0 → Read s (Cards (k / 7)) values
+    pub reading_last : k % 7 ≡ 0 → Read s (Ok (k / 7)) values
     reading_last h =
         let z : 7 * (k / 7) ≡ k = omega arith in
         let e : rest ≡ accepted [] = last ∙ rw (eq-eqb (k % 7) 0 h) in

@@ -1,30 +1,21 @@
 -- `screen::screen` meets its contract.
-use mathlib.Core.Path.{subst}
+use mathlib.Core.Path.{ap, ◌∙◌}
+use Prim.Native.Nat.{ℕ}
 use native.Mathlib.Omega.{arith}
+use lib.ListN.{take}
 use Rattle.text.specs.Listing.{refused_line}
-use Rattle.screen.specs.declared.file.FileRead.{FileRead}
-use Rattle.screen.specs.File.{cards_from}
 use Rattle.screen.specs.Screen.{text_of}
-use Rattle.screen.specs.internal.Reading.{Read}
 use Rattle.screen.proofs.Whole.{file_refused, file_cards, screen_laid}
 use Rattle.screen.proofs.screen.Goals as goal
 
-pub put_text-requires : goal.put_text-requires
-put_text-requires c =
-    let r = c.read_cards in
-    let read = subst (λ (o : FileRead). Read c.args.cards.now o r.new.values) c.in-Cards.is r.ensures in
-    (read.few, omega arith)
-
-pub returns-in-Refused : goal.returns-in-Refused
-returns-in-Refused c =
+pub returns-in-Err : goal.returns-in-Err
+returns-in-Err c =
     let a = c.args in
-    let r = c.read_cards in
-    let read = subst (λ (o : FileRead). Read a.cards.now o r.new.values) c.in-Refused.is r.ensures in
-    screen_laid a.cards.now a.packet.now a.room.now (refused_line _ _) (omega arith) c.put_refusal.ensures (file_refused a.cards.now a.packet.now read)
+    screen_laid a.cards.now a.packet.now a.room.now (refused_line _ _) (omega arith) c.put_refusal.ensures
+    (ap (λ (n : ℕ). refused_line n c.in-Err.field-0.1) c.from.ensures ∙ file_refused a.cards.now a.packet.now c.in-Err.ensures)
 
-pub returns-in-Cards : goal.returns-in-Cards
-returns-in-Cards c =
+pub returns-in-Ok : goal.returns-in-Ok
+returns-in-Ok c =
     let a = c.args in
-    let r = c.read_cards in
-    let read = subst (λ (o : FileRead). Read a.cards.now o r.new.values) c.in-Cards.is r.ensures in
-    screen_laid a.cards.now a.packet.now a.room.now (text_of a.packet.now (cards_from c.in-Cards.n 0 r.new.values)) (omega arith) c.put_text.ensures (file_cards a.cards.now a.packet.now r.auto.values read)
+    screen_laid a.cards.now a.packet.now a.room.now (text_of a.packet.now (take c.in-Ok.n c.cards_in-all.result)) (omega arith) c.put_text.ensures
+    (ap (text_of a.packet.now) c.cards_in-all.ensures ∙ file_cards a.cards.now a.packet.now c.read_cards.auto.values c.in-Ok.ensures)

@@ -2,20 +2,15 @@
 use Rattle.std.proofs.Common.{refl}
 use Rattle.kinds.specs.Kinds.{m_voltage}
 use Rattle.fields.proofs.Lawful.{voltage_lawful}
-use Rattle.sheet_fields.proofs.Steps.{took_bad, low_out, low_in}
+use Rattle.verdict.proofs.Exits.{exit}
+use Rattle.sheet_fields.proofs.Steps.{low_none, low_some}
 use Rattle.sheet_fields.proofs.voltage.Goals as goal
 
-pub returns-then-a-eq0 : goal.returns-then-a-eq0
-returns-then-a-eq0 c =
-    let a = c.args in
-    took_bad a.s.now c.requires c.found_at-a.ensures m_voltage a.n c.if-a-eq0.true
+pub returns-in_err-v : goal.returns-in_err-v
+returns-in_err-v c = rw (exit c.from_residual.ensures.1) (c.in_err-v.ensures _)
 
-pub returns-then-v-eq-NO_VOLTAGE : goal.returns-then-v-eq-NO_VOLTAGE
-returns-then-v-eq-NO_VOLTAGE c =
-    let a = c.args in
-    low_out a.s.now c.requires c.found_at-a.ensures m_voltage a.n c.if-a-eq0.false c.volts_place-v.ensures voltage_lawful c.if-v-eq-NO_VOLTAGE.true
+pub returns-then-place-eq-NO_VOLTAGE : goal.returns-then-place-eq-NO_VOLTAGE
+returns-then-place-eq-NO_VOLTAGE c = rw (low_none m_voltage c.volts_place-place.ensures voltage_lawful c.if-place-eq-NO_VOLTAGE.true) at (c.in_ok-v.ensures m_voltage refl)
 
 pub returns : goal.returns
-returns c =
-    let a = c.args in
-    low_in a.s.now c.requires c.found_at-a.ensures m_voltage a.n c.if-a-eq0.false c.volts_place-v.ensures c.if-v-eq-NO_VOLTAGE.false refl c.wrapping_add_u32.ensures.value
+returns c = rw (low_some m_voltage c.volts_place-place.ensures c.if-place-eq-NO_VOLTAGE.false) at (c.in_ok-v.ensures m_voltage refl)

@@ -1,15 +1,13 @@
 -- `sheet_journey::fields` meets its contract.
 use Rattle.format.proofs.Ways.{over_on, over_off}
 use Rattle.grammar.specs.internal.rows.Rows.{row}
+use Rattle.verdict.proofs.Exits.{exit}
 use Rattle.sheet_journey.proofs.fields.Goals as goal
 
-pub body-requires : goal.body-requires
-body-requires c = (rw c.in-On.is at c.header.ensures).stands
-
-pub returns-in-Refused : goal.returns-in-Refused
+pub returns-in_err-next : goal.returns-in_err-next
 unfolding row
-returns-in-Refused c = over_off (rw c.in-Refused.is at c.header.ensures)
+returns-in_err-next c = rw (exit c.from_residual.ensures.1) (over_off c.in_err-next.ensures)
 
-pub returns-in-On : goal.returns-in-On
+pub returns : goal.returns
 unfolding row
-returns-in-On c = over_on (rw c.in-On.is at c.header.ensures) c.body.ensures
+returns c = over_on c.in_ok-next.ensures c.body.ensures

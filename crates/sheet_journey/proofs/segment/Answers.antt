@@ -3,33 +3,21 @@ use Rattle.format.proofs.Ways.{over_on, over_off, value_on, value_off}
 use Rattle.grammar.specs.internal.rows.Rows.{row}
 use Rattle.grammar.specs.journey.Journey.{constraints}
 use Rattle.grammar.specs.internal.journey.Parts.{segment_rest}
+use Rattle.verdict.proofs.Exits.{exit}
 use Rattle.sheet_journey.proofs.segment.Goals as goal
 
-pub ranged-requires : goal.ranged-requires
-ranged-requires c = (rw c.in-On.is at c.segment_row.ensures).stands
-
-pub points-requires : goal.points-requires
-points-requires c = (rw c.in-Is.is at c.ranged.ensures).stands
-
-pub constraints-requires : goal.constraints-requires
-constraints-requires c = (rw c.in-On-points.is at c.points.ensures).stands
-
-pub returns-in-Refused : goal.returns-in-Refused
+pub returns-in_err-next : goal.returns-in_err-next
 unfolding row
-returns-in-Refused c = over_off (rw c.in-Refused.is at c.segment_row.ensures)
+returns-in_err-next c = rw (exit c.from_residual.ensures.1) (over_off c.in_err-next.ensures)
 
-pub returns-in-Refused-ranged : goal.returns-in-Refused-ranged
+pub returns-in_err-count : goal.returns-in_err-count
 unfolding row
-returns-in-Refused-ranged c = over_on (rw c.in-On.is at c.segment_row.ensures) (value_off (segment_rest constraints) (rw c.in-Refused-ranged.is at c.ranged.ensures))
+returns-in_err-count c = rw (exit c.from_residual-in_err-count.ensures.1) (over_on c.in_ok-next.ensures (value_off (segment_rest constraints) c.in_err-count.ensures))
 
-pub returns-in-Refused-points : goal.returns-in-Refused-points
+pub returns-in_err-next-2 : goal.returns-in_err-next-2
 unfolding row
-returns-in-Refused-points c = over_on (rw c.in-On.is at c.segment_row.ensures)
-    (value_on (segment_rest constraints) (rw c.in-Is.is at c.ranged.ensures)
-    (over_off (rw c.in-Refused-points.is at c.points.ensures)))
+returns-in_err-next-2 c = rw (exit c.from_residual-in_err-next-2.ensures.1) (over_on c.in_ok-next.ensures (value_on (segment_rest constraints) c.in_ok-count.ensures (over_off c.in_err-next-2.ensures)))
 
-pub returns-in-On-points : goal.returns-in-On-points
+pub returns : goal.returns
 unfolding row
-returns-in-On-points c = over_on (rw c.in-On.is at c.segment_row.ensures)
-    (value_on (segment_rest constraints) (rw c.in-Is.is at c.ranged.ensures)
-    (over_on (rw c.in-On-points.is at c.points.ensures) c.constraints.ensures))
+returns c = over_on c.in_ok-next.ensures (value_on (segment_rest constraints) c.in_ok-count.ensures (over_on c.in_ok-next-2.ensures c.constraints.ensures))

@@ -1,39 +1,32 @@
+use Rattle.std.proofs.Common.{◌≡◌, ◌+◌, ◌-◌, arith}
 use Rattle.grammar.specs.internal.segment.Parts.{start_of}
-use Rattle.format.proofs.Ways.{left_all, left_none, left_as}
+use Rattle.format.proofs.Ways.{left_none, left_as}
 use Rattle.grammar.proofs.segment.Parts.{changes_none}
 use Rattle.grammar.proofs.segment.Changes.{location_off, element_off, element_on}
-use native.Mathlib.Omega.{arith}
+use Rattle.verdict.proofs.Exits.{exit}
 use Rattle.sheet_segment.proofs.changes.Goals as goal
 
-pub loop-left-init : goal.loop-left-init
-loop-left-init c = left_all c.requires
-
-pub location-requires : goal.location-requires
-location-requires c = c.loop-left.invariant.stands
-
-pub returns-in-Refused : goal.returns-in-Refused
-returns-in-Refused c =
+pub returns-in_err-x : goal.returns-in_err-x
+returns-in_err-x c =
     let a = c.args in
-    let l = c.loop-left in
-    location_off (start_of a.part) a.lsp l.last l.left (omega arith) l.invariant (rw c.in-Refused.is at c.location.ensures)
+    let l = c.loop in
+    rw (exit c.from_residual.ensures.1) (location_off (start_of a.part) a.lsp l.last (a.count - l.counter) (omega arith) l.invariant c.in_err-x.ensures)
 
-pub element-requires : goal.element-requires
-element-requires c = (rw c.in-Is.is at c.location.ensures).stands
-
-pub returns-in-Refused-element : goal.returns-in-Refused-element
-returns-in-Refused-element c =
+pub returns-in_err-spot : goal.returns-in_err-spot
+returns-in_err-spot c =
     let a = c.args in
-    let l = c.loop-left in
-    element_off (start_of a.part) a.lsp l.last l.left (omega arith) l.invariant (rw c.in-Is.is at c.location.ensures) (rw c.in-Refused-element.is at c.element.ensures)
+    let l = c.loop in
+    rw (exit c.from_residual-in_err-spot.ensures.1) (element_off (start_of a.part) a.lsp l.last (a.count - l.counter) (omega arith) l.invariant c.in_ok-x.ensures c.in_err-spot.ensures)
 
-pub loop-left-preserved : goal.loop-left-preserved
-loop-left-preserved c =
+pub loop-preserved : goal.loop-preserved
+loop-preserved c =
     let a = c.args in
-    let l = c.loop-left in
-    element_on (start_of a.part) a.lsp l.last l.left (omega arith) l.invariant (rw c.in-Is.is at c.location.ensures) (rw c.in-On.is at c.element.ensures)
+    let l = c.loop in
+    let e : a.count - l.counter - 1 ≡ a.count - (l.counter + 1) = omega arith in
+    rw e at (element_on (start_of a.part) a.lsp l.last (a.count - l.counter) (omega arith) l.invariant c.in_ok-x.ensures c.in_ok-spot.ensures)
 
 pub returns : goal.returns
 returns c =
     let a = c.args in
-    let l = c.loop-left in
-    left_none (left_as (λ f. f) (changes_none (start_of a.part) a.lsp l.last l.left (omega arith)) l.invariant)
+    let l = c.loop in
+    left_none (left_as (λ f. f) (changes_none (start_of a.part) a.lsp l.last (a.count - l.counter) (omega arith)) l.invariant)

@@ -1,29 +1,25 @@
-use mathlib.Core.Path.{refl}
-use Prim.Native.Nat.{◌-◌}
+use Rattle.std.proofs.Common.{◌≡◌, ℕ, zero, suc, ◌-◌, refl, arith}
+use Rattle.format.specs.Format.{Format, times}
+use Rattle.format.proofs.Ways.{left_all, left_as}
 use Rattle.grammar.specs.segment.Segment.{entries}
 use Rattle.grammar.specs.internal.segment.Parts.{entry}
-use Rattle.format.proofs.Ways.{left_all, left_none, left_as, left_on, left_off}
-use Rattle.grammar.proofs.segment.Parts.{entries_more, entries_none}
-use native.Mathlib.Omega.{arith}
+use Rattle.verdict.proofs.Exits.{exit}
+use Rattle.sheet_fields.proofs.Loops.{count_on, count_off, count_end}
 use Rattle.sheet_segment.proofs.entries.Goals as goal
 
-pub loop-left-init : goal.loop-left-init
-loop-left-init c = left_all c.requires
+as_times : (n : ℕ) (f : Format) → entries n f ≡ times entry n f
+unfolding entries times
+as_times zero f = refl
+as_times (suc n) f = rw (as_times n f)
 
-pub entry-requires : goal.entry-requires
-entry-requires c = (c.loop-left.invariant.stands, refl)
+pub loop-init : goal.loop-init
+loop-init c = let e : c.args.count - 0 ≡ c.args.count = omega arith in rw e (left_as (times entry c.args.count) (as_times c.args.count) (left_all c.requires))
 
-pub returns-in-Refused : goal.returns-in-Refused
-returns-in-Refused c =
-    let l = c.loop-left in
-    let more = left_as (λ f. entry (entries (l.left - 1) f)) (entries_more l.left (omega arith)) l.invariant in
-    left_off entry (entries (l.left - 1)) more (rw c.in-Refused.is at c.entry.ensures)
+pub returns-in_err-spot : goal.returns-in_err-spot
+returns-in_err-spot c = rw (exit c.from_residual.ensures.1) (count_off entry c.loop.invariant c.loop-test.true c.in_err-spot.ensures)
 
-pub loop-left-preserved : goal.loop-left-preserved
-loop-left-preserved c =
-    let l = c.loop-left in
-    let more = left_as (λ f. entry (entries (l.left - 1) f)) (entries_more l.left (omega arith)) l.invariant in
-    left_on entry (entries (l.left - 1)) more (rw c.in-On.is at c.entry.ensures)
+pub loop-preserved : goal.loop-preserved
+loop-preserved c = count_on entry c.loop.invariant c.loop-test.true c.in_ok-spot.ensures
 
 pub returns : goal.returns
-returns c = let l = c.loop-left in left_none (left_as (λ f. f) (entries_none l.left (omega arith)) l.invariant)
+returns c = count_end entry c.loop.invariant (omega arith)

@@ -1,12 +1,7 @@
 -- `sheet_segment::fields` meets its contract.
-use Rattle.format.proofs.Ways.{over_on, over_off}
+use Rattle.format.proofs.Ways.{over_off}
+use Rattle.verdict.proofs.Exits.{exit}
 use Rattle.sheet_segment.proofs.fields.Goals as goal
 
-pub body-requires : goal.body-requires
-body-requires c = (rw c.in-On.is at c.header.ensures).stands
-
-pub returns-in-Refused : goal.returns-in-Refused
-returns-in-Refused c = over_off (rw c.in-Refused.is at c.header.ensures)
-
-pub returns-in-On : goal.returns-in-On
-returns-in-On c = over_on (rw c.in-On.is at c.header.ensures) c.body.ensures
+pub returns-in_err-next : goal.returns-in_err-next
+returns-in_err-next c = rw (exit c.from_residual.ensures.1) (over_off c.in_err-next.ensures)

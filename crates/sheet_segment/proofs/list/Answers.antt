@@ -1,25 +1,12 @@
 -- `sheet_segment::list` meets its contract.
 use Rattle.grammar.specs.segment.Segment.{changes}
 use Rattle.grammar.specs.internal.segment.Parts.{start_of}
-use Rattle.format.proofs.Ways.{over_on, over_off, value_on, value_off}
-use native.Mathlib.Omega.{arith}
+use Rattle.format.proofs.Ways.{over_on, value_on, value_off}
+use Rattle.verdict.proofs.Exits.{exit}
 use Rattle.sheet_segment.proofs.list.Goals as goal
 
-pub single-requires : goal.single-requires
-single-requires c = ((rw c.in-On.is at c.element.ensures).stands, omega arith)
+pub returns-in_err-count : goal.returns-in_err-count
+returns-in_err-count c = rw (exit c.from_residual-in_err-count.ensures.1) (over_on c.in_ok-next.ensures (value_off (changes (start_of c.args.part) c.args.lsp 0) c.in_err-count.ensures))
 
-pub changes-requires : goal.changes-requires
-changes-requires c = (rw c.in-Is.is at c.single.ensures).stands
-
-pub returns-in-Refused : goal.returns-in-Refused
-returns-in-Refused c = over_off (rw c.in-Refused.is at c.element.ensures)
-
-pub returns-in-Refused-single : goal.returns-in-Refused-single
-returns-in-Refused-single c =
-    let a = c.args in
-    over_on (rw c.in-On.is at c.element.ensures) (value_off (changes (start_of a.part) a.lsp 0) (rw c.in-Refused-single.is at c.single.ensures))
-
-pub returns-in-Is : goal.returns-in-Is
-returns-in-Is c =
-    let a = c.args in
-    over_on (rw c.in-On.is at c.element.ensures) (value_on (changes (start_of a.part) a.lsp 0) (rw c.in-Is.is at c.single.ensures) c.changes.ensures)
+pub returns : goal.returns
+returns c = over_on c.in_ok-next.ensures (value_on (changes (start_of c.args.part) c.args.lsp 0) c.in_ok-count.ensures c.changes.ensures)

@@ -3,37 +3,17 @@ use Rattle.kinds.specs.Kinds.{n_iter}
 use Rattle.format.specs.Format.{field}
 use Rattle.grammar.specs.segment.Segment.{entries}
 use Rattle.format.proofs.Ways.{over_on, over_off, value_on, value_off}
-use lib.Dec.{lit<}
+use Rattle.verdict.proofs.Exits.{exit}
 use Rattle.sheet_segment.proofs.profile.Goals as goal
 
-pub speed-requires : goal.speed-requires
-speed-requires c = c.requires
+pub returns-in_err-next : goal.returns-in_err-next
+returns-in_err-next c = rw (exit c.from_residual.ensures.1) (over_off c.in_err-next.ensures)
 
-pub single-requires : goal.single-requires
-single-requires c = ((rw c.in-On.is at c.speed.ensures).stands, lit< tt)
+pub returns-in_err-next-2 : goal.returns-in_err-next-2
+returns-in_err-next-2 c = rw (exit c.from_residual-in_err-next-2.ensures.1) (over_on c.in_ok-next.ensures (value_off (λ v f. field (n_iter 31) (λ m. entries m f)) c.in_err-next-2.ensures))
 
-pub single-requires-in-Is : goal.single-requires-in-Is
-single-requires-in-Is c = ((rw c.in-Is.is at c.single.ensures).stands, lit< tt)
+pub returns-in_err-count : goal.returns-in_err-count
+returns-in_err-count c = rw (exit c.from_residual-in_err-count.ensures.1) (over_on c.in_ok-next.ensures (value_on (λ v f. field (n_iter 31) (λ m. entries m f)) c.in_ok-next-2.ensures (value_off entries c.in_err-count.ensures)))
 
-pub entries-requires : goal.entries-requires
-entries-requires c = (rw c.in-Is-single.is at c.single-in-Is.ensures).stands
-
-pub returns-in-Refused : goal.returns-in-Refused
-returns-in-Refused c = over_off (rw c.in-Refused.is at c.speed.ensures)
-
-pub returns-in-Refused-single : goal.returns-in-Refused-single
-returns-in-Refused-single c =
-    over_on (rw c.in-On.is at c.speed.ensures)
-    (value_off (λ v f. field (n_iter 31) (λ m. entries m f)) (rw c.in-Refused-single.is at c.single.ensures))
-
-pub returns-in-Refused-single-2 : goal.returns-in-Refused-single-2
-returns-in-Refused-single-2 c =
-    over_on (rw c.in-On.is at c.speed.ensures)
-    (value_on (λ v f. field (n_iter 31) (λ m. entries m f)) (rw c.in-Is.is at c.single.ensures)
-    (value_off entries (rw c.in-Refused-single-2.is at c.single-in-Is.ensures)))
-
-pub returns-in-Is-single : goal.returns-in-Is-single
-returns-in-Is-single c =
-    over_on (rw c.in-On.is at c.speed.ensures)
-    (value_on (λ v f. field (n_iter 31) (λ m. entries m f)) (rw c.in-Is.is at c.single.ensures)
-    (value_on entries (rw c.in-Is-single.is at c.single-in-Is.ensures) c.entries.ensures))
+pub returns : goal.returns
+returns c = over_on c.in_ok-next.ensures (value_on (λ v f. field (n_iter 31) (λ m. entries m f)) c.in_ok-next-2.ensures (value_on entries c.in_ok-count.ensures c.entries.ensures))

@@ -12,12 +12,12 @@ use Rattle.sheet_write_journey.proofs.write_journey.Goals as goal
 writable : (s : List ℕ) (stop : ℕ) (room : List ℕ) (start : ℕ) → FieldsWritable Journey s stop room start × (8 ≤ length s) → PartWritable journey_part s stop 24 (filled room start)
 writable s stop room start h = fields_writable Journey journey_part whole_part s stop room start h
 
-pub head-first-requires : goal.head-first-requires
-head-first-requires c = head_row _ _ (writable c.args.packet.now c.args.stop c.args.room.now c.args.start c.requires)
+pub head-counted-requires : goal.head-counted-requires
+head-counted-requires c = head_row _ _ (writable c.args.packet.now c.args.stop c.args.room.now c.args.start c.requires)
 
-pub segments-requires : goal.segments-requires
-segments-requires c = segments_writable _ _ (writable c.args.packet.now c.args.stop c.args.room.now c.args.start c.requires) c.head-first.ensures.0 c.head-first.ensures.1
+pub times-requires : goal.times-requires
+times-requires c = segments_writable _ _ (writable c.args.packet.now c.args.stop c.args.room.now c.args.start c.requires) c.head-counted.ensures.0 c.head-counted.ensures.1
 
 pub returns : goal.returns
 returns c =
-    fields_held Journey journey_part whole_part _ _ _ _ c.requires (journey_wrote _ _ (writable c.args.packet.now c.args.stop c.args.room.now c.args.start c.requires) c.head-first.ensures.0 c.head-first.ensures.1 c.segments.ensures)
+    fields_held Journey journey_part whole_part _ _ _ _ c.requires (journey_wrote _ _ (writable c.args.packet.now c.args.stop c.args.room.now c.args.start c.requires) c.head-counted.ensures.0 c.head-counted.ensures.1 c.times.ensures)

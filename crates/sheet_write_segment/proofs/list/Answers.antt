@@ -3,51 +3,34 @@ use mathlib.Core.Path.{refl}
 use Prim.Native.Nat.{◌+◌}
 use native.Mathlib.Nat.{le_refl}
 use native.Mathlib.Omega.{arith}
-use lib.Dec.{lit<, lit≤}
 use Rattle.bits.proofs.Fields.{field_small}
 use Rattle.kinds.specs.Kinds.{n_iter}
 use Rattle.format.specs.Format.{field}
 use Rattle.grammar.specs.segment.Segment.{changes}
 use Rattle.grammar.specs.internal.segment.Parts.{start_of}
-use Rattle.sheet_write_segment.proofs.elements.Writing.{along_all, along_here, along_put, along_next, along_on, along_none, field_here, field_read}
+use Rattle.sheet_write_segment.proofs.elements.Writing.{along_all, along_here, along_put, along_on, along_none, field_here}
 use Rattle.sheet_write_segment.proofs.list.Goals as goal
 
-pub element-first-requires : goal.element-first-requires
-element-first-requires c =
-    let a = c.args in
-    let s = a.packet.now in
-    along_next s a.stop (start_of a.part) (λ f. field (n_iter a.limit) λ n. changes (start_of a.part) a.lsp 0 n f) (along_all s a.stop c.requires) c.requires
-
-pub read_window-count-requires : goal.read_window-count-requires
-read_window-count-requires c =
-    let a = c.args in
-    let s = a.packet.now in
-    let m = along_on s a.stop (start_of a.part) (λ f. field (n_iter a.limit) λ n. changes (start_of a.part) a.lsp 0 n f) (along_all s a.stop c.requires) c.element-first.ensures in
-    field_read s a.stop (n_iter a.limit) (changes (start_of a.part) a.lsp 0) 5 refl (along_here s a.stop m c.requires) (lit< tt) (lit≤ tt)
-
 pub put_short-m-requires : goal.put_short-m-requires
-put_short-m-requires c =
+put_short-m-requires g c =
     let a = c.args in
     let s = a.packet.now in
-    let m = along_on s a.stop (start_of a.part) (λ f. field (n_iter a.limit) λ n. changes (start_of a.part) a.lsp 0 n f) (along_all s a.stop c.requires) c.element-first.ensures in (
+    let m = along_on s a.stop (start_of a.part) (λ f. field (n_iter g.limit) λ n. changes (start_of a.part) a.lsp 0 n f) (along_all s a.stop c.requires) c.element-first.ensures in (
       omega (arith, c.read_window-count.ensures, field_small s c.element-first.result.at 5 5 (le_refl _)),
-      (field_here s a.stop (n_iter a.limit) (changes (start_of a.part) a.lsp 0) 5 refl (along_here s a.stop m c.requires) _ c.read_window-count.ensures).fits,
+      (field_here s a.stop (n_iter g.limit) (changes (start_of a.part) a.lsp 0) 5 refl (along_here s a.stop m c.requires) _ c.read_window-count.ensures).fits,
     )
 
-pub overflow_add-to : goal.overflow_add-to
-overflow_add-to c = let g = c.element-first.ensures.over.stands in omega (arith, g.before, g.few)
-
 pub changes-requires : goal.changes-requires
-changes-requires c =
+changes-requires g c =
     let a = c.args in
     let s = a.packet.now in
-    let m = along_on s a.stop (start_of a.part) (λ f. field (n_iter a.limit) λ n. changes (start_of a.part) a.lsp 0 n f) (along_all s a.stop c.requires) c.element-first.ensures in
-    along_here s a.stop (along_put s a.stop (n_iter a.limit) (changes (start_of a.part) a.lsp 0) 5 refl m c.requires _ c.read_window-count.ensures (c.element-first.result.at + 5) refl c.put_short-m.ensures) c.requires
+    let m = along_on s a.stop (start_of a.part) (λ f. field (n_iter g.limit) λ n. changes (start_of a.part) a.lsp 0 n f) (along_all s a.stop c.requires) c.element-first.ensures in
+    along_here s a.stop (along_put s a.stop (n_iter g.limit) (changes (start_of a.part) a.lsp 0) 5 refl m c.requires _ c.read_window-count.ensures (c.element-first.result.at + 5) refl c.put_short-m.ensures) c.requires
 
 pub returns : goal.returns
-returns c =
+returns g c =
     let a = c.args in
     let s = a.packet.now in
-    let m = along_on s a.stop (start_of a.part) (λ f. field (n_iter a.limit) λ n. changes (start_of a.part) a.lsp 0 n f) (along_all s a.stop c.requires) c.element-first.ensures in
-    let o = along_put s a.stop (n_iter a.limit) (changes (start_of a.part) a.lsp 0) 5 refl m c.requires _ c.read_window-count.ensures (c.element-first.result.at + 5) refl c.put_short-m.ensures in
+    let m = along_on s a.stop (start_of a.part) (λ f. field (n_iter g.limit) λ n. changes (start_of a.part) a.lsp 0 n f) (along_all s a.stop c.requires) c.element-first.ensures in
+    let o = along_put s a.stop (n_iter g.limit) (changes (start_of a.part) a.lsp 0) 5 refl m c.requires _ c.read_window-count.ensures (c.element-first.result.at + 5) refl c.put_short-m.ensures in
     along_none s a.stop (along_on s a.stop (changes (start_of a.part) a.lsp 0 c.read_window-count.result) (λ f. f) o c.changes.ensures)

@@ -3,12 +3,6 @@ use Rattle.grammar.specs.segment.Segment.{part, profile, voltage, current, wire_
 use Rattle.sheet_write_segment.proofs.elements.Writing.{along_all, along_here, along_next, along_on, wrote_on}
 use Rattle.sheet_write_segment.proofs.lists.Goals as goal
 
-pub list-one-requires : goal.list-one-requires
-list-one-requires c =
-    let a = c.args in
-    let s = a.packet.now in
-    along_next s a.stop (part profile 31 a.lsp) (λ f. part voltage wire_changes a.lsp (part current wire_changes a.lsp f)) (along_all s a.stop c.requires) c.requires
-
 pub list-two-requires : goal.list-two-requires
 list-two-requires c =
     let a = c.args in

@@ -23,15 +23,15 @@ read_window-lsp-requires c = length_read (writable c.args.packet.now c.args.stop
 pub put_number-to-requires : goal.put_number-to-requires
 put_number-to-requires c = length_fits (writable c.args.packet.now c.args.stop c.args.room.now c.args.start c.requires) c.header-n.ensures c.identity-m.ensures c.read_window-lsp.ensures
 
-pub offsets-first-requires : goal.offsets-first-requires
-offsets-first-requires c =
+pub offsets-requires : goal.offsets-requires
+offsets-requires c =
     offsets_row (writable c.args.packet.now c.args.stop c.args.room.now c.args.start c.requires) c.header-n.ensures c.identity-m.ensures c.read_window-lsp.ensures c.put_number-to.ensures
 
 pub lists-requires : goal.lists-requires
 lists-requires c =
-    lists_writable (writable c.args.packet.now c.args.stop c.args.room.now c.args.start c.requires) c.header-n.ensures c.identity-m.ensures c.read_window-lsp.ensures c.put_number-to.ensures c.offsets-first.ensures
+    lists_writable (writable c.args.packet.now c.args.stop c.args.room.now c.args.start c.requires) c.header-n.ensures c.identity-m.ensures c.read_window-lsp.ensures c.put_number-to.ensures c.offsets.ensures
 
 pub returns : goal.returns
 returns c =
     fields_held Segment segment_rows whole_part c.args.packet.now c.args.stop c.args.room.now c.args.start c.requires
-    (all_wrote (writable c.args.packet.now c.args.stop c.args.room.now c.args.start c.requires) c.header-n.ensures c.identity-m.ensures c.read_window-lsp.ensures c.put_number-to.ensures c.offsets-first.ensures c.lists.ensures)
+    (all_wrote (writable c.args.packet.now c.args.stop c.args.room.now c.args.start c.requires) c.header-n.ensures c.identity-m.ensures c.read_window-lsp.ensures c.put_number-to.ensures c.offsets.ensures c.lists.ensures)

@@ -7,7 +7,8 @@ use lib.Seq.{length-take-le}
 use Rattle.shelf.specs.Book.{key_number}
 use Rattle.shelf.specs.internal.Scanning.{kept_in, gap_in}
 use Rattle.shelf.specs.internal.Changing.{entry_put}
-use Rattle.shelf.proofs.Changing.{moved_length, gap_inside, put_moved}
+use Rattle.shelf.proofs.moves.Moving.{copied}
+use Rattle.shelf.proofs.Changing.{gap_inside, put_moved}
 use Rattle.shelf.proofs.insert.Goals.{After-gap-at}
 use Rattle.shelf.proofs.insert.Goals as goal
 
@@ -23,28 +24,26 @@ inside c =
     let a = c.args in
     (omega (arith, gap_at c, gap_inside a.store.now a.rest a.key a.sheet.now c.requires), c.requires.room)
 
-pub put_entry-requires : goal.put_entry-requires
-put_entry-requires c =
-    let a = c.args in
-    let at = c.gap-at.result in
-    let small = c.requires.small in
-    let i = inside (goal.at.put_entry-requires c).After-gap-at in
-    let long = ap length c.move_up.ensures ∙ moved_length (at + (4 + length a.sheet.now)) at (a.rest - at) a.store.now (omega arith) (omega arith) in
-    (omega (arith, long), omega (arith, long))
-
-pub returns : goal.returns
-returns c =
-    let a = c.args in
-    c.put_entry.ensures ∙ ap (entry_put c.gap-at.result a.sheet.now) c.move_up.ensures ∙ put_moved a.store.now a.rest a.key a.sheet.now c.requires (gap_at (goal.at.returns c).After-gap-at)
-
 pub gap-at-requires : goal.gap-at-requires
 gap-at-requires c = c.requires.run
 
 pub overflow_add-at : goal.overflow_add-at
 overflow_add-at c = omega (arith, inside (goal.at.overflow_add-at c).After-gap-at)
 
-pub overflow_sub-rest : goal.overflow_sub-rest
-overflow_sub-rest c = omega (arith, inside (goal.at.overflow_sub-rest c).After-gap-at)
+pub copy_within-requires-clause-start_le_end : goal.copy_within-requires-clause-start_le_end
+copy_within-requires-clause-start_le_end c = (inside (goal.at.copy_within-requires-clause-start_le_end c).After-gap-at).0
 
-pub move_up-requires : goal.move_up-requires
-move_up-requires c = (omega arith, omega (arith, inside (goal.at.move_up-requires c).After-gap-at))
+pub copy_within-requires-clause-dest_in_bounds : goal.copy_within-requires-clause-dest_in_bounds
+copy_within-requires-clause-dest_in_bounds c = omega (arith, inside (goal.at.copy_within-requires-clause-dest_in_bounds c).After-gap-at)
+
+pub put_entry-requires : goal.put_entry-requires
+put_entry-requires c =
+    let i = inside (goal.at.put_entry-requires c).After-gap-at in
+    (omega (arith, i, c.copy_within.ensures.len), omega (arith, c.requires.small, c.copy_within.ensures.len))
+
+pub returns : goal.returns
+returns c =
+    let a = c.args in
+    let at = c.gap-at.result in
+    c.put_entry.ensures ∙ ap (entry_put at a.sheet.now) (c.copy_within.ensures.after ∙ copied a.store.now (at + (4 + length a.sheet.now)) at (a.rest - at) (a.rest - at) (omega arith))
+    ∙ put_moved a.store.now a.rest a.key a.sheet.now c.requires (gap_at (goal.at.returns c).After-gap-at)

@@ -3,47 +3,25 @@ use mathlib.Core.Path.{◌≡◌, sym, ap, ap₂, ◌∙◌}
 use mathlib.Core.List.{List, [], ◌∷◌, ◌++◌, append_assoc, append-nil}
 use Prim.Native.Nat.{ℕ, suc, ◌+◌, ◌-◌, ◌/◌, ◌%◌, ◌≤◌, ◌<◌}
 use native.Mathlib.Nat.{le_refl, le_of_eq}
-use native.Mathlib.Numerals.{add-one}
 use native.Mathlib.Omega.{arith}
 use lib.ListN.{length, get_or, set, take, drop, length-append, length-drop, take-append-drop, get_or-append, drop_of_length-le}
-use lib.Seq.{sets-eq, paste, paste-zero, paste-suc, length_paste_head, get_or-append-add, get_or-drop, get_or-take, length-take-le, take-suc, drop-cons, set_at, append_snoc, take_at, drop_at, drop-drop, take_all}
+use lib.Seq.{paste, get_or-take, length-take-le, take-suc, drop-cons, set_at, append_snoc, take_at, drop_at, drop-drop, take_all}
 use borrow.Rule.Slice.PartMut.{put_mid, mid_of}
 use Rattle.shelf.specs.Shelf.{length_bytes}
 use Rattle.shelf.specs.internal.Changing.{written, moved}
 
--- ---- down
+-- ---- bytes moved
 
 module _ (s : List ℕ) (to from : ℕ) where
-  -- n bytes are moved
-  abbrev pub down : ℕ → List ℕ
-  down n = paste s to (drop from s) n
-
-  pub down_all : (n : ℕ) → down n ≡ moved to from n s
-  down_all n = append_assoc (take to s) (take n (drop from s)) (drop (to + n) s)
+  -- what `copy_within` leaves
+  pub copied : (n m : ℕ) → n ≡ m → paste s to (drop from s) n ≡ moved to from m s
+  copied n m e = ap (paste s to (drop from s)) e ∙ append_assoc (take to s) (take m (drop from s)) (drop (to + m) s)
 
   -- bytes that are moved to their own place
   pub down_same : (n : ℕ) → to ≡ from → s ≡ moved to from n s
   down_same n e =
       sym (take-append-drop to s) ∙ ap (λ (x : List ℕ). take to s ++ x) (sym (take-append-drop n (drop to s)))
       ∙ ap₂ (λ (x y : List ℕ). take to s ++ (x ++ y)) (ap (λ (k : ℕ). take n (drop k s)) e) (drop-drop n to s)
-
-  pub down_none : s ≡ down 0
-  down_none = paste-zero s to (drop from s)
-
-  module _ (i : ℕ) (h : to ≤ from) (l : from + i < length s) where
-    rest_long : i < length (drop from s)
-    rest_long = omega (arith, length-drop from s)
-
-    unread : get_or (down i) (from + i) 0 ≡ get_or (drop from s) i 0
-    unread =
-        let head : length (take to s ++ take i (drop from s)) ≡ to + i = length_paste_head s to (drop from s) i (omega arith) (omega (arith, rest_long)) in
-        let n : from + i ≡ length (take to s ++ take i (drop from s)) + (from - to) = omega (arith, head) in
-        let m : to + i + (from - to) ≡ from + i = omega arith in
-        ap (λ (k : ℕ). get_or (down i) k 0) n ∙ get_or-append-add (take to s ++ take i (drop from s)) (drop (to + i) s) (from - to) 0
-        ∙ get_or-drop (to + i) s (from - to) 0 ∙ ap (λ (k : ℕ). get_or s k 0) m ∙ sym (get_or-drop from s i 0)
-
-    pub down_step : set (down i) (to + i) (get_or (down i) (from + i) 0) ≡ down (i + 1)
-    down_step = ap (set (down i) (to + i)) unread ∙ paste-suc s to (drop from s) i 0 (omega arith) rest_long ∙ ap down (sym (add-one i))
 
 -- ---- up
 
@@ -76,20 +54,7 @@ module _ (s : List ℕ) (to from : ℕ) where
         (ap (λ (k : ℕ). v ∷ take m (drop k s)) q ∙ ap (take (suc m)) (sym (drop-cons s (from + l) 0 (omega arith)))) r
 
   module _ (count : ℕ) where
-    pub up_none : s ≡ up count (count - count)
-    up_none =
-        let z : count - count ≡ 0 = omega arith in
-        let n : to + count + 0 ≡ to + count = omega arith in
-        sym (ap (up count) z ∙ ap (λ (k : ℕ). take (to + count) s ++ drop k s) n ∙ take-append-drop (to + count) s)
-
-    pub up_all : (l : ℕ) → l ≡ 0 → up l (count - l) ≡ moved to from count s
-    up_all l e =
-        let p : to + l ≡ to = omega arith in
-        let q : from + l ≡ from = omega arith in
-        let r : count - l ≡ count = omega arith in
-        λ i. moved (p i) (q i) (r i) s
-
-    -- a turn, counted as the code counts
+    -- a turn that counts down
     pub up_turn : (l : ℕ) → 0 < l → l ≤ count → from ≤ to → to + count ≤ length s
         → set (up l (count - l)) (to + (l - 1)) (get_or (up l (count - l)) (from + (l - 1)) 0) ≡ up (l - 1) (count - (l - 1))
     up_turn l some h f i =
@@ -114,19 +79,11 @@ pub part_filled : (n m : ℕ) (d room end : List ℕ) → m ≡ length d → end
 part_filled n m d room end p e =
     ap₂ (λ (x : List ℕ) (k : ℕ). take n room ++ (x ++ drop k (drop n room))) e p ∙ ap (λ (x : List ℕ). take n room ++ (d ++ x)) (drop-drop (length d) n room)
 
-module _ (s : List ℕ) (at n : ℕ) (h : at + 4 ≤ length s) (small : n ≤ 65536) where
-  abbrev pub stored : List ℕ
-  stored = set (set (set (set s at (n / 16777216)) (at + 1) (n / 65536 % 256)) (at + 2) (n / 256 % 256)) (at + 3) (n % 256)
-
-  pub length_stored : stored ≡ written at (length_bytes n) s
-  length_stored =
-      let a : n / 16777216 ≡ n / 256 / 256 / 256 % 256 = omega arith in
-      let b : n / 65536 % 256 ≡ n / 256 / 256 % 256 = omega arith in
-      let p : at + 1 ≡ suc at = omega arith in
-      let q : at + 2 ≡ suc (suc at) = omega arith in
-      let r : at + 3 ≡ suc (suc (suc at)) = omega arith in
-      (λ i. set (set (set (set s at (a i)) (p i) (b i)) (q i) (n / 256 % 256)) (r i) (n % 256)) ∙ sets-eq (length_bytes n) s at h
-      ∙ append_assoc (take at s) (length_bytes n) (drop (at + 4) s)
+pub be_bytes : (n : ℕ) → n / 16777216 % 256 ∷ n / 65536 % 256 ∷ n / 256 % 256 ∷ n % 256 ∷ [] ≡ length_bytes n
+be_bytes n =
+    let a : n / 16777216 ≡ n / 256 / 256 / 256 = omega arith in
+    let b : n / 65536 ≡ n / 256 / 256 = omega arith in
+    λ i. a i % 256 ∷ b i % 256 ∷ n / 256 % 256 ∷ n % 256 ∷ []
 
 pub written_length : (at : ℕ) (x s : List ℕ) → at + length x ≤ length s → length (written at x s) ≡ length s
 written_length at x s h =

@@ -1,14 +1,15 @@
 -- A run of kept sheets as the code reads it: an entry, the entry of a key, and the place of a new one. Used by contracts of the code; no promise names these.
-use Rattle.std.specs.Prelude.{◌≡◌, Bool, true, false, cond, List, [], ◌∷◌, ℕ, ◌+◌, ◌-◌, ◌≤◌, ◌<◌, ltb, leb, length, drop}
+use Rattle.std.specs.Prelude.{◌≡◌, Bool, true, false, cond, List, [], ◌∷◌, ℕ, ◌+◌, ◌-◌, ◌≤◌, ◌<◌, ltb, leb, length, drop, Option as Perhaps, Some, None, Result, Ok, Err}
 use Rattle.std.proofs.Math.Option.{Option, none, some}
+use Rattle.kinds.specs.declared.refusals.Refusal.{Refusal}
+use Rattle.kinds.specs.declared.refusals.Refusal.TheVariants.{NoShelf, NotKept}
 use Rattle.format.specs.Format.{accepted, values_of}
 use Rattle.grammar.specs.segment.Segment.{wire_changes}
 use Rattle.grammar.specs.segment.Judgement.{from_sheet}
 use Rattle.shelf.specs.declared.Key.{Key}
 use Rattle.shelf.specs.declared.Found.{Found}
 use Rattle.shelf.specs.declared.run.Entry.{Entry}
-use Rattle.shelf.specs.declared.run.Scan.{Scan}
-use Rattle.shelf.specs.declared.run.Scan.TheVariants.{NoShelf, Place}
+use Rattle.shelf.specs.declared.run.Place.{Place}
 use Rattle.shelf.specs.Book.{same_key, key_number, Kept, found, Each}
 use Rattle.shelf.specs.Keeps.{Good}
 use Rattle.shelf.specs.Shelf.{kept_bytes, key_of, sheet_key, length_in, front_sheet, sheets_in, book_of}
@@ -63,27 +64,33 @@ abbrev pub has_key : Option Key → Bool
 has_key none = false
 has_key (some k) = true
 
--- the byte after the entry at the byte at, or 0 where none with an accepted sheet stands there
-abbrev pub sheet_end : List ℕ → ℕ → ℕ
-sheet_end s at = cond (ltb (length (drop at s)) (4 + length_in (drop at s))) 0 (cond (has_key (sheet_key (front_sheet (drop at s)))) (at + 4 + length_in (drop at s)) 0)
+-- the byte after the entry at the byte at, or 21 where none with an accepted sheet stands there
+abbrev pub sheet_end : List ℕ → ℕ → Result ℕ Refusal
+sheet_end s at =
+    cond (ltb (length (drop at s)) (4 + length_in (drop at s))) (Err NoShelf) (cond (has_key (sheet_key (front_sheet (drop at s)))) (Ok (at + 4 + length_in (drop at s))) (Err NoShelf))
 
 -- ---- a new key
 
--- the number above all keys with a new one, where above is above those before it; 0 if there is a sheet under that key
-abbrev pub above_with : ℕ → ℕ → Option (List ℕ) → ℕ
-above_with above n o = cond (leb above n) (n + 1) (cond (found o) 0 above)
+-- the number above all keys with a new one, where above is above those before it; 21 if there is a sheet under that key
+abbrev pub above_with : ℕ → ℕ → Option (List ℕ) → Result ℕ Refusal
+above_with above n o = cond (leb above n) (Ok (n + 1)) (cond (found o) (Err NoShelf) (Ok above))
 
 -- ---- the entry of a key
 
 -- in a book whose first entry starts at the byte n
-abbrev pub place_from : ℕ → Key → List Kept → Scan
-place_from n k [] = Place 0 0
-place_from n k (e ∷ b) = cond (same_key e.key k) (Place n (4 + length e.sheet)) (place_from (n + (4 + length e.sheet)) k b)
+abbrev pub place_from : ℕ → Key → List Kept → Perhaps Place
+place_from n k [] = None
+place_from n k (e ∷ b) = cond (same_key e.key k) (Some (record { start = n; size = 4 + length e.sheet })) (place_from (n + (4 + length e.sheet)) k b)
+
+-- how many bytes an entry has: 0 if there is none
+abbrev pub size_of : Perhaps Place → ℕ
+size_of None = 0
+size_of (Some p) = p.size
 
 -- what the judgement of a run or a store finds of a key
-abbrev pub scanned : Key → Option (List Kept) → Scan
-scanned k none = NoShelf
-scanned k (some b) = place_from 0 k b
+abbrev pub scanned : Key → Option (List Kept) → Result (Perhaps Place) Refusal
+scanned k none = Err NoShelf
+scanned k (some b) = Ok (place_from 0 k b)
 
 -- whether there is a book
 abbrev pub is_shelf : Option (List Kept) → Bool
@@ -103,24 +110,27 @@ gap_in m b = gap_from 0 m b
 
 -- ---- where a lookup finds its sheet
 
--- a refused lookup finds nothing
-abbrev pub no_found : ℕ → Found
-no_found r = record { refusal = r; standard = false; start = 0; count = 0 }
+-- an entry, if there is one, has its length bytes and lies in a store
+abbrev pub EntryIn : Perhaps Place → Type 0
+EntryIn None = Unit {0}
+EntryIn (Some p) = (4 ≤ p.size) × (p.start + p.size ≤ 65536)
 
--- the sheet of an entry that has some bytes, in the yard's store or in the default one; else what is found otherwise
-abbrev pub found_at : Bool → ℕ → ℕ → Found → Found
-found_at standard start size other = cond (leb 4 size) (record { refusal = 0; standard = standard; start = start + 4; count = size - 4 }) other
+-- the sheet of an entry, in the yard's store or in the default one
+abbrev pub found_at : Bool → Place → Found
+found_at standard p = record { standard = standard; start = p.start + 4; count = p.size - 4 }
 
 -- "the yard's store first and the default store second"
-abbrev pub either_of : ℕ → ℕ → ℕ → ℕ → Found
-either_of a n c m = found_at false a n (found_at true c m (no_found 17))
+abbrev pub either_of : Perhaps Place → Perhaps Place → Result Found Refusal
+either_of (Some p) q = Ok (found_at false p)
+either_of None (Some q) = Ok (found_at true q)
+either_of None None = Err NotKept
 
 -- what a lookup finds, from what the judgements of both stores have found
-abbrev pub found_in : Scan → Scan → Found
-found_in NoShelf q = no_found 21
-found_in (Place a n) NoShelf = no_found 21
-found_in (Place a n) (Place c m) = either_of a n c m
+abbrev pub found_in : Result (Perhaps Place) Refusal → Result (Perhaps Place) Refusal → Result Found Refusal
+found_in (Err r) q = Err r
+found_in (Ok o) (Err r) = Err r
+found_in (Ok o) (Ok p) = either_of o p
 
 -- what a lookup finds in two stores
-abbrev pub found_of : List ℕ → ℕ → List ℕ → ℕ → Key → Found
+abbrev pub found_of : List ℕ → ℕ → List ℕ → ℕ → Key → Result Found Refusal
 found_of yard yard_used standard standard_used k = found_in (scanned k (book_of yard yard_used)) (scanned k (book_of standard standard_used))

@@ -41,6 +41,17 @@ module _ (Reads : Format → ℕ → List Item → Type 0) where
     pub past : (next : ℕ → Format) (l : List Item) → Reads (field k next) at l → Past (next v) to (drop 1 (sheet_numbers l))
     pub is : (next : ℕ → Format) (l : List Item) → Reads (field k next) at l → get_or (sheet_numbers l) 0 0 ≡ a
 
+  -- a field of the kind stands at the place, whatever follows
+  pub record Stands (k : Kind) (at : ℕ) : Type 0 where
+    pub part : ℕ → Format → Format
+    pub readable : Readable (λ f. field k (λ u. part u f)) at
+
+  -- the location of some change does
+  pub record LocationStands (at : ℕ) : Type 0 where
+    pub last : ℕ
+    pub lsp : ℕ
+    pub stands : Stands (d_location last lsp) at
+
   pub record EntryRead (t : Train) (lows after : Lows) (at to : ℕ) : Type 0 where
     pub passes : Passes entry (drop 3) at to
     pub more : (f : Format) (l : List Item) → Reads (entry f) at l

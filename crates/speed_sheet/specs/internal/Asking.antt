@@ -1,7 +1,6 @@
 -- The numbers of an accepted sheet, and the bytes where they stand. The contracts of the code cite it; no promise names it.
-use Rattle.std.specs.Prelude.{◌≡◌, List, ℕ, zero, suc, ◌+◌, ◌/◌, ◌%◌, ◌≤◌, ◌<◌, length, drop, get_or}
+use Rattle.std.specs.Prelude.{◌≡◌, List, ℕ, zero, suc, ◌+◌, ◌/◌, ◌%◌, ◌≤◌, ◌<◌, length, drop, get_or, Some}
 use Rattle.bits.specs.Bits.{Bytes}
-use Rattle.numbers.specs.declared.Number.TheVariants.{Value}
 use Rattle.numbers.specs.Numbers.{number_in}
 use Rattle.numbers.specs.internal.Groups.{counted}
 use Rattle.kinds.specs.declared.Item.{Item}
@@ -33,7 +32,7 @@ pub record NumberAt (s : List ℕ) (at to a : ℕ) : Type 0 where
 
 -- there is a number at the byte at
 abbrev pub NumberHere : List ℕ → ℕ → Type 0
-NumberHere s at = number_in (drop at s) ≡ Value (counted_at s at % 4294967296)
+NumberHere s at = number_in (drop at s) ≡ Some (counted_at s at % 4294967296)
 
 -- the byte after n numbers at the byte at
 abbrev pub numbers_end : List ℕ → ℕ → ℕ → ℕ

@@ -1,36 +1,35 @@
 -- Stretches in which the permitted speed stays as it is, and the steps compared with it. No promise names it.
-use Rattle.std.specs.Prelude.{◌≡◌, Bool, List, [], ℕ, ◌+◌, ◌≤◌, ◌<◌, length, get_or}
-use Rattle.std.proofs.Math.Option.{Option, none, some}
+use Rattle.std.specs.Prelude.{◌≡◌, Bool, Result, Ok, Err, List, [], ℕ, ◌+◌, ◌≤◌, ◌<◌, length, get_or}
+use Rattle.kinds.specs.declared.refusals.Refused.{Refused}
+use Rattle.kinds.specs.Refusals.{refusal_number}
 use Rattle.speed.specs.declared.Train.{Train}
 use Rattle.speed.specs.Speed.{limited}
 use Rattle.speed_element.specs.internal.Elements.{instead_from}
+use Rattle.steps.specs.declared.Checked.{Checked}
 use Rattle.steps.specs.declared.looking.Reached.{Reached}
 use Rattle.steps.specs.declared.looking.Stretch.{Stretch}
-use Rattle.steps.specs.declared.spans.Spans.{Spans}
-use Rattle.steps.specs.Steps.{step_speed, right}
-use Rattle.steps.specs.internal.Spans.{holds_at, lowest_at}
+use Rattle.steps.specs.declared.spans.Span.{Span}
+use Rattle.steps.specs.Steps.{step_speed, right, not_checked}
+use Rattle.steps.specs.internal.Spans.{span, holds_at, lowest_at}
 
 -- the permitted speed at y cm from the start of the run, from the first n spans
-abbrev pub speed_at : Train → ℕ → List ℕ → List ℕ → List ℕ → ℕ → ℕ
-speed_at t n starts stops speeds y = limited t (instead_from (lowest_at n starts stops speeds y) 0 [])
+abbrev pub speed_at : Train → ℕ → List Span → ℕ → ℕ
+speed_at t n l y = limited t (instead_from (lowest_at n l y) 0 [])
 
--- whether the steps are right at x of the last segment, which starts at from, by the first n spans, and by all that are kept
-abbrev pub right_at : Train → ℕ → List ℕ → List ℕ → List ℕ → ℕ → List ℕ → List ℕ → ℕ → Bool
-right_at t n a b v from starts speeds = right (λ x. speed_at t n a b v (from + x)) starts speeds
-
-abbrev pub right_in : Train → Spans → ℕ → List ℕ → List ℕ → ℕ → Bool
-right_in t s from starts speeds = right_at t s.count s.starts s.stops s.speeds from starts speeds
+-- whether the steps are right at x of the last segment, which starts at from, by all of some spans
+abbrev pub right_in : Train → List Span → ℕ → List ℕ → List ℕ → ℕ → Bool
+right_in t l from starts speeds = right (λ x. speed_at t (length l) l (from + x)) starts speeds
 
 -- each of the first n spans has stopped at y
-abbrev pub Gone : ℕ → List ℕ → ℕ → Type 0
-Gone n stops y = (j : ℕ) → j < n → get_or stops j 0 ≤ y
+abbrev pub Gone : ℕ → List Span → ℕ → Type 0
+Gone n l y = (j : ℕ) → j < n → (span l j).stop ≤ y
 
 -- a stretch of the first n spans, from y up to end at the latest: which of them hold stays as it is
-pub record Stretched (n : ℕ) (starts stops speeds : List ℕ) (y end : ℕ) (r : Stretch) : Type 0 where
-  pub low : r.low ≡ lowest_at n starts stops speeds y
+pub record Stretched (n : ℕ) (l : List Span) (y end : ℕ) (r : Stretch) : Type 0 where
+  pub low : r.low ≡ lowest_at n l y
   pub past : y < r.until
   pub most : r.until ≤ end
-  pub same : (j z : ℕ) → j < n → y ≤ z → z < r.until → holds_at starts stops j z ≡ holds_at starts stops j y
+  pub same : (j z : ℕ) → j < n → y ≤ z → z < r.until → holds_at l j z ≡ holds_at l j y
 
 -- the step i is the last at or before x
 pub record StepAt (starts : List ℕ) (x i : ℕ) : Type 0 where
@@ -57,7 +56,7 @@ pub record Compares (starts speeds : List ℕ) (x until v : ℕ) (r : Reached) :
   pub wrong : r.place < until → step_speed 0 r.place starts speeds ≡ v → ⊥
   pub step : StepAt starts r.place r.step
 
--- the first wrong centimetre, or n where none is wrong
-abbrev pub wrong_or : ℕ → Option ℕ → ℕ
-wrong_or n none = n
-wrong_or n (some c) = c
+-- the answer to a check of steps that the code returns
+abbrev pub checked_said : {A : Type 0} → Result A (Refused ℕ) → Checked
+checked_said (Ok a) = not_checked 0 0
+checked_said (Err e) = not_checked (refusal_number e.0) e.1

@@ -8,24 +8,29 @@ use Rattle.speed_element.specs.declared.Open.{Open}
 use Rattle.speed_element.specs.internal.Elements.{none, instead_from, counted}
 use Rattle.speed_element.specs.internal.Reading.{Ended}
 use Rattle.speed_element.specs.internal.Passing.{Passed}
+use Rattle.steps.specs.declared.spans.Span.{Span}
 use Rattle.steps.specs.declared.spans.Spans.{Spans}
 
+-- the span with the number j, 0 the first
+abbrev pub span : List Span → ℕ → Span
+span l j = get_or l j (record { start = 0; stop = 0; speed = 0 })
+
 -- the span j holds at y: from its start on, and before its stop
-abbrev pub holds_at : List ℕ → List ℕ → ℕ → ℕ → Bool
-holds_at starts stops j y = leb (get_or starts j 0) y && ltb y (get_or stops j 0)
+abbrev pub holds_at : List Span → ℕ → ℕ → Bool
+holds_at l j y = leb (span l j).start y && ltb y (span l j).stop
 
 -- the lowest speed of those of the first n spans that hold at y
-abbrev pub lowest_at : ℕ → List ℕ → List ℕ → List ℕ → ℕ → ℕ
-lowest_at zero starts stops speeds y = none
-lowest_at (suc n) starts stops speeds y = min (lowest_at n starts stops speeds y) (counted (holds_at starts stops n y) (get_or speeds n 0))
+abbrev pub lowest_at : ℕ → List Span → ℕ → ℕ
+lowest_at zero l y = none
+lowest_at (suc n) l y = min (lowest_at n l y) (counted (holds_at l n y) (span l n).speed)
 
 -- the lowest speed of all that are kept and hold at y
 abbrev pub lowest_in : Spans → ℕ → ℕ
-lowest_in s y = lowest_at s.count s.starts s.stops s.speeds y
+lowest_in s y = lowest_at s.count s.spans y
 
--- each of the first n is a speed
-abbrev pub Speeds : ℕ → List ℕ → Type 0
-Speeds n speeds = (j : ℕ) → j < n → get_or speeds j 0 < none
+-- each of the first n has a speed
+abbrev pub Speeds : ℕ → List Span → Type 0
+Speeds n l = (j : ℕ) → j < n → (span l j).speed < none
 
 -- v is an element's speed, worked out at its start: 0, if it holds nowhere
 pub record SpeedRead (Reads : Format → ℕ → List Item → Type 0) (t : Train) (end : ℕ) (o : Open) (v : ℕ) : Type 0 where
@@ -33,26 +38,18 @@ pub record SpeedRead (Reads : Format → ℕ → List Item → Type 0) (t : Trai
   pub ended : Ended Reads t none end o.start o held
   pub is : v ≡ instead_from held 0 []
 
--- room for all: the arrays are whole
-pub record Whole (s : Spans) : Type 0 where
-  pub starts : length s.starts ≡ 128
-  pub stops : length s.stops ≡ 128
-  pub speeds : length s.speeds ≡ 128
+-- room for all: the array is whole
+abbrev pub Whole : Spans → Type 0
+Whole s = length s.spans ≡ 128
 
 -- one span more
 abbrev pub with_span : Spans → ℕ → ℕ → ℕ → Spans
-with_span s start stop speed =
-    record {
-      count = s.count + 1;
-      starts = set s.starts s.count start;
-      stops = set s.stops s.count stop;
-      speeds = set s.speeds s.count speed;
-    }
+with_span s start stop speed = record { count = s.count + 1; spans = set s.spans s.count (record { start = start; stop = stop; speed = speed }) }
 
 -- at most n are kept, and each has a speed
 pub record Few (n : ℕ) (s : Spans) : Type 0 where
   pub most : s.count ≤ n
-  pub speeds : Speeds s.count s.speeds
+  pub speeds : Speeds s.count s.spans
   pub whole : Whole s
 
 -- the elements of a segment with the numbers s, which starts at start, are kept after those before: at each of its places they stand for what holds of it

@@ -6,8 +6,7 @@ use native.Mathlib.Omega.{arith}
 use lib.ListN.{length, drop, get_or, length-append, length-drop}
 use lib.Seq.{drop-drop, drop-nil, drop-append_seam}
 use Rattle.bits.specs.Bits.{Bytes}
-use Rattle.numbers.specs.declared.Number.{Number}
-use Rattle.numbers.specs.declared.Number.TheVariants.{Value, Bad}
+use Rattle.std.specs.Prelude.{Some, None, Option}
 use Rattle.numbers.specs.Numbers.{number_of, number_in, groups_in}
 use Rattle.numbers.proofs.Reading.{number_again, number_only}
 use Rattle.numbers.proofs.Counting.{count_some}
@@ -19,7 +18,7 @@ use Rattle.format.proofs.Media.{bytes_drop}
 use Rattle.text.specs.internal.sheet.Numbers.{before, first_numbers, numbers_in}
 
 -- no byte has no number
-none_in : number_in [] ≡ Bad
+none_in : number_in [] ≡ None
 unfolding number_of
 none_in = refl
 
@@ -31,9 +30,9 @@ numbers_none (suc n) (b ∷ s) h = absurd (omega arith)
 fewer : (s : List ℕ) (v n : ℕ) → length s ≤ suc n → length (drop (length (groups_in v)) s) ≤ n
 fewer s v n h = omega (arith, length-drop (length (groups_in v)) s, count_some v)
 
-same_before : (r : Number) {f g : ℕ → List ℕ} → ((v : ℕ) → f v ≡ g v) → before r f ≡ before r g
-same_before Bad e = refl
-same_before (Value v) e = ap (λ (t : List ℕ). v ∷ t) (e v)
+same_before : (r : Option ℕ) {f g : ℕ → List ℕ} → ((v : ℕ) → f v ≡ g v) → before r f ≡ before r g
+same_before None e = refl
+same_before (Some v) e = ap (λ (t : List ℕ). v ∷ t) (e v)
 
 -- two limits of which neither is below the count of bytes give the same numbers
 enough : (n m : ℕ) (s : List ℕ) → length s ≤ n → length s ≤ m → first_numbers n s ≡ first_numbers m s
@@ -43,7 +42,7 @@ enough (suc n) (suc m) s h l =
     same_before (number_in s) λ v. enough n m (drop (length (groups_in v)) s) (fewer s v n h) (fewer s v m l)
 
 module _ (s : List ℕ) where
-  pub numbers_bad : number_in s ≡ Bad → numbers_in s ≡ []
+  pub numbers_bad : number_in s ≡ None → numbers_in s ≡ []
   unfolding numbers_in
   numbers_bad e = go (length s)
     where
@@ -51,7 +50,7 @@ module _ (s : List ℕ) where
       go zero = refl
       go (suc n) = rw e
 
-  pub numbers_value : (v : ℕ) → number_in s ≡ Value v → numbers_in s ≡ v ∷ numbers_in (drop (length (groups_in v)) s)
+  pub numbers_value : (v : ℕ) → number_in s ≡ Some v → numbers_in s ≡ v ∷ numbers_in (drop (length (groups_in v)) s)
   unfolding numbers_in
   numbers_value v e = enough (length s) (suc (length s)) s (omega arith) (omega arith) ∙ rw e (ap (λ (t : List ℕ). v ∷ t) (rest (drop (length (groups_in v)) s) (fewer s v (length s) (omega arith))))
     where
@@ -70,13 +69,13 @@ numbers_written (also {next = next} {i = i} {l = l} g c) =
 -- ---- at a place of a sheet
 
 module _ (s : List ℕ) (at : ℕ) where
-  pub first_number : (v : ℕ) → number_in (drop at s) ≡ Value v → v ≡ get_or (numbers_in (drop at s)) 0 0
+  pub first_number : (v : ℕ) → number_in (drop at s) ≡ Some v → v ≡ get_or (numbers_in (drop at s)) 0 0
   first_number v e = rw (numbers_value (drop at s) v e)
 
-  pub no_number : number_in (drop at s) ≡ Bad → 0 ≡ get_or (numbers_in (drop at s)) 0 0
+  pub no_number : number_in (drop at s) ≡ None → 0 ≡ get_or (numbers_in (drop at s)) 0 0
   no_number e = rw (numbers_bad (drop at s) e)
 
-  module _ (ok : Bytes s) (v : ℕ) (e : number_in (drop at s) ≡ Value v) where
+  module _ (ok : Bytes s) (v : ℕ) (e : number_in (drop at s) ≡ Some v) where
     -- the groups of a number are inside the sheet
     pub groups_inside : at ≤ length s → at + length (groups_in v) ≤ length s
     groups_inside h =
@@ -94,5 +93,5 @@ module _ (s : List ℕ) (at : ℕ) where
         → drop (left - 1) (numbers_in (drop (at + length (groups_in v)) s)) ≡ goal
     past_more left goal h g = drop_value left h ∙ g
 
-  pub past_end_lem : (left : ℕ) (goal : List ℕ) → number_in (drop at s) ≡ Bad → drop left (numbers_in (drop at s)) ≡ goal → numbers_in (drop at s) ≡ goal
+  pub past_end_lem : (left : ℕ) (goal : List ℕ) → number_in (drop at s) ≡ None → drop left (numbers_in (drop at s)) ≡ goal → numbers_in (drop at s) ≡ goal
   past_end_lem left goal e g = let b = numbers_bad (drop at s) e in b ∙ sym (ap (drop left) b ∙ drop-nil left) ∙ g

@@ -1,14 +1,14 @@
 -- Text written at a place after other text, and the digits of a number.
-use mathlib.Core.Path.{◌≡◌, sym, ap, ◌∙◌}
-use mathlib.Core.List.{List, [], ◌∷◌, ◌++◌}
+use mathlib.Core.Path.{◌≡◌, sym, ap, ap₂, ◌∙◌}
+use mathlib.Core.List.{List, [], ◌∷◌, ◌++◌, append_assoc}
 use Prim.Native.Nat.{ℕ, zero, suc, ◌+◌, ◌/◌, ◌%◌, ◌^◌, ◌≤◌, ◌<◌}
 use native.Mathlib.Nat.{pow-suc}
-use native.Mathlib.Numerals.{add-one}
 use native.Mathlib.Omega.{arith}
 use borrow.Author.Tests.{lt-ltb, le-ltb}
 use lib.Dec.{ltb}
-use lib.ListN.{length, length-append, drop, get_or}
-use lib.Seq.{sets, length-sets, drop-cons}
+use borrow.Rule.Slice.PartMut.{put_mid}
+use lib.ListN.{length, length-append, take, drop}
+use lib.Seq.{sets, sets-eq, length-sets, drop-drop}
 use Rattle.bits.proofs.Tests.{by_cases}
 use Rattle.bits.proofs.Cells.{sets_append}
 use Rattle.text.specs.words.Words.{digit_byte, digits_of, decimal, Laid}
@@ -25,14 +25,14 @@ module _ {room : List ℕ} {at : ℕ} {t : List ℕ} {next : ℕ} {cells : List 
     bytes = f.bytes ∙ rw (e.bytes, e.place) (sym (sets_append room at t u));
   }
 
--- ---- a word, byte by byte
+-- ---- a word
 
-pub word_more : (room : List ℕ) (at : ℕ) (word : List ℕ) (i : ℕ) (goal : List ℕ) → i < length word → sets room (at + i) (drop i word) ≡ goal
-    → sets (sets room (at + i) (get_or word i 0 ∷ [])) (at + (i + 1)) (drop (i + 1) word) ≡ goal
-word_more room at word i goal h e =
-    let n : at + (i + 1) ≡ suc (at + i) = omega arith in
-    let d : drop i word ≡ get_or word i 0 ∷ drop (i + 1) word = drop-cons word i 0 h ∙ rw add-one in
-    rw n (ap (sets room (at + i)) (sym d) ∙ e)
+-- a room of which a part was filled with a word
+pub filled : (room : List ℕ) (at : ℕ) (word : List ℕ) (n : ℕ) {end : List ℕ} → n ≡ length word → at + length word ≤ length room → end ≡ word
+    → put_mid at n room end ≡ sets room at word
+filled room at word n e h q =
+    ap₂ (λ (x : List ℕ) (k : ℕ). take at room ++ (x ++ drop k (drop at room))) q e ∙ ap (λ (x : List ℕ). take at room ++ (word ++ x)) (drop-drop (length word) at room)
+    ∙ sym (sets-eq word room at h ∙ append_assoc (take at room) word (drop (at + length word) room))
 
 -- ---- digits
 

@@ -21,22 +21,22 @@ use Rattle.format.specs.Format.{Format, Read, accepted, refused, read, answer_of
 use Rattle.format.specs.Media.{packet}
 use Rattle.grammar.specs.segment.Frame.{packet_number, body_bits, first_one, number_item, padded, unframed}
 use Rattle.format.specs.internal.Places.{bits_between, Placed}
-use Rattle.verdict.specs.declared.frame.Frame.{Frame}
+use Rattle.verdict.specs.internal.Verdict.{Verdict}
 use Rattle.verdict.specs.internal.frame.Framed.{frame_of, one_or_end}
 
 module _ (n : ℕ) (s : List ℕ) where
-  pub frame_short : length s < 15 → Frame.Refused 1 ≡ frame_of n s
+  pub frame_short : length s < 15 → Verdict.refused 1 0 ≡ frame_of n s
   frame_short h = rw (lt-ltb (length s) 15 h)
 
   module _ (h : 15 ≤ length s) where
-    pub frame_number : (packet_number s ≡ n → ⊥) → Frame.Refused 2 ≡ frame_of n s
+    pub frame_number : (packet_number s ≡ n → ⊥) → Verdict.refused 2 0 ≡ frame_of n s
     frame_number d = rw (le-ltb (length s) 15 h, ne_eqb (packet_number s) n d)
 
     module _ (d : packet_number s ≡ n) where
-      pub frame_end : length s ≡ 15 + (body_bits s + 7) / 8 → Frame.End (120 + body_bits s) ≡ frame_of n s
+      pub frame_end : length s ≡ 15 + (body_bits s + 7) / 8 → Verdict.sized (120 + body_bits s) ≡ frame_of n s
       frame_end l = rw (le-ltb (length s) 15 h, eq-eqb (packet_number s) n d, eq-eqb (length s) (15 + (body_bits s + 7) / 8) l)
 
-      pub frame_length : (length s ≡ 15 + (body_bits s + 7) / 8 → ⊥) → Frame.Refused 3 ≡ frame_of n s
+      pub frame_length : (length s ≡ 15 + (body_bits s + 7) / 8 → ⊥) → Verdict.refused 3 0 ≡ frame_of n s
       frame_length l = rw (le-ltb (length s) 15 h, eq-eqb (packet_number s) n d, ne_eqb (length s) (15 + (body_bits s + 7) / 8) l)
 
   -- what is known of a packet whose frame is whole
@@ -47,15 +47,15 @@ module _ (n : ℕ) (s : List ℕ) where
     pub inside : stop ≤ 8 * length s
     pub few : 8 * length s < 2 ^ 32
 
-  pub refused_not_end : {C : Type 0} (r stop : ℕ) → Frame.Refused r ≡ Frame.End stop → C
+  pub refused_not_end : {C : Type 0} (r stop : ℕ) → Verdict.refused r 0 ≡ Verdict.sized stop → C
   refused_not_end r stop e = absurd (let z : ◌≡◌ {A = ℕ} 0 1 = cc in omega arith)
 
-  pub whole : (stop : ℕ) → Frame.End stop ≡ frame_of n s → Whole stop
+  pub whole : (stop : ℕ) → Verdict.sized stop ≡ frame_of n s → Whole stop
   whole stop e =
       by_cases (ltb (length s) 15) (λ a. refused_not_end 1 stop (rw a at (sym e))) λ a.
       by_cases (eqb (packet_number s) n) (λ b.
       by_cases (eqb (length s) (15 + (body_bits s + 7) / 8)) (λ c.
-      let f : Frame.End stop ≡ Frame.End (120 + body_bits s) = rw (a, b, c) at e in
+      let f : Verdict.sized stop ≡ Verdict.sized (120 + body_bits s) = rw (a, b, c) at e in
       let q : stop ≡ 120 + body_bits s = cc in
       let l : length s ≡ 15 + (body_bits s + 7) / 8 = eqb-true (length s) (15 + (body_bits s + 7) / 8) c in
       let m : body_bits s < 2 ^ 16 = field_small s 8 16 16 (omega arith) in
@@ -64,7 +64,7 @@ module _ (n : ℕ) (s : List ℕ) where
       (λ b. refused_not_end 2 stop (rw (a, b) at (sym e)))
 
   -- the fields of a packet whose frame is whole, and its padding
-  pub packet_fields : (f : Format) (stop : ℕ) → Frame.End stop ≡ frame_of n s
+  pub packet_fields : (f : Format) (stop : ℕ) → Verdict.sized stop ≡ frame_of n s
       → unframed n f s ≡ padded n (first_one stop (drop stop (bits_of_bytes s))) (read packet f 24 (bits_between s 24 stop))
   packet_fields f stop e =
       let w = whole stop e in
@@ -143,18 +143,18 @@ module _ {B : Type 0} (refusal : ℕ → ℕ → B) (value : List Item → B) (n
   padding_on place (refused q p) e h = absurd (h q p (sym e))
 
   module _ (s : List ℕ) where
-    -- a refusal of the frame is the packet's, with the place 0
-    pub packet_frame : (r : ℕ) → Frame.Refused r ≡ frame_of n s → refusal r 0 ≡ answer_of refusal value (unframed n f s)
-    packet_frame r e =
+    -- a refusal of the frame is the packet's
+    pub packet_frame : {r place : ℕ} → Verdict.refused r place ≡ frame_of n s → refusal r place ≡ answer_of refusal value (unframed n f s)
+    packet_frame {r} {place} e =
         by_cases (ltb (length s) 15)
-        (λ a. let q : Frame.Refused r ≡ Frame.Refused 1 = rw a at e in let p : r ≡ 1 = cc in rw (a, p)) λ a.
+        (λ a. let q : Verdict.refused r place ≡ Verdict.refused 1 0 = rw a at e in let p : r ≡ 1 = cc in let o : place ≡ 0 = cc in rw (a, p, o)) λ a.
         by_cases (eqb (packet_number s) n) (λ b.
         by_cases (eqb (length s) (15 + (body_bits s + 7) / 8))
-        (λ c. let q : Frame.Refused r ≡ Frame.End (120 + body_bits s) = rw (a, b, c) at e in absurd (let z : ◌≡◌ {A = ℕ} 0 1 = cc in omega arith))
-        (λ c. let q : Frame.Refused r ≡ Frame.Refused 3 = rw (a, b, c) at e in let p : r ≡ 3 = cc in rw (a, b, c, p)))
-        (λ b. let q : Frame.Refused r ≡ Frame.Refused 2 = rw (a, b) at e in let p : r ≡ 2 = cc in rw (a, b, p))
+        (λ c. let q : Verdict.refused r place ≡ Verdict.sized (120 + body_bits s) = rw (a, b, c) at e in absurd (let z : ◌≡◌ {A = ℕ} 0 1 = cc in omega arith))
+        (λ c. let q : Verdict.refused r place ≡ Verdict.refused 3 0 = rw (a, b, c) at e in let p : r ≡ 3 = cc in let o : place ≡ 0 = cc in rw (a, b, c, p, o)))
+        (λ b. let q : Verdict.refused r place ≡ Verdict.refused 2 0 = rw (a, b) at e in let p : r ≡ 2 = cc in let o : place ≡ 0 = cc in rw (a, b, p, o))
 
-    module _ (stop : ℕ) (e : Frame.End stop ≡ frame_of n s) where
+    module _ (stop : ℕ) (e : Verdict.sized stop ≡ frame_of n s) where
       abbrev fields_read : Read
       fields_read = read packet f 24 (bits_between s 24 stop)
 

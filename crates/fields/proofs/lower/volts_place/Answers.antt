@@ -1,28 +1,17 @@
-use Rattle.std.proofs.Common.{◌≡◌, sym, refl, ◌∙◌, arith}
-use mathlib.Core.Option.{none, some}
-use Rattle.kinds.specs.Tables.{place, volts as table}
-use Rattle.fields.proofs.Lookup.{place_here, place_more, place_none}
+-- `fields::lower::volts_place` meets its contract.
+use Rattle.std.proofs.Common.{◌≡◌, arith, rules, tests}
+use Rattle.std.proofs.lemmas.Iterator.{YieldsList-from_slice, IsFirst-from_position}
+use Rattle.fields.proofs.lower.Lowering.{volts_at, volts_none}
 use Rattle.fields.proofs.lower.volts_place.Goals as goal
 
-pub loop-i-init : goal.loop-i-init
-loop-i-init c = (omega arith, refl)
-
-pub returns-then-volts-i : goal.returns-then-volts-i
-returns-then-volts-i c =
-    let l = c.loop-i in
+pub returns-in-Some : goal.returns-in-Some
+returns-in-Some c =
     let a = c.args.a in
-    let e : place 0 table a ≡ some l.i = sym l.invariant.1 ∙ place_here table a l.i (omega arith) (sym c.if-volts-i.true) in
-    rw e
+    let found = IsFirst-from_position _ _ c.position.result (λ x. x ≡ a) (λ x. x ≡ a → ⊥) c.position.ensures.ran (YieldsList-from_slice _ c.iter.ensures.rest) (λ x q k. search (rules, tests)) (λ x q k. search (rules, tests)) in
+    let here = rw c.in-Some.is at found in volts_at a c.in-Some.i here.0 (here.1 0)
 
-pub loop-i-preserved : goal.loop-i-preserved
-loop-i-preserved c =
-    let l = c.loop-i in
+pub returns-in-None : goal.returns-in-None
+returns-in-None c =
     let a = c.args.a in
-    (omega arith, place_more table a l.i (omega arith) (λ e. c.if-volts-i.false (sym e)) ∙ l.invariant.1)
-
-pub returns : goal.returns
-returns c =
-    let l = c.loop-i in
-    let a = c.args.a in
-    let e : place 0 table a ≡ none = sym l.invariant.1 ∙ place_none table a l.i (omega arith) in
-    rw e
+    let found = IsFirst-from_position _ _ c.position.result (λ x. x ≡ a) (λ x. x ≡ a → ⊥) c.position.ensures.ran (YieldsList-from_slice _ c.iter.ensures.rest) (λ x q k. search (rules, tests)) (λ x q k. search (rules, tests)) in
+    let nowhere = rw c.in-None.is at found in volts_none a (λ i h. nowhere i 0 (omega arith) h)

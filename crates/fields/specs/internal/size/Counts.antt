@@ -1,15 +1,14 @@
 -- How many bytes a packet's value has in the sheet, as the contracts of the module size say it. No promise names it.
-use Rattle.std.specs.Prelude.{◌≡◌, ℕ, zero, suc, length}
+use Rattle.std.specs.Prelude.{◌≡◌, ℕ, zero, suc, length, Result, Ok, Err}
 use Rattle.numbers.specs.Numbers.{groups_in}
-use Rattle.kinds.specs.declared.Field.{Field}
-use Rattle.kinds.specs.declared.Field.TheVariants.{Is, Refused}
+use Rattle.kinds.specs.declared.Item.{Item}
 use Rattle.kinds.specs.Kind.{range}
 use Rattle.kinds.specs.Judged.{value_in_packet}
 
 -- the bytes of a value in the sheet, and 0 where it is refused
-abbrev pub bytes_of : Field → ℕ
-bytes_of (Is i) = length (groups_in i.sheet)
-bytes_of (Refused r) = 0
+abbrev pub bytes_of : Result Item ℕ → ℕ
+bytes_of (Ok i) = length (groups_in i.sheet)
+bytes_of (Err r) = 0
 
 -- the bytes of a value of a range, whatever its width and its refusal
 abbrev pub BytesIn : ℕ → ℕ → ℕ → ℕ → Type 0

@@ -1,8 +1,6 @@
 -- A packet and a sheet of one of the two trees. Used by contracts of the code; no promise names these.
-use Rattle.std.specs.Prelude.{◌≡◌, List, ℕ, ◌+◌, ◌≤◌, length}
+use Rattle.std.specs.Prelude.{◌≡◌, List, ℕ, ◌+◌, ◌≤◌, length, Some, None, Option}
 use Rattle.kinds.specs.Kind.{Kind, range}
-use Rattle.numbers.specs.declared.Number.{Number}
-use Rattle.numbers.specs.declared.Number.TheVariants.{Value, Bad}
 use Rattle.numbers.specs.Numbers.{number_in}
 use Rattle.format.specs.Format.{Format, then, Read, accepted, read, write, values_of}
 use Rattle.format.specs.Media.{packet, sheet}
@@ -26,9 +24,9 @@ abbrev pub tree_sheet : Tree → List ℕ → Read
 tree_sheet t s = read sheet (tree_sheet_fields t) 0 s
 
 -- the tree of a sheet, by its first number
-abbrev pub by_number : Number → Tree
-by_number (Value a) = tree_of a
-by_number Bad = Segment
+abbrev pub by_number : Option ℕ → Tree
+by_number (Some a) = tree_of a
+by_number None = Segment
 
 abbrev pub tree_of_sheet : List ℕ → Tree
 tree_of_sheet s = by_number (number_in s)

@@ -11,4 +11,4 @@ overflow_add-result c = omega (arith, there_inside c.requires.there)
 
 pub returns : goal.returns
 returns c =
-    single_reads c.requires.there c.wide.ensures (c.type_inv.s c.args.from).fits c.requires.small
+    single_reads c.requires.there c.from.ensures (c.type_inv.s c.args.from).fits c.requires.small

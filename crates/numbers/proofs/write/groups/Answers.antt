@@ -1,12 +1,8 @@
 -- `numbers::write::groups` meets its contract.
 use Rattle.numbers.proofs.Counting.{leading_count, count_zero}
-use lib.Count.{leading_le}
 use mathlib.Core.Path.{sym}
 use native.Mathlib.Omega.{arith}
 use Rattle.numbers.proofs.write.groups.Goals as goal
-
-pub overflow_sub-result : goal.overflow_sub-result
-overflow_sub-result c = omega (arith, leading_le 32 c.args.v)
 
 pub returns-then-v-eq0 : goal.returns-then-v-eq0
 returns-then-v-eq0 c = rw c.if-v-eq0.true (sym count_zero)

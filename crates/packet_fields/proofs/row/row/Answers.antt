@@ -1,31 +1,25 @@
-use native.Mathlib.Omega.{arith}
-use Rattle.format.proofs.Ways.{left_all}
-use Rattle.packet_fields.proofs.row.Rows.{fits_length, fits_at, row_off, row_on, row_none}
+use Rattle.std.proofs.lemmas.Slice.Zip.{Zip-more, either_empty_from_Zip}
+use Rattle.verdict.proofs.Exits.{exit}
+use Rattle.packet_fields.proofs.row.Rows.{fits_some, fits_more, row_off, row_on, row_none}
 use Rattle.packet_fields.proofs.row.row.Goals as goal
-
-pub loop-i-init : goal.loop-i-init
-loop-i-init c = (left_all c.requires.0, omega arith)
-
-pub bounds-most-i : goal.bounds-most-i
-bounds-most-i c = omega (arith, fits_length c.args.widths.now c.args.most.now c.requires.1)
 
 pub plain-requires : goal.plain-requires
 plain-requires c =
-    let l = c.loop-i in
-    let w = fits_at c.args.widths.now c.args.most.now l.i c.requires.1 c.loop-i-test.true in
-    (l.invariant.0.stands, rw c.up_to.ensures (record { some = w.some; most = w.most }))
+    let z = Zip-more _ c.next.new.self _ _ c.in-Some.is c.next.ensures.steps in
+    let i = c.loop-width.invariant in
+    let w = fits_some i.1 z.0 z.1 in
+    (i.0.stands, rw c.up_to.ensures (record { some = w.some; most = w.most }))
 
-pub returns-in-Refused : goal.returns-in-Refused
-returns-in-Refused c =
-    let l = c.loop-i in
-    row_off c.args.widths.now c.args.most.now c.requires.1 l.i l.invariant.0 c.loop-i-test.true c.up_to.ensures (rw c.in-Refused.is at c.plain.ensures)
+pub returns-in_err-next : goal.returns-in_err-next
+returns-in_err-next c =
+    let z = Zip-more _ c.next.new.self _ _ c.in-Some.is c.next.ensures.steps in
+    rw (exit c.from_residual.ensures.1) (row_off c.loop-width.invariant.0 z.0 z.1 c.up_to.ensures c.in_err-next.ensures)
 
-pub loop-i-preserved : goal.loop-i-preserved
-loop-i-preserved c =
-    let l = c.loop-i in
-    (row_on c.args.widths.now c.args.most.now c.requires.1 l.i l.invariant.0 c.loop-i-test.true c.up_to.ensures (rw c.in-On.is at c.plain.ensures), omega arith)
+pub loop-width-preserved : goal.loop-width-preserved
+loop-width-preserved c =
+    let z = Zip-more _ c.next.new.self _ _ c.in-Some.is c.next.ensures.steps in
+    let i = c.loop-width.invariant in
+    (row_on i.0 z.0 z.1 c.up_to.ensures c.in_ok-next.ensures, fits_more i.1 z.0 z.1)
 
 pub returns : goal.returns
-returns c =
-    let l = c.loop-i in
-    row_none c.args.widths.now c.args.most.now c.requires.1 l.i l.invariant.0 c.loop-i-test.false
+returns c = row_none c.loop-width.invariant.0 (either_empty_from_Zip _ c.next.new.self _ c.in-None.is c.next.ensures.steps)

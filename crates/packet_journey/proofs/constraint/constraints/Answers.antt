@@ -1,23 +1,12 @@
-use native.Mathlib.Omega.{arith}
-use Rattle.format.proofs.Ways.{left_all, times_on, times_off, times_end_lem}
+-- `packet_journey::constraint::constraints` meets its contract.
+use Rattle.std.proofs.Common.{rules}
 use Rattle.grammar.specs.journey.Journey.{temporary_constraint}
 use Rattle.packet_journey.proofs.constraint.constraints.Goals as goal
 
-pub loop-left-init : goal.loop-left-init
-loop-left-init c = left_all c.requires
-
-pub constraint-requires : goal.constraint-requires
-constraint-requires c = c.loop-left.invariant.stands
-
-pub returns-in-Refused : goal.returns-in-Refused
-returns-in-Refused c =
-    let l = c.loop-left in
-    times_off temporary_constraint l.invariant (omega arith) (rw c.in-Refused.is at c.constraint.ensures)
-
-pub loop-left-preserved : goal.loop-left-preserved
-loop-left-preserved c =
-    let l = c.loop-left in
-    times_on temporary_constraint l.invariant (omega arith) (rw c.in-On.is at c.constraint.ensures)
+pub times-requires : goal.times-requires
+times-requires c =
+    (record { s = c.args.s.now; stop = c.args.stop; part = temporary_constraint }, record { stands = c.requires; called = λ x h. search rules; judges = λ x y h p. search rules })
 
 pub returns : goal.returns
-returns c = let l = c.loop-left in times_end_lem temporary_constraint l.invariant (omega arith)
+returns c =
+    c.times.ensures (record { s = c.args.s.now; stop = c.args.stop; part = temporary_constraint }) (record { stands = c.requires; called = λ x h. search rules; judges = λ x y h p. search rules })

@@ -1,37 +1,22 @@
 -- `packet_journey::constraint::cut_constraint` meets its contract.
-use lib.Dec.{lit≤}
 use Rattle.format.proofs.Ways.{over_on, over_off, value_on, value_off}
+use Rattle.verdict.proofs.Exits.{exit}
 use Rattle.grammar.specs.internal.journey.Parts.{after_type, after_range}
 use Rattle.packet_journey.proofs.constraint.cut_constraint.Goals as goal
 
-pub field-requires : goal.field-requires
-field-requires c = (c.requires, rw c.rule.ensures.kind (record { some = lit≤ tt; most = lit≤ tt }))
+pub returns-in_err-of : goal.returns-in_err-of
+returns-in_err-of c = rw (exit c.from_residual.ensures.1) (value_off after_type (rw c.rule.ensures.kind at c.in_err-of.ensures))
 
-pub field-requires-in-Is : goal.field-requires-in-Is
-field-requires-in-Is c = ((rw c.in-Is.is at c.field.ensures).stands, rw c.rule-in-Is.ensures.kind (record { some = lit≤ tt; most = lit≤ tt }))
+pub returns-in_err-range : goal.returns-in_err-range
+returns-in_err-range c =
+    rw (exit c.from_residual-in_err-range.ensures.1)
+    (value_on after_type (rw c.rule.ensures.kind at c.in_ok-of.ensures) (value_off (after_range c.in_ok-of.of) (rw c.rule-2.ensures.kind at c.in_err-range.ensures)))
 
-pub stretch-requires : goal.stretch-requires
-stretch-requires c = (rw c.in-Is-field.is at c.field-in-Is.ensures).stands
+pub returns-in_err-front : goal.returns-in_err-front
+returns-in_err-front c =
+    rw (exit c.from_residual-in_err-front.ensures.1)
+    (value_on after_type (rw c.rule.ensures.kind at c.in_ok-of.ensures) (value_on (after_range c.in_ok-of.of) (rw c.rule-2.ensures.kind at c.in_ok-range.ensures) (over_off c.in_err-front.ensures)))
 
-pub restriction-requires : goal.restriction-requires
-restriction-requires c = (rw c.in-On.is at c.stretch.ensures).stands
-
-pub returns-in-Refused : goal.returns-in-Refused
-returns-in-Refused c = value_off after_type (rw (c.in-Refused.is, c.rule.ensures.kind) at c.field.ensures)
-
-pub returns-in-Refused-field : goal.returns-in-Refused-field
-returns-in-Refused-field c =
-    value_on after_type (rw (c.in-Is.is, c.rule.ensures.kind) at c.field.ensures)
-    (value_off (after_range c.in-Is.of) (rw (c.in-Refused-field.is, c.rule-in-Is.ensures.kind) at c.field-in-Is.ensures))
-
-pub returns-in-Refused-stretch : goal.returns-in-Refused-stretch
-returns-in-Refused-stretch c =
-    value_on after_type (rw (c.in-Is.is, c.rule.ensures.kind) at c.field.ensures)
-    (value_on (after_range c.in-Is.of) (rw (c.in-Is-field.is, c.rule-in-Is.ensures.kind) at c.field-in-Is.ensures)
-    (over_off (rw c.in-Refused-stretch.is at c.stretch.ensures)))
-
-pub returns-in-On : goal.returns-in-On
-returns-in-On c =
-    value_on after_type (rw (c.in-Is.is, c.rule.ensures.kind) at c.field.ensures)
-    (value_on (after_range c.in-Is.of) (rw (c.in-Is-field.is, c.rule-in-Is.ensures.kind) at c.field-in-Is.ensures)
-    (over_on (rw c.in-On.is at c.stretch.ensures) c.restriction.ensures))
+pub returns : goal.returns
+returns c =
+    value_on after_type (rw c.rule.ensures.kind at c.in_ok-of.ensures) (value_on (after_range c.in_ok-of.of) (rw c.rule-2.ensures.kind at c.in_ok-range.ensures) (over_on c.in_ok-front.ensures c.restriction.ensures))

@@ -1,11 +1,8 @@
 -- `packet_journey::constraint_bytes::both_bytes` meets its contract.
 use Rattle.numbers.proofs.Counting.{count_five}
-use Rattle.packet_journey.proofs.constraint_bytes.Values.{both_none, both_bytes_lem}
+use Rattle.packet_journey.proofs.constraint_bytes.Values.{both_bytes_lem}
 use native.Mathlib.Omega.{arith}
 use Rattle.packet_journey.proofs.constraint_bytes.both_bytes.Goals as goal
-
-pub returns-then-end-start : goal.returns-then-end-start
-returns-then-end-start c = let a = c.args in both_none a.start a.end c.if-end-start.true
 
 pub overflow_add-result : goal.overflow_add-result
 overflow_add-result c = let a = c.args in omega (arith, c.groups.ensures, c.groups-2.ensures, count_five a.start, count_five a.end)

@@ -2,11 +2,8 @@
 use native.Mathlib.Omega.{arith}
 use Prim.Native.Nat.{◌/◌, ◌%◌}
 use Rattle.numbers.proofs.Counting.{count_five}
-use Rattle.packet_journey.proofs.point_bytes.Values.{leaving_none, not_passing_some}
+use Rattle.packet_journey.proofs.point_bytes.Values.{not_passing_some}
 use Rattle.packet_journey.proofs.point_bytes.not_passing_bytes.Goals as goal
-
-pub returns-then-seconds-gt-LARGEST : goal.returns-then-seconds-gt-LARGEST
-returns-then-seconds-gt-LARGEST c = let a = c.args in leaving_none a.doors a.leaving c.requires c.if-seconds-gt-LARGEST.true
 
 pub overflow_add-result : goal.overflow_add-result
 overflow_add-result c = let a = c.args in omega (arith, c.groups-date.ensures, c.groups.ensures, count_five (a.doors % 32768), count_five (a.leaving / 2048))

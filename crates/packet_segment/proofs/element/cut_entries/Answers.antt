@@ -1,30 +1,13 @@
-use native.Mathlib.Omega.{arith}
-use Prim.Native.Nat.{◌-◌}
-use Rattle.grammar.specs.segment.Segment.{entries}
+-- `packet_segment::element::cut_entries` meets its contract.
+use Rattle.std.proofs.Common.{rules}
 use Rattle.grammar.specs.internal.segment.Parts.{entry}
-use Rattle.format.proofs.Ways.{left_all, left_none, left_as, left_on, left_off}
-use Rattle.grammar.proofs.segment.Parts.{entries_more, entries_none}
+use Rattle.packet_segment.proofs.element.Windows.{entries_over}
 use Rattle.packet_segment.proofs.element.cut_entries.Goals as goal
 
-pub loop-left-init : goal.loop-left-init
-loop-left-init c = left_all c.requires
-
-pub cut_entry-requires : goal.cut_entry-requires
-cut_entry-requires c = c.loop-left.invariant.stands
-
-pub returns-in-Refused : goal.returns-in-Refused
-returns-in-Refused c =
-    let l = c.loop-left in
-    let more = left_as (λ f. entry (entries (l.left - 1) f)) (entries_more l.left (omega arith)) l.invariant in
-    left_off entry (entries (l.left - 1)) more (rw c.in-Refused.is at c.cut_entry.ensures)
-
-pub loop-left-preserved : goal.loop-left-preserved
-loop-left-preserved c =
-    let l = c.loop-left in
-    let more = left_as (λ f. entry (entries (l.left - 1) f)) (entries_more l.left (omega arith)) l.invariant in
-    left_on entry (entries (l.left - 1)) more (rw c.in-On.is at c.cut_entry.ensures)
+pub times-requires : goal.times-requires
+times-requires c =
+    (record { s = c.args.s.now; stop = c.args.stop; part = entry }, record { stands = c.requires; called = λ x h. search rules; judges = λ x y h p. search rules })
 
 pub returns : goal.returns
 returns c =
-    let l = c.loop-left in
-    left_none (left_as (λ f. f) (entries_none l.left (omega arith)) l.invariant)
+    entries_over c.args.count (c.times.ensures (record { s = c.args.s.now; stop = c.args.stop; part = entry }) (record { stands = c.requires; called = λ x h. search rules; judges = λ x y h p. search rules }))

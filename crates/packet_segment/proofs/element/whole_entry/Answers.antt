@@ -10,7 +10,7 @@ use Rattle.packet_segment.proofs.element.whole_entry.Goals as goal
 pub name_bytes-name-requires : goal.name_bytes-name-requires
 name_bytes-name-requires c =
     let a = c.args in
-    omega (arith, c.read_window-t.ensures, field_small a.s.now a.at 13 13 (lit≤ tt))
+    omega (arith, c.read_window-t.ensures, field_small a.s.now a.spot.at 13 13 (lit≤ tt))
 
 pub returns-then-t-le-LARGEST : goal.returns-then-t-le-LARGEST
 returns-then-t-le-LARGEST c =

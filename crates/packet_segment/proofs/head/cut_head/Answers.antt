@@ -1,12 +1,10 @@
 -- `packet_segment::head::cut_head` meets its contract.
 use Rattle.format.proofs.Ways.{gave_on, gave_off}
+use Rattle.verdict.proofs.Exits.{exit}
 use Rattle.packet_segment.proofs.head.cut_head.Goals as goal
 
-pub cut_body-requires : goal.cut_body-requires
-cut_body-requires c = (rw c.in-On.is at c.header.ensures).stands
+pub returns-in_err-country : goal.returns-in_err-country
+returns-in_err-country c = rw (exit c.from_residual.ensures.1) (gave_off c.in_err-country.ensures)
 
-pub returns-in-Refused : goal.returns-in-Refused
-returns-in-Refused c = gave_off (rw c.in-Refused.is at c.header.ensures)
-
-pub returns-in-On : goal.returns-in-On
-returns-in-On c = gave_on (rw c.in-On.is at c.header.ensures) c.cut_body.ensures
+pub returns : goal.returns
+returns c = gave_on c.in_ok-country.ensures c.cut_body.ensures

@@ -4,8 +4,7 @@ use Rattle.kinds.specs.Kinds.{speed, q_front, n_iter, q_diff, class}
 use Rattle.kinds.specs.Judged.{value_in_packet}
 use Rattle.fields.specs.internal.size.Counts.{bytes_of}
 use Rattle.format.specs.Format.{Format, field, then}
-use Rattle.packet_fields.specs.declared.PacketStep.{PacketStep}
-use Rattle.packet_fields.specs.declared.PacketStep.TheVariants.{On, Refused}
+use Rattle.format.specs.internal.Ways.{Went}
 
 -- "V_STATIC 7 (0 to 120, steps of 5 km/h), Q_FRONT 1, N_ITER 5 (0 to 31)", and what depends on the last
 abbrev pub profile_head : (ℕ → Format) → Format
@@ -20,5 +19,5 @@ abbrev pub name_bytes : ℕ → ℕ → ℕ
 name_bytes q v = both_bytes (bytes_of (value_in_packet q_diff q)) (bytes_of (value_in_packet (class q) v))
 
 -- the step over an entry at the bit at: r bytes in the sheet; r of 16 or more is the refusal of the field r - 16 bits after the bit at
-abbrev pub past_entry : ℕ → ℕ → ℕ → PacketStep
-past_entry at n r = cond (ltb r 16) (On (at + 13) (n + r)) (Refused 4 (at + (r - 16)))
+abbrev pub past_entry : ℕ → ℕ → ℕ → Went ℕ
+past_entry at n r = cond (ltb r 16) (Went.on (at + 13) (n + r)) (Went.off 4 (at + (r - 16)))

@@ -2,12 +2,9 @@
 use mathlib.Core.Path.{refl}
 use lib.Dec.{lit<, lit≤}
 use Rattle.packet_write_segment.proofs.elements.Writing.{at_small}
-use Rattle.packet_write_journey.proofs.constraint.Steps.{front_there, speed_there, adhesion_there, current_there, restriction_small, restriction_wrote}
+use Rattle.packet_write_journey.proofs.constraint.Steps.{speed_there, adhesion_there, current_there, restriction_small, restriction_wrote}
 use native.Mathlib.Omega.{arith}
 use Rattle.packet_write_journey.proofs.constraint.restriction.Goals as goal
-
-pub number-front-requires : goal.number-front-requires
-number-front-requires c = front_there c.args.of c.requires
 
 pub number-level-requires : goal.number-level-requires
 number-level-requires c =
@@ -30,16 +27,6 @@ number-current-requires c =
     let a = c.number-adhesion.ensures in
     current_there c.args.of h t v refl a
 
--- the three numbers fit their widths
-pub overflow_mul-bits : goal.overflow_mul-bits
-overflow_mul-bits c = omega (arith, restriction_small c.args.of c.requires c.number-front.ensures c.number-level.ensures c.speed_steps-steps.ensures c.number-adhesion.ensures)
-
-pub overflow_mul-bits-2 : goal.overflow_mul-bits-2
-overflow_mul-bits-2 c = omega (arith, restriction_small c.args.of c.requires c.number-front.ensures c.number-level.ensures c.speed_steps-steps.ensures c.number-adhesion.ensures)
-
-pub overflow_add-bits : goal.overflow_add-bits
-overflow_add-bits c = omega (arith, restriction_small c.args.of c.requires c.number-front.ensures c.number-level.ensures c.speed_steps-steps.ensures c.number-adhesion.ensures)
-
 pub overflow_mul-bits-3 : goal.overflow_mul-bits-3
 overflow_mul-bits-3 c = omega (arith, restriction_small c.args.of c.requires c.number-front.ensures c.number-level.ensures c.speed_steps-steps.ensures c.number-adhesion.ensures)
 
@@ -49,14 +36,11 @@ overflow_add-bits-2 c = omega (arith, restriction_small c.args.of c.requires c.n
 pub overflow_add-bits-3 : goal.overflow_add-bits-3
 overflow_add-bits-3 c = omega (arith, restriction_small c.args.of c.requires c.number-front.ensures c.number-level.ensures c.speed_steps-steps.ensures c.number-adhesion.ensures)
 
-pub put-wait-requires : goal.put-wait-requires
-put-wait-requires c = (lit< tt, lit≤ tt, omega (arith, restriction_small c.args.of c.requires c.number-front.ensures c.number-level.ensures c.speed_steps-steps.ensures c.number-adhesion.ensures))
-
-pub overflow_add-result : goal.overflow_add-result
-overflow_add-result c = omega (arith, at_small c.requires)
+pub put-requires : goal.put-requires
+put-requires c = (lit< tt, lit≤ tt, omega (arith, restriction_small c.args.of c.requires c.number-front.ensures c.number-level.ensures c.speed_steps-steps.ensures c.number-adhesion.ensures), at_small c.requires)
 
 pub returns : goal.returns
 returns c =
     let t = c.number-front.ensures in
     let v = c.number-level.ensures in
-    restriction_wrote c.args.of c.requires t v c.speed_steps-steps.ensures c.number-adhesion.ensures c.number-current.ensures c.put-wait.ensures
+    restriction_wrote c.args.of c.requires t v c.speed_steps-steps.ensures c.number-adhesion.ensures c.number-current.ensures c.put.ensures

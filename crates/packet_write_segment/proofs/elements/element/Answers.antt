@@ -1,15 +1,6 @@
 -- `packet_write_segment::elements::element` meets its contract.
 use Rattle.packet_write_segment.proofs.elements.element.Goals as goal
 
-pub profile-requires : goal.profile-requires
-profile-requires c = rw c.in-Speeds.is at c.requires
-
-pub wire-requires : goal.wire-requires
-wire-requires c = rw c.in-Volts.is at c.requires
-
-pub amperes-requires : goal.amperes-requires
-amperes-requires c = rw c.in-Amperes.is at c.requires
-
 pub returns-in-Speeds : goal.returns-in-Speeds
 returns-in-Speeds c = rw c.in-Speeds.is c.profile.ensures
 

@@ -15,10 +15,6 @@ number-a-requires c = entry_second c.requires.0 c.single-q.ensures
 pub number-v-requires : goal.number-v-requires
 number-v-requires c = entry_third c.requires.0 c.single-q.ensures c.number-a.ensures refl
 
--- the qualifier, the class and the speed fit their widths
-pub overflow_mul-bits : goal.overflow_mul-bits
-overflow_mul-bits c = omega (arith, entry_q c.requires.0 c.single-q.ensures, entry_class c.requires.0 c.single-q.ensures c.number-a.ensures c.class_place-class.ensures)
-
 pub overflow_mul-bits-2 : goal.overflow_mul-bits-2
 overflow_mul-bits-2 c = omega (arith, entry_q c.requires.0 c.single-q.ensures, entry_class c.requires.0 c.single-q.ensures c.number-a.ensures c.class_place-class.ensures)
 
@@ -28,13 +24,9 @@ overflow_add-bits c = omega (arith, entry_q c.requires.0 c.single-q.ensures, ent
 pub overflow_add-bits-2 : goal.overflow_add-bits-2
 overflow_add-bits-2 c = omega (arith, entry_q c.requires.0 c.single-q.ensures, entry_class c.requires.0 c.single-q.ensures c.number-a.ensures c.class_place-class.ensures, entry_speed c.requires.0 c.single-q.ensures c.number-a.ensures c.class_place-class.ensures c.number-v.ensures c.speed_steps.ensures)
 
-pub put-wait-requires : goal.put-wait-requires
-put-wait-requires c = (lit< tt, lit≤ tt, omega (arith, entry_q c.requires.0 c.single-q.ensures, entry_class c.requires.0 c.single-q.ensures c.number-a.ensures c.class_place-class.ensures, entry_speed c.requires.0 c.single-q.ensures c.number-a.ensures c.class_place-class.ensures c.number-v.ensures c.speed_steps.ensures))
-
-pub overflow_add-result : goal.overflow_add-result
-overflow_add-result c =
-    omega (arith, at_small c.requires.0)
+pub put-requires : goal.put-requires
+put-requires c = (lit< tt, lit≤ tt, omega (arith, entry_q c.requires.0 c.single-q.ensures, entry_class c.requires.0 c.single-q.ensures c.number-a.ensures c.class_place-class.ensures, entry_speed c.requires.0 c.single-q.ensures c.number-a.ensures c.class_place-class.ensures c.number-v.ensures c.speed_steps.ensures), at_small c.requires.0)
 
 pub returns : goal.returns
 returns c =
-    entry_wrote c.requires.0 c.single-q.ensures c.number-a.ensures c.class_place-class.ensures c.number-v.ensures c.speed_steps.ensures c.put-wait.ensures
+    entry_wrote c.requires.0 c.single-q.ensures c.number-a.ensures c.class_place-class.ensures c.number-v.ensures c.speed_steps.ensures c.put.ensures

@@ -29,19 +29,15 @@ overflow_add-bits c = omega (arith, profile_speed c.requires c.number-v.ensures 
 pub overflow_add-bits-2 : goal.overflow_add-bits-2
 overflow_add-bits-2 c = omega (arith, profile_speed c.requires c.number-v.ensures c.speed_steps.ensures, profile_front c.requires c.number-v.ensures c.speed_steps.ensures c.single-q.ensures, profile_count c.requires c.number-v.ensures c.speed_steps.ensures c.single-q.ensures c.single-n.ensures)
 
-pub put-wait-requires : goal.put-wait-requires
-put-wait-requires c = (lit< tt, lit≤ tt, omega (arith, profile_speed c.requires c.number-v.ensures c.speed_steps.ensures, profile_front c.requires c.number-v.ensures c.speed_steps.ensures c.single-q.ensures, profile_count c.requires c.number-v.ensures c.speed_steps.ensures c.single-q.ensures c.single-n.ensures))
-
-pub overflow_add-first : goal.overflow_add-first
-overflow_add-first c =
-    omega (arith, at_small c.requires)
+pub put-first-requires : goal.put-first-requires
+put-first-requires c = (lit< tt, lit≤ tt, omega (arith, profile_speed c.requires c.number-v.ensures c.speed_steps.ensures, profile_front c.requires c.number-v.ensures c.speed_steps.ensures c.single-q.ensures, profile_count c.requires c.number-v.ensures c.speed_steps.ensures c.single-q.ensures c.single-n.ensures), at_small c.requires)
 
 pub entries-requires : goal.entries-requires
 entries-requires c =
-    let l = profile_along c.requires c.number-v.ensures c.speed_steps.ensures c.single-q.ensures c.single-n.ensures c.put-wait.ensures in
+    let l = profile_along c.requires c.number-v.ensures c.speed_steps.ensures c.single-q.ensures c.single-n.ensures c.put-first.ensures in
     along_next (entries c.single-n.result.value) (λ f. f) l c.requires
 
 pub returns : goal.returns
 returns c =
-    let l = profile_along c.requires c.number-v.ensures c.speed_steps.ensures c.single-q.ensures c.single-n.ensures c.put-wait.ensures in
+    let l = profile_along c.requires c.number-v.ensures c.speed_steps.ensures c.single-q.ensures c.single-n.ensures c.put-first.ensures in
     along_none (along_on (entries c.single-n.result.value) (λ f. f) l c.entries.ensures)

@@ -1,13 +1,10 @@
 -- `packet_write_segment::elements::wire` meets its contract.
 use mathlib.Core.Path.{refl}
 use Rattle.packet_write_segment.proofs.elements.Writing.{at_small}
-use Rattle.packet_write_segment.proofs.elements.Pieces.{wire_first, wire_second, wire_volts, wire_traction, wire_wrote}
+use Rattle.packet_write_segment.proofs.elements.Pieces.{wire_second, wire_volts, wire_traction, wire_wrote}
 use lib.Dec.{lit<, lit≤}
 use native.Mathlib.Omega.{arith}
 use Rattle.packet_write_segment.proofs.elements.wire.Goals as goal
-
-pub number-u-requires : goal.number-u-requires
-number-u-requires c = wire_first c.requires
 
 pub number-n-requires : goal.number-n-requires
 number-n-requires c = wire_second c.requires c.number-u.ensures refl
@@ -20,14 +17,10 @@ pub overflow_add-bits : goal.overflow_add-bits
 overflow_add-bits c =
     omega (arith, wire_volts c.requires c.number-u.ensures c.volts_place.ensures, wire_traction c.requires c.number-u.ensures c.volts_place.ensures c.number-n.ensures)
 
-pub put-wait-requires : goal.put-wait-requires
-put-wait-requires c =
-    (lit< tt, lit≤ tt, omega (arith, wire_volts c.requires c.number-u.ensures c.volts_place.ensures, wire_traction c.requires c.number-u.ensures c.volts_place.ensures c.number-n.ensures))
-
-pub overflow_add-result : goal.overflow_add-result
-overflow_add-result c =
-    omega (arith, at_small c.requires)
+pub put-requires : goal.put-requires
+put-requires c =
+    (lit< tt, lit≤ tt, omega (arith, wire_volts c.requires c.number-u.ensures c.volts_place.ensures, wire_traction c.requires c.number-u.ensures c.volts_place.ensures c.number-n.ensures), at_small c.requires)
 
 pub returns : goal.returns
 returns c =
-    wire_wrote c.requires c.number-u.ensures c.volts_place.ensures c.number-n.ensures c.put-wait.ensures
+    wire_wrote c.requires c.number-u.ensures c.volts_place.ensures c.number-n.ensures c.put.ensures

@@ -1,7 +1,7 @@
 -- A part of an accepted sheet's packet, written after the bits before it. The contracts of the code cite it; no promise names it.
-use Rattle.std.specs.Prelude.{◌≡◌, Bool, List, ◌++◌, ℕ, ◌^◌, ◌≤◌, ◌<◌, length, drop}
+use Rattle.std.specs.Prelude.{◌≡◌, Bool, List, ◌++◌, ℕ, ◌+◌, ◌^◌, ◌≤◌, ◌<◌, length, drop}
 use Rattle.bits.specs.Bits.{Bytes}
-use Rattle.bits.specs.internal.write.Filling.{Filled}
+use Rattle.bits.specs.internal.write.Filling.{Filled, Filling}
 use Rattle.format.specs.Format.{Format}
 use Rattle.format.specs.Media.{packet, sheet}
 use Rattle.format.specs.internal.Tasks.{Told, recording}
@@ -29,6 +29,12 @@ pub record Ready (part : Format → Format) (s room : List ℕ) (p : PacketSpot)
 pub record Puts (room : List ℕ) (at wait : ℕ) (bits : List Bool) (after : List ℕ) (to left : ℕ) : Type 0 where
   pub long : length after ≡ length room
   pub fills : (x : List Bool) → Filled x room at wait → Filled (x ++ bits) after to left
+
+-- A field is put: the room becomes after, the bit after the field is that of q, and the sheet goes on at the byte next.
+pub record FieldPut (room : List ℕ) (p : PacketSpot) (width v next : ℕ) (after : List ℕ) (q : PacketSpot) : Type 0 where
+  pub filling : Filling room p.at p.wait width v after q.wait
+  pub at : q.at ≡ p.at + width
+  pub from : q.from ≡ next
 
 -- A part is written from p to q: with any bits before the part and any tree after it, the pass over the part leads from p to q and adds bits.
 pub record Wrote (part : Format → Format) (s room : List ℕ) (p : PacketSpot) (after : List ℕ) (q : PacketSpot) : Type 0 where

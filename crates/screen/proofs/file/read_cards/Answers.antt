@@ -1,4 +1,4 @@
-use mathlib.Core.Path.{sym, ◌∙◌}
+use mathlib.Core.Path.{refl, sym, ◌∙◌}
 use native.Mathlib.Omega.{arith}
 use lib.ListN.{drop}
 use Rattle.numbers.proofs.Reading.{found_none, found_value}
@@ -9,20 +9,20 @@ pub loop-at-init : goal.loop-at-init
 loop-at-init c = let a = c.args in reading_first a.s.now a.values.now c.requires
 
 pub returns-then-k-eq-NUMBERS : goal.returns-then-k-eq-NUMBERS
-returns-then-k-eq-NUMBERS c = reading_many c.loop-at.invariant c.loop-at-test.true c.if-k-eq-NUMBERS.true
+returns-then-k-eq-NUMBERS c = reading_many c.loop-at.invariant c.loop-at-test.true refl refl c.if-k-eq-NUMBERS.true
 
 pub returns-then-found-eq0 : goal.returns-then-found-eq0
 returns-then-found-eq0 c =
     let l = c.loop-at in
     let s = c.args.s.now in
-    reading_bad l.invariant c.loop-at-test.true c.if-k-eq-NUMBERS.false (found_none (drop l.at s) _ c.found_at-found.ensures c.if-found-eq0.true)
+    reading_bad l.invariant c.loop-at-test.true c.if-k-eq-NUMBERS.false refl refl (found_none (drop l.at s) _ c.found_at-found.ensures c.if-found-eq0.true)
 
 pub returns-then-wrong : goal.returns-then-wrong
 returns-then-wrong c =
     let l = c.loop-at in
     let s = c.args.s.now in
     let f = c.found_at-found in
-    reading_wrong l.invariant c.loop-at-test.true c.if-k-eq-NUMBERS.false f.result.value (found_value (drop l.at s) _ f.ensures c.if-found-eq0.false).value (sym c.wrong.ensures ∙ c.if-wrong.true)
+    reading_wrong l.invariant c.loop-at-test.true c.if-k-eq-NUMBERS.false f.result.value (found_value (drop l.at s) _ f.ensures c.if-found-eq0.false).value refl refl (sym c.wrong.ensures ∙ c.if-wrong.true)
 
 pub bounds-values-k : goal.bounds-values-k
 bounds-values-k c = let g = c.loop-at.invariant in omega (arith, g.long, g.most, c.if-k-eq-NUMBERS.false)
@@ -42,7 +42,7 @@ loop-at-preserved c =
     reading_next l.invariant c.loop-at-test.true c.if-k-eq-NUMBERS.false f.result.value v.value v.groups (sym c.wrong.ensures ∙ c.if-wrong.false)
 
 pub returns-then-k-ne0 : goal.returns-then-k-ne0
-returns-then-k-ne0 c = reading_cut c.loop-at.invariant (omega (arith, c.loop-at-test.false)) c.if-k-ne0.true
+returns-then-k-ne0 c = reading_cut c.loop-at.invariant (omega (arith, c.loop-at-test.false)) refl refl c.if-k-ne0.true
 
 pub returns : goal.returns
 returns c = reading_last c.loop-at.invariant (omega (arith, c.loop-at-test.false)) c.if-k-ne0.false

@@ -1,28 +1,23 @@
-use Rattle.std.proofs.Common.{arith}
-use Rattle.format.proofs.Ways.{left_all}
+use Rattle.std.proofs.Common.{arith, rules, length, length-append}
+use Rattle.std.proofs.lemmas.Slice.Zip.{zip_turn, zip_end}
 use Rattle.sheet_fields.proofs.row.Rows.{row_on, row_off, row_end}
+use Rattle.verdict.proofs.Exits.{exit}
 use Rattle.sheet_fields.proofs.row.row.Goals as goal
 
-pub loop-i-init : goal.loop-i-init
-loop-i-init c = (left_all c.requires.0, omega arith)
-
-pub ranged-requires : goal.ranged-requires
-ranged-requires c = c.loop-i.invariant.0.stands
-
-pub returns-in-Refused : goal.returns-in-Refused
-returns-in-Refused c =
+pub returns-in_err-spot : goal.returns-in_err-spot
+returns-in_err-spot c =
     let a = c.args in
-    let l = c.loop-i in
-    row_off a.widths.now a.most.now l.i l.invariant.0 c.loop-i-test.true c.requires.1 (rw c.in-Refused.is at c.ranged.ensures)
+    let t = zip_turn a.widths.now a.most.now c.loop-width.yielded c.into_iter-width-iterator.result c.loop-width.width-iterator c.next.new.self _ (search rules) (search rules) c.loop-width.yielded_by _ c.in-Some.is c.next.ensures.steps in
+    rw (exit c.from_residual.ensures.1) (row_off a.widths.now a.most.now (length c.loop-width.yielded) c.loop-width.invariant t.0 c.requires.1 (rw (t.2 0, t.3 0) at c.in_err-spot.ensures))
 
-pub loop-i-preserved : goal.loop-i-preserved
-loop-i-preserved c =
+pub loop-width-preserved : goal.loop-width-preserved
+loop-width-preserved c =
     let a = c.args in
-    let l = c.loop-i in
-    (row_on a.widths.now a.most.now l.i l.invariant.0 c.loop-i-test.true c.requires.1 (rw c.in-Is.is at c.ranged.ensures), omega arith)
+    let t = zip_turn a.widths.now a.most.now c.loop-width.yielded c.into_iter-width-iterator.result c.loop-width.width-iterator c.next.new.self _ (search rules) (search rules) c.loop-width.yielded_by _ c.in-Some.is c.next.ensures.steps in
+    rw (length-append) (row_on a.widths.now a.most.now (length c.loop-width.yielded) c.loop-width.invariant t.0 c.requires.1 (rw (t.2 0, t.3 0) at c.in_ok-spot.ensures))
 
 pub returns : goal.returns
 returns c =
     let a = c.args in
-    let l = c.loop-i in
-    row_end a.widths.now a.most.now l.i l.invariant.0 (omega arith)
+    let t = zip_end a.widths.now a.most.now c.loop-width.yielded c.into_iter-width-iterator.result c.loop-width.width-iterator c.next.new.self _ (search rules) (search rules) c.loop-width.yielded_by c.in-None.is c.next.ensures.steps in
+    row_end a.widths.now a.most.now (length c.loop-width.yielded) c.loop-width.invariant (omega (arith, t, c.requires.1))

@@ -1,33 +1,17 @@
 -- `sheet_journey::constraint::constraint` meets its contract.
 use Rattle.format.proofs.Ways.{over_on, over_off, value_on, value_off}
 use Rattle.grammar.specs.internal.journey.Parts.{after_type, after_range}
+use Rattle.verdict.proofs.Exits.{exit}
 use Rattle.sheet_journey.proofs.constraint.constraint.Goals as goal
 
-pub ranged-requires-in-Is : goal.ranged-requires-in-Is
-ranged-requires-in-Is c = (rw c.in-Is.is at c.ranged.ensures).stands
+pub returns-in_err-of : goal.returns-in_err-of
+returns-in_err-of c = rw (exit c.from_residual.ensures.1) (value_off after_type c.in_err-of.ensures)
 
-pub stretch-requires : goal.stretch-requires
-stretch-requires c = (rw c.in-Is-ranged.is at c.ranged-in-Is.ensures).stands
+pub returns-in_err-range : goal.returns-in_err-range
+returns-in_err-range c = rw (exit c.from_residual-in_err-range.ensures.1) (value_on after_type c.in_ok-of.ensures (value_off (after_range c.in_ok-of.of) c.in_err-range.ensures))
 
-pub restriction-requires : goal.restriction-requires
-restriction-requires c = (rw c.in-On.is at c.stretch.ensures).stands
+pub returns-in_err-next : goal.returns-in_err-next
+returns-in_err-next c = rw (exit c.from_residual-in_err-next.ensures.1) (value_on after_type c.in_ok-of.ensures (value_on (after_range c.in_ok-of.of) c.in_ok-range.ensures (over_off c.in_err-next.ensures)))
 
-pub returns-in-Refused : goal.returns-in-Refused
-returns-in-Refused c = value_off after_type (rw c.in-Refused.is at c.ranged.ensures)
-
-pub returns-in-Refused-ranged : goal.returns-in-Refused-ranged
-returns-in-Refused-ranged c =
-    value_on after_type (rw c.in-Is.is at c.ranged.ensures)
-    (value_off (after_range c.in-Is.of) (rw c.in-Refused-ranged.is at c.ranged-in-Is.ensures))
-
-pub returns-in-Refused-stretch : goal.returns-in-Refused-stretch
-returns-in-Refused-stretch c =
-    value_on after_type (rw c.in-Is.is at c.ranged.ensures)
-    (value_on (after_range c.in-Is.of) (rw c.in-Is-ranged.is at c.ranged-in-Is.ensures)
-    (over_off (rw c.in-Refused-stretch.is at c.stretch.ensures)))
-
-pub returns-in-On : goal.returns-in-On
-returns-in-On c =
-    value_on after_type (rw c.in-Is.is at c.ranged.ensures)
-    (value_on (after_range c.in-Is.of) (rw c.in-Is-ranged.is at c.ranged-in-Is.ensures)
-    (over_on (rw c.in-On.is at c.stretch.ensures) c.restriction.ensures))
+pub returns : goal.returns
+returns c = value_on after_type c.in_ok-of.ensures (value_on (after_range c.in_ok-of.of) c.in_ok-range.ensures (over_on c.in_ok-next.ensures c.restriction.ensures))

@@ -1,23 +1,14 @@
-use Rattle.format.proofs.Ways.{left_all, times_on, times_off, times_end_lem}
+use Rattle.std.proofs.Common.{arith}
 use Rattle.grammar.specs.journey.Journey.{temporary_constraint}
-use native.Mathlib.Omega.{arith}
+use Rattle.verdict.proofs.Exits.{exit}
+use Rattle.sheet_fields.proofs.Loops.{count_on, count_off, count_end}
 use Rattle.sheet_journey.proofs.constraint.constraints.Goals as goal
 
-pub loop-left-init : goal.loop-left-init
-loop-left-init c = left_all c.requires
+pub returns-in_err-spot : goal.returns-in_err-spot
+returns-in_err-spot c = rw (exit c.from_residual.ensures.1) (count_off temporary_constraint c.loop.invariant c.loop-test.true c.in_err-spot.ensures)
 
-pub constraint-requires : goal.constraint-requires
-constraint-requires c = c.loop-left.invariant.stands
-
-pub returns-in-Refused : goal.returns-in-Refused
-returns-in-Refused c =
-    let l = c.loop-left in
-    times_off temporary_constraint l.invariant (omega arith) (rw c.in-Refused.is at c.constraint.ensures)
-
-pub loop-left-preserved : goal.loop-left-preserved
-loop-left-preserved c =
-    let l = c.loop-left in
-    times_on temporary_constraint l.invariant (omega arith) (rw c.in-On.is at c.constraint.ensures)
+pub loop-preserved : goal.loop-preserved
+loop-preserved c = count_on temporary_constraint c.loop.invariant c.loop-test.true c.in_ok-spot.ensures
 
 pub returns : goal.returns
-returns c = let l = c.loop-left in times_end_lem temporary_constraint l.invariant (omega arith)
+returns c = count_end temporary_constraint c.loop.invariant (omega arith)

@@ -2,22 +2,17 @@
 use Rattle.format.proofs.Ways.{over_on, over_off, value_on, value_off}
 use Rattle.grammar.specs.internal.rows.Rows.{row}
 use Rattle.grammar.specs.internal.journey.Parts.{stopping_widths, stopping_most}
+use Rattle.verdict.proofs.Exits.{exit}
 use Rattle.sheet_journey.proofs.point.point.Goals as goal
 
-pub ranged-requires : goal.ranged-requires
-ranged-requires c = (rw c.in-On.is at c.arrival_row.ensures).stands
-
-pub stopping_row-requires : goal.stopping_row-requires
-stopping_row-requires c = (rw c.in-Is.is at c.ranged.ensures).stands
-
-pub returns-in-Refused : goal.returns-in-Refused
+pub returns-in_err-next : goal.returns-in_err-next
 unfolding row
-returns-in-Refused c = over_off (rw c.in-Refused.is at c.arrival_row.ensures)
+returns-in_err-next c = rw (exit c.from_residual.ensures.1) (over_off c.in_err-next.ensures)
 
-pub returns-in-Refused-ranged : goal.returns-in-Refused-ranged
+pub returns-in_err-stop_skip_passes : goal.returns-in_err-stop_skip_passes
 unfolding row
-returns-in-Refused-ranged c = over_on (rw c.in-On.is at c.arrival_row.ensures) (value_off (λ stop_skip_passes. row stopping_widths (stopping_most stop_skip_passes)) (rw c.in-Refused-ranged.is at c.ranged.ensures))
+returns-in_err-stop_skip_passes c = rw (exit c.from_residual-in_err-stop_skip_passes.ensures.1) (over_on c.in_ok-next.ensures (value_off (λ m. row stopping_widths (stopping_most m)) c.in_err-stop_skip_passes.ensures))
 
-pub returns-in-Is : goal.returns-in-Is
+pub returns : goal.returns
 unfolding row
-returns-in-Is c = over_on (rw c.in-On.is at c.arrival_row.ensures) (value_on (λ stop_skip_passes. row stopping_widths (stopping_most stop_skip_passes)) (rw c.in-Is.is at c.ranged.ensures) c.stopping_row.ensures)
+returns c = over_on c.in_ok-next.ensures (value_on (λ m. row stopping_widths (stopping_most m)) c.in_ok-stop_skip_passes.ensures c.stopping_row.ensures)

@@ -1,23 +1,14 @@
-use Rattle.format.proofs.Ways.{left_all, times_on, times_off, times_end_lem}
+use Rattle.std.proofs.Common.{arith}
 use Rattle.grammar.specs.journey.Journey.{timing_point}
-use native.Mathlib.Omega.{arith}
+use Rattle.verdict.proofs.Exits.{exit}
+use Rattle.sheet_fields.proofs.Loops.{count_on, count_off, count_end}
 use Rattle.sheet_journey.proofs.point.points.Goals as goal
 
-pub loop-left-init : goal.loop-left-init
-loop-left-init c = left_all c.requires
+pub returns-in_err-spot : goal.returns-in_err-spot
+returns-in_err-spot c = rw (exit c.from_residual.ensures.1) (count_off timing_point c.loop.invariant c.loop-test.true c.in_err-spot.ensures)
 
-pub point-requires : goal.point-requires
-point-requires c = c.loop-left.invariant.stands
-
-pub returns-in-Refused : goal.returns-in-Refused
-returns-in-Refused c =
-    let l = c.loop-left in
-    times_off timing_point l.invariant (omega arith) (rw c.in-Refused.is at c.point.ensures)
-
-pub loop-left-preserved : goal.loop-left-preserved
-loop-left-preserved c =
-    let l = c.loop-left in
-    times_on timing_point l.invariant (omega arith) (rw c.in-On.is at c.point.ensures)
+pub loop-preserved : goal.loop-preserved
+loop-preserved c = count_on timing_point c.loop.invariant c.loop-test.true c.in_ok-spot.ensures
 
 pub returns : goal.returns
-returns c = let l = c.loop-left in times_end_lem timing_point l.invariant (omega arith)
+returns c = count_end timing_point c.loop.invariant (omega arith)

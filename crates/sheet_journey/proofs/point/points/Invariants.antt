@@ -1,12 +1,10 @@
 -- `sheet_journey::point::points` meets its contract.
-use Rattle.format.specs.internal.Ways.{Left}
+use Rattle.std.proofs.Common.{◌-◌}
 use Rattle.format.specs.Format.{times}
-use Rattle.sheet_fields.specs.internal.Judging.{judge}
+use Rattle.format.specs.internal.Ways.{Left}
 use Rattle.grammar.specs.journey.Journey.{timing_point}
+use Rattle.sheet_fields.specs.internal.Judging.{judge}
 use Rattle.sheet_journey.proofs.point.points.Given as goal
 
-abbrev pub invariant-loop-left : goal.invariant-loop-left
-invariant-loop-left l = Left (judge l.s) (times timing_point l.count) (times timing_point l.left) l.at l.n l.to l.m
-
-abbrev pub decreases-loop-left : goal.decreases-loop-left
-decreases-loop-left l = l.left
+abbrev pub invariant-loop : goal.invariant-loop
+invariant-loop l = Left (judge l.s) (times timing_point l.count) (times timing_point (l.count - l.counter)) l.fn.spot.at l.fn.spot.n l.spot.at l.spot.n

@@ -1,14 +1,10 @@
 -- `sheet_write_segment::elements::amperes` meets its contract.
 use mathlib.Core.Path.{refl, ◌∙◌}
 use Prim.Native.Nat.{◌+◌}
-use lib.Dec.{lit<, lit≤}
 use Rattle.kinds.specs.Kinds.{m_current}
 use Rattle.fields.proofs.raise.Raised.{current_short}
-use Rattle.sheet_write_segment.proofs.elements.Writing.{along_all, along_put, along_none, field_here, field_read}
+use Rattle.sheet_write_segment.proofs.elements.Writing.{along_all, along_put, along_none, field_here}
 use Rattle.sheet_write_segment.proofs.elements.amperes.Goals as goal
-
-pub read_window-v-requires : goal.read_window-v-requires
-read_window-v-requires c = field_read c.args.packet.now c.args.stop m_current (λ v f. f) 10 refl c.requires (lit< tt) (lit≤ tt)
 
 pub current-requires : goal.current-requires
 current-requires c = (field_here c.args.packet.now c.args.stop m_current (λ v f. f) 10 refl c.requires _ c.read_window-v.ensures).allowed

@@ -4,11 +4,8 @@ use Prim.Native.Nat.{◌/◌, ◌%◌}
 use native.Mathlib.Omega.{arith}
 use Rattle.fields.proofs.raise.Raised.{class_short}
 use Rattle.sheet_write_segment.proofs.elements.Writing.{along_none}
-use Rattle.sheet_write_segment.proofs.elements.Fields.{entry_read, entry_puts}
+use Rattle.sheet_write_segment.proofs.elements.Fields.{entry_puts}
 use Rattle.sheet_write_segment.proofs.elements.entry.Goals as goal
-
-pub read_window-t-requires : goal.read_window-t-requires
-read_window-t-requires c = entry_read c.args.packet.now c.args.stop c.requires.1
 
 pub put_short-second-requires : goal.put_short-second-requires
 put_short-second-requires c =

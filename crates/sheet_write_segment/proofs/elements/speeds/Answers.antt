@@ -4,11 +4,8 @@ use Prim.Native.Nat.{◌%◌}
 use native.Mathlib.Omega.{arith}
 use Rattle.grammar.specs.segment.Segment.{entries}
 use Rattle.sheet_write_segment.proofs.elements.Writing.{along_here, along_on, along_none}
-use Rattle.sheet_write_segment.proofs.elements.Fields.{profile_read, profile_puts}
+use Rattle.sheet_write_segment.proofs.elements.Fields.{profile_puts}
 use Rattle.sheet_write_segment.proofs.elements.speeds.Goals as goal
-
-pub read_window-t-requires : goal.read_window-t-requires
-read_window-t-requires c = profile_read c.args.packet.now c.args.stop c.requires
 
 pub speed-requires : goal.speed-requires
 speed-requires c =
@@ -29,8 +26,8 @@ put_short-first-requires c =
     let e = profile_puts c.args.packet.now c.args.stop c.requires c.read_window-t.ensures in
     (omega arith, (e.third (c.put_short-second.ensures ∙ rw c.speed.ensures) c.put_short-third.ensures).fits)
 
-pub specific-m-requires : goal.specific-m-requires
-specific-m-requires c =
+pub specific-requires : goal.specific-requires
+specific-requires c =
     let s = c.args.packet.now in
     let e = profile_puts s c.args.stop c.requires c.read_window-t.ensures in
     along_here s c.args.stop (e.put (c.put_short-second.ensures ∙ rw c.speed.ensures) c.put_short-third.ensures c.put_short-first.ensures) c.requires
@@ -41,4 +38,4 @@ returns c =
     let w = c.read_window-t in
     let e = profile_puts s c.args.stop c.requires w.ensures in
     let l = e.put (c.put_short-second.ensures ∙ rw c.speed.ensures) c.put_short-third.ensures c.put_short-first.ensures in
-    along_none s c.args.stop (along_on s c.args.stop (entries (w.result % 32)) (λ f. f) l c.specific-m.ensures)
+    along_none s c.args.stop (along_on s c.args.stop (entries (w.result % 32)) (λ f. f) l c.specific.ensures)

@@ -3,15 +3,11 @@ use mathlib.Core.Path.{refl, ◌∙◌}
 use Prim.Native.Nat.{◌+◌}
 use native.Mathlib.Nat.{le_refl}
 use native.Mathlib.Omega.{arith}
-use lib.Dec.{lit<, lit≤}
 use Rattle.bits.proofs.Fields.{field_small}
 use Rattle.kinds.specs.Kinds.{m_voltage, nid_c_traction}
 use Rattle.format.specs.Format.{then}
-use Rattle.sheet_write_segment.proofs.elements.Writing.{along_all, along_here, along_put, along_none, field_here, field_read}
+use Rattle.sheet_write_segment.proofs.elements.Writing.{along_all, along_here, along_put, along_none, field_here}
 use Rattle.sheet_write_segment.proofs.elements.wire.Goals as goal
-
-pub read_window-u-requires : goal.read_window-u-requires
-read_window-u-requires c = field_read c.args.packet.now c.args.stop m_voltage (λ u f. then (nid_c_traction u) f) 4 refl c.requires (lit< tt) (lit≤ tt)
 
 pub volts-requires : goal.volts-requires
 volts-requires c = (field_here c.args.packet.now c.args.stop m_voltage (λ u f. then (nid_c_traction u) f) 4 refl c.requires _ c.read_window-u.ensures).allowed
@@ -19,14 +15,6 @@ volts-requires c = (field_here c.args.packet.now c.args.stop m_voltage (λ u f. 
 pub put_number-second-requires : goal.put_number-second-requires
 put_number-second-requires c =
     rw c.volts.ensures (field_here c.args.packet.now c.args.stop m_voltage (λ u f. then (nid_c_traction u) f) 4 refl c.requires _ c.read_window-u.ensures).fits
-
-pub read_window-v-requires : goal.read_window-v-requires
-read_window-v-requires c =
-    let a = c.args in
-    let s = a.packet.now in
-    let h = c.requires in
-    let m = along_put s a.stop m_voltage (λ u f. then (nid_c_traction u) f) 4 refl (along_all s a.stop h) h _ c.read_window-u.ensures (a.at + 4) refl (c.put_number-second.ensures ∙ rw c.volts.ensures) in
-    field_read s a.stop (nid_c_traction c.read_window-u.result) (λ v f. f) 10 refl (along_here s a.stop m h) (lit< tt) (lit≤ tt)
 
 pub put_short-m-requires : goal.put_short-m-requires
 put_short-m-requires c =

@@ -2,12 +2,6 @@
 use Rattle.sheet_write_segment.proofs.row.Rows.{all_one, one_fits, more_fit, all_more}
 use Rattle.sheet_write_segment.proofs.row.four.Goals as goal
 
-pub one-second-requires : goal.one-second-requires
-one-second-requires c = (c.requires.0, one_fits c.requires.4)
-
-pub one-third-requires : goal.one-third-requires
-one-third-requires c = (c.requires.1, one_fits (more_fit c.one-second.ensures c.requires.4))
-
 pub one-fourth-requires : goal.one-fourth-requires
 one-fourth-requires c =
     (c.requires.2, one_fits (more_fit c.one-third.ensures (more_fit c.one-second.ensures c.requires.4)))

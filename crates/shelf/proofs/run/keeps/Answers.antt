@@ -1,4 +1,4 @@
-use mathlib.Core.Path.{refl, sym, ◌∙◌}
+use mathlib.Core.Path.{refl, sym}
 use native.Mathlib.Omega.{arith}
 use Rattle.shelf.proofs.Entries.{left_start, left_stands, left_moves}
 use Rattle.shelf.proofs.Searching.{Asked, asked_here, asked_next, asked_over}
@@ -10,10 +10,10 @@ loop-at-init c = let a = c.args in left_start a.run.now (Asked a.run.now a.key) 
 pub entry_at-e-requires : goal.entry_at-e-requires
 entry_at-e-requires c = let a = c.args in left_stands a.run.now (Asked a.run.now a.key) c.loop-at.invariant c.requires.short c.loop-at-test.true
 
-pub returns-then-same : goal.returns-then-same
-returns-then-same c =
+pub returns-then-eq : goal.returns-then-eq
+returns-then-eq c =
     let a = c.args in
-    asked_here a.run.now a.key c.loop-at.invariant c.requires.short c.loop-at-test.true c.entry_at-e.ensures (sym c.same.ensures ∙ c.if-same.true)
+    asked_here a.run.now a.key c.loop-at.invariant c.requires.short c.loop-at-test.true c.entry_at-e.ensures (sym c.if-eq.ensures)
 
 pub loop-at-smaller : goal.loop-at-smaller
 loop-at-smaller c =
@@ -23,7 +23,7 @@ loop-at-smaller c =
 pub loop-at-preserved : goal.loop-at-preserved
 loop-at-preserved c =
     let a = c.args in
-    asked_next a.run.now a.key c.loop-at.invariant c.requires.short c.loop-at-test.true c.entry_at-e.ensures (sym c.same.ensures ∙ c.if-same.false)
+    asked_next a.run.now a.key c.loop-at.invariant c.requires.short c.loop-at-test.true c.entry_at-e.ensures (sym c.if-eq.ensures)
 
 pub returns : goal.returns
 returns c = let a = c.args in asked_over a.run.now a.key c.loop-at.invariant (omega (arith, c.loop-at-test.false))

@@ -9,6 +9,6 @@ returns c =
     let t = a.train in
     let m = c.belongs_to-member.ensures in
     entry_more t a.self _ a.q_diff a.class a.v _ c.requires (omega arith) c.distance-far.ensures
-    c.nearer-cant.ensures
-    (low_with t 1 a.q_diff a.class a.v a.self.replacing (omega arith) c.requires m c.counted.ensures c.lower-replacing.ensures)
-    (low_with t 2 a.q_diff a.class a.v a.self.lowering (omega arith) c.requires m c.counted-2.ensures c.lower-lowering.ensures)
+    c.min.ensures
+    (low_with t 1 a.q_diff a.class a.v a.self.replacing (omega arith) c.requires m c.counted.ensures c.min-2.ensures)
+    (low_with t 2 a.q_diff a.class a.v a.self.lowering (omega arith) c.requires m c.counted-2.ensures c.min-3.ensures)

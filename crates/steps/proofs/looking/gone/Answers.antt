@@ -1,18 +1,10 @@
+-- `steps::looking::gone` meets its contract.
 use native.Mathlib.Omega.{arith}
 use Rattle.steps.proofs.Places.{gone_more}
 use Rattle.steps.proofs.looking.gone.Goals as goal
 
-pub loop-i-init : goal.loop-i-init
-loop-i-init c = (c.requires.1, c.requires.2)
-
-pub returns-then-y-stops : goal.returns-then-y-stops
-returns-then-y-stops c = c.loop-i.invariant
-
 pub loop-i-preserved : goal.loop-i-preserved
-loop-i-preserved c =
-    let l = c.loop-i in
-    let a = c.args in
-    (omega (arith, c.loop-i-test.true), gone_more l.i a.y a.stops.now l.invariant.1 c.if-y-stops.false)
+loop-i-preserved c = gone_more c.loop-i.i c.args.y c.args.spans.now c.loop-i.invariant c.if-y-spans.false
 
 pub returns : goal.returns
-returns c = c.loop-i.invariant
+returns c = (omega arith, λ j h. c.loop-i.invariant j (omega (arith, c.loop-i-test.false)))

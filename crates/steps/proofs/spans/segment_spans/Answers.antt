@@ -1,24 +1,18 @@
 use native.Mathlib.Omega.{arith}
 use Rattle.speed_element.proofs.Lowest.{until_most}
-use Rattle.speed_question.specs.internal.Run.{brought_of, ReadsAs}
+use Rattle.speed_question.specs.internal.Run.{brought_as, ReadsAs}
 use Rattle.steps.proofs.Kept.{keeping_first, keeping_last, keeping_opens, keeping_room, keeping_next}
 use Rattle.steps.proofs.spans.segment_spans.Goals as goal
 
 pub loop-left-init : goal.loop-left-init
 loop-left-init c =
-    keeping_first (ReadsAs (brought_of c.args.medium) c.args.s.now) c.args.train c.args.head.lsp c.args.start _ c.args.before c.requires.0 c.first-begun.ensures c.requires.1
+    keeping_first (ReadsAs (brought_as c.args.medium) c.args.s.now) c.args.train c.args.head.lsp c.args.start _ c.args.before c.requires.0 c.first-begun.ensures c.requires.1
 
 pub next-n-requires : goal.next-n-requires
 next-n-requires c = ((c.loop-left.invariant.ending 0).more c.loop-left-test.true).readable
 
-pub bounds-kept-i : goal.bounds-kept-i
-bounds-kept-i c = keeping_room _ _ _ _ _ _ c.loop-left.invariant c.loop-left-test.true c.requires.1.most
-
-pub bounds-kept-i-in-loop-left : goal.bounds-kept-i-in-loop-left
-bounds-kept-i-in-loop-left c = keeping_room _ _ _ _ _ _ c.loop-left.invariant c.loop-left-test.true c.requires.1.most
-
-pub bounds-kept-i-in-loop-left-2 : goal.bounds-kept-i-in-loop-left-2
-bounds-kept-i-in-loop-left-2 c = keeping_room _ _ _ _ _ _ c.loop-left.invariant c.loop-left-test.true c.requires.1.most
+pub bounds-kept-kept : goal.bounds-kept-kept
+bounds-kept-kept c = keeping_room _ _ _ _ _ _ c.loop-left.invariant c.loop-left-test.true c.requires.1.most
 
 pub overflow_add-kept-in-loop-left : goal.overflow_add-kept-in-loop-left
 overflow_add-kept-in-loop-left c =
@@ -34,7 +28,7 @@ loop-left-preserved c =
 
 pub returns : goal.returns
 returns c =
-    keeping_last (ReadsAs (brought_of c.args.medium) c.args.s.now) c.args.train c.args.head.lsp c.args.start _ c.args.before c.requires.0 c.first-begun.ensures
+    keeping_last (ReadsAs (brought_as c.args.medium) c.args.s.now) c.args.train c.args.head.lsp c.args.start _ c.args.before c.requires.0 c.first-begun.ensures
     c.loop-left.invariant (omega (arith, c.loop-left-test.false))
 
 pub first-begun-requires : goal.first-begun-requires

@@ -1,45 +1,46 @@
+use Rattle.text.specs.internal.sheet.Numbers.{numbers_in}
 use Rattle.text.proofs.sheet.Reading.{groups_inside, past_more, past_end_lem}
 use Rattle.bits.proofs.Padding.{bytes_of}
-use lib.ListN.{length}
-use Prim.Native.Nat.{◌+◌, ◌≤◌}
-use mathlib.Core.Path.{◌≡◌, refl, sym, ◌∙◌}
+use lib.ListN.{length, drop}
+use Prim.Native.Nat.{ℕ, ◌+◌, ◌-◌, ◌≤◌}
+use mathlib.Core.Path.{◌≡◌, sym, ap}
 use native.Mathlib.Omega.{arith}
 use Rattle.text.proofs.sheet.past.Goals as goal
 
-pub loop-left-init : goal.loop-left-init
-loop-left-init c = (omega arith, refl)
+pub loop-init : goal.loop-init
+loop-init c =
+    let a = c.args in
+    let z : a.n - 0 ≡ a.n = omega arith in
+    (c.requires, ap (λ (k : ℕ). drop k (numbers_in (drop a.at a.sheet.now))) z)
 
 -- the groups of a number are inside the sheet
-inside : (c : goal.After-groups) → c.loop-left.place + c.groups.result ≤ length c.args.sheet.now
+inside : (c : goal.After-groups) → c.loop.place + c.groups.result ≤ length c.args.sheet.now
 inside c =
     let s = c.args.sheet.now in
-    let l = c.loop-left in
-    let ok = bytes_of s (λ i. (c.type_inv.sheet i).fits) in
-    let e = sym c.number_at.ensures ∙ c.in-Value.is in
-    rw c.groups.ensures (groups_inside s l.place ok _ e l.invariant.0)
+    let l = c.loop in
+    rw c.groups.ensures (groups_inside s l.place (bytes_of s (λ i. (c.type_inv.sheet i).fits)) _ (sym c.in-Some.ensures) l.invariant.0)
 
 pub overflow_add-place : goal.overflow_add-place
 overflow_add-place c = omega (arith, inside c)
 
-pub loop-left-preserved : goal.loop-left-preserved
-loop-left-preserved c =
+pub loop-preserved : goal.loop-preserved
+loop-preserved c =
     let s = c.args.sheet.now in
-    let l = c.loop-left in
-    let ok = bytes_of s (λ i. (c.type_inv.sheet i).fits) in
-    let e = sym c.number_at.ensures ∙ c.in-Value.is in
-    (inside c, rw c.groups.ensures (past_more s l.place ok _ e l.left _ (λ z. omega arith) l.invariant.1))
+    let l = c.loop in
+    let n = c.args.n in
+    let less : n - (l.counter + 1) ≡ n - l.counter - 1 = omega arith in
+    (inside c, rw (less, c.groups.ensures) (past_more s l.place (bytes_of s (λ i. (c.type_inv.sheet i).fits)) _ (sym c.in-Some.ensures) (n - l.counter) _ (λ z. omega (arith, c.loop-test.true)) l.invariant.1))
 
-pub returns-in-Bad : goal.returns-in-Bad
-returns-in-Bad c =
-    let s = c.args.sheet.now in
-    let l = c.loop-left in
+pub returns-in-None : goal.returns-in-None
+returns-in-None c =
+    let l = c.loop in
     record {
-      here = past_end_lem s l.place l.left _ (sym c.number_at.ensures ∙ c.in-Bad.is) l.invariant.1;
+      here = past_end_lem c.args.sheet.now l.place (c.args.n - l.counter) _ (sym c.in-None.ensures) l.invariant.1;
       inside = l.invariant.0;
     }
 
 pub returns : goal.returns
 returns c =
-    let l = c.loop-left in
-    let z : l.left ≡ 0 = omega arith in
+    let l = c.loop in
+    let z : c.args.n - l.counter ≡ 0 = omega (arith, c.loop-test.false) in
     record { here = rw z at l.invariant.1; inside = l.invariant.0 }

@@ -1,13 +1,11 @@
 -- The numbers that stand one after the other in a sheet. Used by contracts of the code; no promise names these.
-use Rattle.std.specs.Prelude.{◌≡◌, List, [], ◌∷◌, ℕ, zero, suc, ◌≤◌, length, drop}
-use Rattle.numbers.specs.declared.Number.{Number}
-use Rattle.numbers.specs.declared.Number.TheVariants.{Value, Bad}
+use Rattle.std.specs.Prelude.{◌≡◌, List, [], ◌∷◌, ℕ, zero, suc, ◌≤◌, length, drop, Some, None, Option}
 use Rattle.numbers.specs.Numbers.{number_in, groups_in}
 
 -- a number and the numbers after it, or none if there is no number
-abbrev pub before : Number → (ℕ → List ℕ) → List ℕ
-before (Value v) more = v ∷ more v
-before Bad more = []
+abbrev pub before : Option ℕ → (ℕ → List ℕ) → List ℕ
+before (Some v) more = v ∷ more v
+before None more = []
 
 -- the numbers of a sheet, at most n
 abbrev pub first_numbers : ℕ → List ℕ → List ℕ

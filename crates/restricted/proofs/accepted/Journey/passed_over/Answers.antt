@@ -1,0 +1,26 @@
+-- `restricted::accepted::Journey::passed_over` meets its contract.
+use mathlib.Core.Path.{refl, sym, ap, ◌∙◌}
+use Prim.Native.Nat.{ℕ, ◌-◌}
+use native.Mathlib.Omega.{arith}
+use Rattle.legs.specs.internal.Passing.{passed_over}
+use Rattle.leg_parts.proofs.Reading.{left_constraint, left_none}
+use Rattle.restricted.specs.internal.Travelled.{ReadsIn}
+use Rattle.restricted.proofs.Journeys.{SameOver, left_begun, left_one}
+use Rattle.restricted.proofs.accepted.Journey.passed_over.Goals as goal
+
+pub loop-init : goal.loop-init
+loop-init c = left_begun (ReadsIn c.args.self.now) (SameOver c.args.train c.args.lsp c.args.y c.args.held c.args.held) (λ l. refl) c.requires
+
+pub constraint-c-requires : goal.constraint-c-requires
+constraint-c-requires c =
+    left_constraint (ReadsIn c.args.self.now) (c.args.leg.count - c.loop.counter) (omega (arith, c.loop-test.true)) c.loop.invariant
+
+pub loop-preserved : goal.loop-preserved
+loop-preserved c =
+    let a = c.args in
+    left_one (ReadsIn a.self.now) c.constraint-c.ensures (SameOver a.train a.lsp a.y a.held c.lowered-low.result)
+    (λ l m e. e ∙ ap (λ (n : ℕ). passed_over a.train a.lsp a.y n m) (sym c.lowered-low.ensures)) a.leg.count c.loop.counter c.loop-test.true c.loop.invariant
+
+pub returns : goal.returns
+returns c =
+    record { said = λ l a. sym (left_none (ReadsIn c.args.self.now) (c.args.leg.count - c.loop.counter) (omega (arith, c.loop-test.false)) c.loop.invariant l a) }

@@ -1,9 +1,0 @@
--- `speed_element::lower` meets its contract.
-use native.Mathlib.Omega.{arith}
-use Rattle.speed_element.proofs.lower.Goals as goal
-
-pub returns-then-a-b : goal.returns-then-a-b
-returns-then-a-b c = omega (arith, c.if-a-b.true)
-
-pub returns : goal.returns
-returns c = omega (arith, c.if-a-b.false)

@@ -1,0 +1,65 @@
+-- The segments as they are lent, four of them with a count, and what is answered on them. Laws that the pages name; the code takes its segments as a run.
+use mathlib.Core.Path.{◌≡◌, refl, ap, ◌∙◌}
+use mathlib.Core.List.{List, []}
+use Prim.Native.Nat.{ℕ, zero, suc, ◌≤◌}
+use native.Mathlib.Omega.{arith}
+use borrow.Author.Tests.{ne_eqb, eq-eqb}
+use lib.ListN.{length, drop}
+use Rattle.speed.specs.declared.Train.{Train}
+use Rattle.speed.specs.Speed.{limited, segment_length}
+use Rattle.speed.specs.Run.{numbers_of, last_of, speed_in_run}
+use Rattle.speed_question.specs.Question.{Brought, packet, sheet, lent, judged_speed, speed_of_run}
+use Rattle.speed_question.specs.internal.Run.{brought_of, values_in, numbers_as, numbers_in}
+use Rattle.speed_question.proofs.Runs.{run_answer}
+
+-- ---- the medium
+
+pub as_packet : {medium : ℕ} → medium ≡ 0 → brought_of medium ≡ packet
+as_packet {medium} e = rw (eq-eqb medium 0 e)
+
+pub as_sheet : {medium : ℕ} → (medium ≡ 0 → ⊥) → brought_of medium ≡ sheet
+as_sheet {medium} n = rw (ne_eqb medium 0 n)
+
+-- ---- the segments lent, one after the other
+
+-- the segment with the number i of those lent
+abbrev pub nth : ℕ → List ℕ → List ℕ → List ℕ → List ℕ → List ℕ
+nth zero first second third fourth = first
+nth (suc zero) first second third fourth = second
+nth (suc (suc zero)) first second third fourth = third
+nth (suc (suc (suc i))) first second third fourth = fourth
+
+-- from the third on, the fourth
+pub nth_rest : (a b c d : List ℕ) (i : ℕ) → (i ≡ 0 → ⊥) → (i ≡ 1 → ⊥) → (i ≡ 2 → ⊥) → d ≡ nth i a b c d
+nth_rest a b c d zero f g h = absurd (f refl)
+nth_rest a b c d (suc zero) f g h = absurd (g refl)
+nth_rest a b c d (suc (suc zero)) f g h = absurd (h refl)
+nth_rest a b c d (suc (suc (suc i))) f g h = refl
+
+pub lent_over : (a b c d : List ℕ) (count : ℕ) → count ≤ 4 → drop count (lent count a b c d) ≡ []
+lent_over a b c d zero m = refl
+lent_over a b c d (suc zero) m = refl
+lent_over a b c d (suc (suc zero)) m = refl
+lent_over a b c d (suc (suc (suc zero))) m = refl
+lent_over a b c d (suc (suc (suc (suc zero)))) m = refl
+lent_over a b c d (suc (suc (suc (suc (suc n))))) m = absurd (omega arith)
+
+-- ---- what is answered
+
+lent_some : (a b c d : List ℕ) (count : ℕ) → 1 ≤ count → 1 ≤ length (lent count a b c d)
+lent_some a b c d zero h = absurd (omega arith)
+lent_some a b c d (suc n) h = omega arith
+
+module _ (b : Brought) (p q u v : List ℕ) (count : ℕ) (some : 1 ≤ count) where
+  abbrev all : List (List ℕ)
+  all = lent count p q u v
+
+  -- what is answered from the length of the last segment and from the numbers of the run
+  pub lent_answer : {C : Type 0} (f : ℕ → List (List ℕ) → C) {lsp : ℕ} → lsp ≡ segment_length (numbers_as b (last_of all))
+      → f lsp (numbers_in b all) ≡ f (segment_length (last_of (numbers_of (values_in b all)))) (numbers_of (values_in b all))
+  lent_answer f d = run_answer b all (lent_some p q u v count some) f d
+
+  -- the answer from the length of the last segment and from the profile's speed in the run
+  pub lent_speed : (t : Train) (x : ℕ) {lsp w : ℕ} → lsp ≡ segment_length (numbers_as b (last_of all)) → w ≡ limited t (speed_in_run t x (numbers_in b all))
+      → judged_speed t x lsp w ≡ speed_of_run t x (values_in b all)
+  lent_speed t x {lsp} {w} d e = ap (judged_speed t x lsp) e ∙ lent_answer (λ n r. judged_speed t x n (limited t (speed_in_run t x r))) d
