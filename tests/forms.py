@@ -101,7 +101,7 @@ def buffers(texts):
 
 def switches(texts):
     """Returns each test of a medium that chooses the function to call."""
-    return lines(texts, r"if medium == (run::)?PACKET|match (self\.)?medium \{")
+    return lines(texts, r"if medium == (run::)?PACKET|match (self\.)?medium \{|^match self \{|^\s+match self \{")
 
 
 POINTS = {

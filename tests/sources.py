@@ -167,7 +167,7 @@ def owner(path, old):
 
 
 def owner_in_code(lines, i):
-    named = re.compile(r'\s*(?:pub )?(?:extern "C" )?(?:fn|const|impl) (\w+)')
+    named = re.compile(r'\s*(?:pub(?:\(\w+\))? )?(?:final )?(?:extern "C" )?(?:fn|const|trait|impl(?:<[^>]*>)?(?: .* for)?) (\w+)')
     names, depth = [], indent(lines[i]) + 1
     for line in reversed(lines[:i + 1]):
         m = named.match(line)

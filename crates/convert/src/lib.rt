@@ -16,7 +16,7 @@ pub struct Converted {
     pub length: u32,
 }
 
-// Makes the answer of a conversion that was refused at `place`: its length is 0.
+// Makes the answer of a conversion that was refused at `place`: its length is 0. A function and no `From` alone, as docs/CONTRACTS.md names it; an intake hands over the number that C keeps.
 pub fn refused(refusal: u32, place: u32) -> Converted
     ensures { result ≡ record { refusal = refusal; place = place; length = 0 } }
 {

@@ -25,6 +25,7 @@ pub type Spot = verdict::Spot<usize>;
 pub type Judged<T> = Result<T, Refused<u32>>;
 
 // Judges one field by `rule`, and returns its value and the spot after it.
+#[inline(always)]
 pub fn field(s: &[u8], stop: usize, spot: Spot, rule: Rule) -> Judged<(u32, Spot)>
     requires { Standing s.now stop spot.at spot.n × Wide (meaning rule) }
     ensures { Took (meaning rule) s.now stop spot.at spot.n result }
@@ -48,6 +49,7 @@ pub fn field(s: &[u8], stop: usize, spot: Spot, rule: Rule) -> Judged<(u32, Spot
 }
 
 // Judges one field by `rule` and drops its value; no later field depends on it.
+#[inline(always)]
 pub fn plain(s: &[u8], stop: usize, spot: Spot, rule: Rule) -> Judged<Spot>
     requires { Standing s.now stop spot.at spot.n × Wide (meaning rule) }
     ensures { Over (then (meaning rule)) s.now stop spot.at spot.n result }

@@ -46,6 +46,7 @@ fn cut_constraint(s: &[u8], stop: usize, spot: Spot) -> Judged<Spot>
 }
 
 // Fast path: all 73 bits are present. On a refusal, calls `cut_constraint` to find the field at fault.
+// For speed, what that returns is made anew, `Ok(..?)`: the compiler then keeps the place apart from the count of bytes.
 fn whole_constraint(s: &[u8], stop: usize, spot: Spot) -> Judged<Spot>
     requires { Standing s.now stop spot.at spot.n × (73 ≤ stop - spot.at) }
     ensures { Over temporary_constraint s.now stop spot.at spot.n result }
@@ -54,12 +55,12 @@ fn whole_constraint(s: &[u8], stop: usize, spot: Spot) -> Judged<Spot>
     let end = bits::read_window(s, spot.at + END, DTcEndLocation::WIDTH);
     let stretch = crate::constraint_bytes::stretch_bytes(t / 16777216 % 4, t % 16777216, end);
     if stretch == 0 {
-        return cut_constraint(s, stop, spot);
+        return Ok(cut_constraint(s, stop, spot)?);
     }
     let uses = bits::read_window(s, spot.at + FRONT, 21);
     let restriction = crate::constraint_bytes::restriction_bytes(t / 67108864, uses);
     if restriction == 0 {
-        return cut_constraint(s, stop, spot);
+        return Ok(cut_constraint(s, stop, spot)?);
     }
     let bytes = stretch + restriction + 2;
     Ok(Spot {
@@ -74,7 +75,7 @@ fn constraint(s: &[u8], stop: usize, spot: Spot) -> Judged<Spot>
     ensures { Over temporary_constraint s.now stop spot.at spot.n result }
 {
     if stop - spot.at < CONSTRAINT {
-        return cut_constraint(s, stop, spot);
+        return Ok(cut_constraint(s, stop, spot)?);
     }
     whole_constraint(s, stop, spot)
 }

@@ -63,7 +63,7 @@ fn segment_head(s: &[u8], stop: usize, spot: Spot) -> Judged<(u32, Spot)>
     ensures { Gave segment_head s.now stop spot.at spot.n result }
 {
     if stop - spot.at < SEGMENT_HEAD {
-        return cut_head(s, stop, spot);
+        return Ok(cut_head(s, stop, spot)?);
     }
     whole_head(s, stop, spot)
 }

@@ -44,24 +44,25 @@ fn cut_point(s: &[u8], stop: usize, spot: Spot) -> Judged<Spot>
 }
 
 // Fast path: all 129 bits are present. On a refusal, calls `cut_point` to find the field at fault.
+// For speed, what that returns is made anew, `Ok(..?)`: the compiler then keeps the place apart from the count of bytes.
 fn whole_point(s: &[u8], stop: usize, spot: Spot) -> Judged<Spot>
     requires { Standing s.now stop spot.at spot.n × (129 ≤ stop - spot.at) }
     ensures { Over timing_point s.now stop spot.at spot.n result }
 {
     let latest = crate::point_bytes::latest_bytes(bits::read_window(s, spot.at + LATEST, 32));
     if latest == 0 {
-        return cut_point(s, stop, spot);
+        return Ok(cut_point(s, stop, spot)?);
     }
     let t = bits::read_window(s, spot.at + MARKS, 17);
     let marks = crate::point_bytes::marks_bytes(t);
     if marks == 0 {
-        return cut_point(s, stop, spot);
+        return Ok(cut_point(s, stop, spot)?);
     }
     let doors = bits::read_window(s, spot.at + DOORS, 20);
     let leaving = bits::read_window(s, spot.at + LEAVING, 28);
     let eight = crate::point_bytes::eight_bytes(t / 8 % 4, doors, leaving);
     if eight == 0 {
-        return cut_point(s, stop, spot);
+        return Ok(cut_point(s, stop, spot)?);
     }
     let name = numbers::write::groups(bits::read_window(s, spot.at, NidTp::WIDTH));
     let bytes = name + latest + marks + eight;
@@ -77,7 +78,7 @@ fn point(s: &[u8], stop: usize, spot: Spot) -> Judged<Spot>
     ensures { Over timing_point s.now stop spot.at spot.n result }
 {
     if stop - spot.at < POINT {
-        return cut_point(s, stop, spot);
+        return Ok(cut_point(s, stop, spot)?);
     }
     whole_point(s, stop, spot)
 }

@@ -101,7 +101,7 @@ fn entries(s: &[u8], stop: usize, spot: Spot, count: u32) -> Judged<Spot>
     ensures { Over (segment.entries count) s.now stop spot.at spot.n result }
 {
     if stop - spot.at < ENTRY * count as usize {
-        return cut_entries(s, stop, spot, count);
+        return Ok(cut_entries(s, stop, spot, count)?);
     }
     whole_entries(s, stop, spot, count)
 }
@@ -124,7 +124,7 @@ fn profile_head(s: &[u8], stop: usize, spot: Spot) -> Judged<(u32, Spot)>
     ensures { Gave profile_head s.now stop spot.at spot.n result }
 {
     if stop - spot.at < ELEMENT {
-        return cut_profile(s, stop, spot);
+        return Ok(cut_profile(s, stop, spot)?);
     }
     let t = bits::read_window(s, spot.at, ELEMENT as u32);
     let speed = fields::size::speed(t / 64);
@@ -169,7 +169,7 @@ fn wire(s: &[u8], stop: usize, spot: Spot) -> Judged<Spot>
     ensures { Over segment.voltage s.now stop spot.at spot.n result }
 {
     if stop - spot.at < WIRE {
-        return cut_wire(s, stop, spot);
+        return Ok(cut_wire(s, stop, spot)?);
     }
     let t = bits::read_window(s, spot.at, WIRE as u32);
     let volts = fields::size::volts(t / 1024);
@@ -189,6 +189,7 @@ fn wire(s: &[u8], stop: usize, spot: Spot) -> Judged<Spot>
 // ---- any of the three
 
 // Judges the element of the list `part` at `spot`, without its location.
+#[inline(always)]
 pub fn element(part: Part, s: &[u8], stop: usize, spot: Spot) -> Judged<Spot>
     requires { Standing s.now stop spot.at spot.n }
     ensures { Over (start_of part) s.now stop spot.at spot.n result }

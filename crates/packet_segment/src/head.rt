@@ -124,6 +124,7 @@ fn offset_bytes(s: &[u8]) -> usize
 }
 
 // Judges the head, whose bits are all present, and returns the value of L_SP. On a refusal, calls `cut_head` to find the field at fault.
+// For speed, what that returns is made anew, `Ok(..?)`: the compiler then keeps the place apart from the count of bytes.
 fn whole_head(s: &[u8], stop: usize) -> Judged<(u32, Spot)>
     requires { Standing s.now stop 24 1 × (38 ≤ length s.now) × (253 ≤ stop) }
     ensures { Gave head_part s.now stop 24 1 result }
@@ -134,19 +135,19 @@ fn whole_head(s: &[u8], stop: usize) -> Judged<(u32, Spot)>
         header::NidOperational::WIDTH,
     ));
     if operational == 0 {
-        return cut_head(s, stop);
+        return Ok(cut_head(s, stop)?);
     }
     let header = header_bytes(s);
     if header == 0 {
-        return cut_head(s, stop);
+        return Ok(cut_head(s, stop)?);
     }
     let lsp = bits::read_window(s, layout::LENGTH, body::LSp::WIDTH);
     if lsp == 0 {
-        return cut_head(s, stop);
+        return Ok(cut_head(s, stop)?);
     }
     let offsets = offset_bytes(s);
     if offsets == 0 {
-        return cut_head(s, stop);
+        return Ok(cut_head(s, stop)?);
     }
     let identity = identity_bytes(s);
     let length = numbers::write::groups(lsp);
@@ -166,10 +167,10 @@ pub fn head(s: &[u8], stop: usize) -> Judged<(u32, Spot)>
     ensures { Gave head_part s.now stop 24 1 result }
 {
     if s.len() < LONG {
-        return cut_head(s, stop);
+        return Ok(cut_head(s, stop)?);
     }
     if stop < layout::PROFILE {
-        return cut_head(s, stop);
+        return Ok(cut_head(s, stop)?);
     }
     whole_head(s, stop)
 }

@@ -31,6 +31,7 @@ fn changes(part: Part, s: &[u8], stop: usize, spot: Spot, lsp: u32, count: u32) 
 }
 
 // Judges a part: its first element, the count of its changes, at most `limit`, and the changes.
+#[inline(always)]
 fn list(part: Part, s: &[u8], stop: usize, spot: Spot, lsp: u32, limit: u32) -> Judged<Spot>
     requires { Standing s.now stop spot.at spot.n × (limit < 128) }
     ensures { Over (segment.part (start_of part) limit lsp) s.now stop spot.at spot.n result }

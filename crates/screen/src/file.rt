@@ -23,6 +23,7 @@ pub fn read_cards(s: &[u8], values: &mut [u32]) -> Result<usize, Refused<u32>>
 {
     let mut k = 0;
     let mut at = 0;
+    // A number has as many bytes as its groups, so a `for` would need an iterator with this loop's own step and test.
     while at < s.len() {
         if k == NUMBERS {
             return Err(Refused(Refusal::CardList, 0));

@@ -114,6 +114,7 @@ fn keeps(run: &[u8], key: Key) -> bool
 }
 
 // Returns the byte of the run before which an entry goes whose key has the number `mine`: where the first entry with a greater key starts, or the end.
+// The loop is a `while` as in `keeps`.
 pub(crate) fn gap(run: &[u8], mine: u64) -> usize
     requires { Runs run.now }
     ensures { result ≡ gap_in mine (kept_in run.now) }
@@ -146,6 +147,7 @@ fn above_with(run: &[u8], above: u64, key: Key) -> Result<u64, Refusal>
 
 // Judges a run and finds the entry of `key`, if one has it. Refuses with 21 what is not a run of accepted sheets with different keys.
 // A key above all before it is new; for any other the sheets before it are asked, so that any order is taken.
+// The loop is a `while` as in `keeps`.
 pub(crate) fn judge(run: &[u8], key: Key) -> Result<Option<Place>, Refusal>
     requires { length run.now ≤ 65536 }
     ensures { result ≡ scanned key (distinct (sheets_in (length run.now) run.now)) }

@@ -1,15 +1,17 @@
 -- The segments as they are lent, four of them with a count, and what is answered on them. Laws that the pages name; the code takes its segments as a run.
-use mathlib.Core.Path.{◌≡◌, refl, ap, ◌∙◌}
+use mathlib.Core.Path.{◌≡◌, refl, sym, ap, ◌∙◌}
 use mathlib.Core.List.{List, []}
-use Prim.Native.Nat.{ℕ, zero, suc, ◌≤◌}
+use Prim.Native.Nat.{ℕ, zero, suc, ◌≤◌, ◌<◌}
 use native.Mathlib.Omega.{arith}
 use borrow.Author.Tests.{ne_eqb, eq-eqb}
 use lib.ListN.{length, drop}
+use Rattle.kinds.specs.declared.Item.{Item}
 use Rattle.speed.specs.declared.Train.{Train}
 use Rattle.speed.specs.Speed.{limited, segment_length}
 use Rattle.speed.specs.Run.{numbers_of, last_of, speed_in_run}
-use Rattle.speed_question.specs.Question.{Brought, packet, sheet, lent, judged_speed, speed_of_run}
+use Rattle.speed_question.specs.Question.{Brought, packet, sheet, medium_of, lent, judged_speed, speed_of_run, run_asked}
 use Rattle.speed_question.specs.internal.Run.{brought_of, values_in, numbers_as, numbers_in}
+use Rattle.speed_question.proofs.Asked.{asked_neither, asked_count, none_few, many_few}
 use Rattle.speed_question.proofs.Runs.{run_answer}
 
 -- ---- the medium
@@ -19,6 +21,25 @@ as_packet {medium} e = rw (eq-eqb medium 0 e)
 
 pub as_sheet : {medium : ℕ} → (medium ≡ 0 → ⊥) → brought_of medium ≡ sheet
 as_sheet {medium} n = rw (ne_eqb medium 0 n)
+
+medium_named : (medium : ℕ) → medium ≤ 1 → medium ≡ medium_of (brought_of medium)
+medium_named zero h = refl
+medium_named (suc zero) h = refl
+medium_named (suc (suc n)) h = absurd (omega arith)
+
+-- ---- the question, whatever it answers
+
+module _ {B : Type 0} (refusal : ℕ → ℕ → B) (value : List (List Item) → B) (medium count : ℕ) (all : List (List ℕ)) {question : B}
+    (asked : question ≡ run_asked refusal value medium count all) where
+  pub question_neither : 1 < medium → refusal 15 0 ≡ question
+  question_neither h = sym (asked ∙ asked_neither refusal value medium count all (λ e. omega arith, λ e. omega arith))
+
+  module _ (known : medium ≤ 1) where
+    pub question_none : count < 1 → refusal 16 0 ≡ question
+    question_none h = sym (asked ∙ asked_count refusal value medium count all (brought_of medium) (medium_named medium known) (none_few count h))
+
+    pub question_many : 1 ≤ count → 4 < count → refusal 16 0 ≡ question
+    question_many some h = sym (asked ∙ asked_count refusal value medium count all (brought_of medium) (medium_named medium known) (many_few count some h))
 
 -- ---- the segments lent, one after the other
 

@@ -73,7 +73,7 @@ fn answered<'a>(
 
 // Answers the permitted speed of `train` at `x` cm from the start of the last of the `count` segments, or a refusal.
 // `medium` says what the segments are: 0 packets, 1 sheets. Any other is refused with 15, then a count of 0 or more than 4 with 16.
-// Segments past the count are not read.
+// Segments past the count are not read. `medium` is a number here since C hands it over.
 pub fn permitted_speed<'a>(
     medium: u32,
     count: u32,

@@ -65,7 +65,7 @@ impl<'a> Run<'a> {
 
     // Returns the speed of the profile for `train` at `x` in the `last` segment.
     // Passes over each segment with the lowest speed that the segments before it left, at the place counted from its own start.
-    fn profile_speed(&self, last: LastSegment, train: Train, x: u32) -> u32
+    pub fn profile_speed(&self, last: LastSegment, train: Train, x: u32) -> u32
         requires { LastOf self.now last × (x < last.head.lsp) }
         ensures { result ≡ speed_in_run train x (numbers_of_run self.now) }
     {

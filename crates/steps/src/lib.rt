@@ -123,7 +123,7 @@ fn answered<'a>(
 
 // Checks the steps that start at `starts` with the `speeds` against the permitted speed of `train` at every centimetre of the last of the
 // `count` segments. `medium` says what the segments are: 0 packets, 1 sheets. Any other is refused with 15, then a count of 0 or more than 4
-// with 16, then a segment, then the train. Segments past the count are not read.
+// with 16, then a segment, then the train. Segments past the count are not read. `medium` is a number here since C hands it over.
 pub fn check_steps<'a>(
     medium: u32,
     count: u32,

@@ -87,6 +87,7 @@ fn compare<'a>(
 {
     let mut place = x;
     let mut step = at;
+    // A turn goes on to a place that it reads, so a `for` would be no plainer.
     while place < until {
         if speeds[step] != ours {
             return Reached { place, step };
@@ -114,6 +115,7 @@ pub fn first_wrong<'a>(
     let mut first = 0;
     let mut x = 0;
     let mut step = 0;
+    // A turn goes on to a place that it finds, so a `for` would be no plainer.
     while x < lsp {
         let y = from as u64 + x as u64;
         first = gone(spans, first, y);
