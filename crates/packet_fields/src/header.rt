@@ -5,6 +5,7 @@ ghost use Rattle.packet_fields.specs.internal.Judging.{Standing, Over};
 use crate::{Judged, Spot};
 use grammar::segment::layout;
 use kinds::header::NidOperational;
+use kinds::refusals::Refused;
 
 // Judges NID_OPERATIONAL to N_Packet_Counter field by field; one byte of the sheet, the packet number's, is counted before them.
 pub fn header(s: &[u8], stop: usize) -> Judged<Spot>
@@ -15,7 +16,7 @@ pub fn header(s: &[u8], stop: usize) -> Judged<Spot>
         at: layout::OPERATIONAL,
         n: 1,
     };
-    let spot = crate::plain(s, stop, first, NidOperational::rule())?;
+    let spot = on!(crate::plain(s, stop, first, NidOperational::rule()));
     let widths = grammar::segment::header_widths();
     let most = grammar::segment::header_most();
     crate::row::row(s, stop, spot, &widths, &most)

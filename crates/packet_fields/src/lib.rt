@@ -3,7 +3,21 @@
 
 #![tactic(auto)]
 
+// Gives what is judged, or hands a refusal on by its two parts.
+// For speed, in place of `?`: that copies a refusal as one word, which overlaps a spot in part, so that each spot goes through memory (docs/PERFORMANCE.md).
+macro_rules! on {
+    ($judged:expr) => {
+        match $judged {
+            Ok(judged) => judged,
+            Err(Refused(refusal, place)) => {
+                return Err(Refused(refusal, place));
+            }
+        }
+    };
+}
+
 pub mod header;
+pub mod numbered;
 pub mod row;
 pub mod times;
 
@@ -54,13 +68,14 @@ pub fn plain(s: &[u8], stop: usize, spot: Spot, rule: Rule) -> Judged<Spot>
     requires { Standing s.now stop spot.at spot.n × Wide (meaning rule) }
     ensures { Over (then (meaning rule)) s.now stop spot.at spot.n result }
 {
-    let (_, next) = field(s, stop, spot, rule)?;
+    let (_, next) = on!(field(s, stop, spot, rule));
     Ok(next)
 }
 
 // ---- fast paths for N_ITER, D_Location and M_CURRENT, which look up no `Rule`
 
 // Judges N_ITER, at most `limit` (below 128), and returns its value and the spot after it.
+#[inline(always)]
 pub fn count(s: &[u8], stop: usize, spot: Spot, limit: u32) -> Judged<(u32, Spot)>
     requires { Standing s.now stop spot.at spot.n × (limit < 128) }
     ensures { Took (n_iter limit) s.now stop spot.at spot.n result }
@@ -83,6 +98,7 @@ pub fn count(s: &[u8], stop: usize, spot: Spot, limit: u32) -> Judged<(u32, Spot
 }
 
 // Judges D_Location, above `last` and below `lsp` (cm), and returns its value and the spot after it.
+#[inline(always)]
 pub fn location(s: &[u8], stop: usize, spot: Spot, last: u32, lsp: u32) -> Judged<(u32, Spot)>
     requires { Standing s.now stop spot.at spot.n }
     ensures { Took (d_location last lsp) s.now stop spot.at spot.n result }
@@ -108,6 +124,7 @@ pub fn location(s: &[u8], stop: usize, spot: Spot, last: u32, lsp: u32) -> Judge
 const CURRENT: usize = body::MCurrent::WIDTH as usize;
 
 // Judges M_CURRENT and drops its value; no later field depends on it.
+#[inline(always)]
 pub fn current(s: &[u8], stop: usize, spot: Spot) -> Judged<Spot>
     requires { Standing s.now stop spot.at spot.n }
     ensures { Over segment.current s.now stop spot.at spot.n result }

@@ -5,6 +5,7 @@ ghost use Rattle.grammar.specs.internal.rows.Rows.{fits};
 ghost use Rattle.packet_fields.specs.internal.Judging.{Standing, Over};
 
 use crate::{Judged, Spot};
+use kinds::refusals::Refused;
 
 // Judges fields from `spot` on, one after another: field i has `widths[i]` bits and is at most `most[i]`.
 // The fields of the packet end at bit `stop`.
@@ -14,7 +15,7 @@ pub fn row(s: &[u8], stop: usize, spot: Spot, widths: &[u32], most: &[u32]) -> J
 {
     let mut next = spot;
     for (width, largest) in widths.iter().zip(most) {
-        next = crate::plain(s, stop, next, kinds::up_to(*width, *largest))?;
+        next = on!(crate::plain(s, stop, next, kinds::up_to(*width, *largest)));
     }
     Ok(next)
 }

@@ -1,5 +1,6 @@
 // Judges the temporary constraints of a journey's packet, and counts the bytes of their numbers in the sheet.
 // Parameters: `s` is the packet, `stop` the bit where its fields end, `spot` the bit where a part begins and the sheet bytes before it.
+// For speed, what an accepted packet goes through is put in line, and what is judged field by field, which a refused one alone needs, is not.
 ghost use Rattle.std.specs.Prelude.{◌-◌, ◌≤◌};
 ghost use Rattle.format.specs.Format.{times};
 ghost use Rattle.grammar.specs.journey.Journey as journey;
@@ -10,6 +11,7 @@ use grammar::journey::layout::{CONSTRAINT, END, FRONT};
 use kinds::journey::{
     DTcEndLocation, DTcStartLocation, QLowAdhesionRate, QTcFront, QTcRange, QTcType, VSpeedLevel,
 };
+use kinds::refusals::Refused;
 use kinds::{Rule, UpTo};
 use packet_fields::times::times;
 use packet_fields::{Judged, Spot};
@@ -35,6 +37,8 @@ fn restriction(s: &[u8], stop: usize, spot: Spot, of: u32) -> Judged<Spot>
 }
 
 // Judges a temporary constraint field by field, and finds the field at fault.
+#[cold]
+#[inline(never)]
 fn cut_constraint(s: &[u8], stop: usize, spot: Spot) -> Judged<Spot>
     requires { Standing s.now stop spot.at spot.n }
     ensures { Over temporary_constraint s.now stop spot.at spot.n result }
@@ -46,7 +50,8 @@ fn cut_constraint(s: &[u8], stop: usize, spot: Spot) -> Judged<Spot>
 }
 
 // Fast path: all 73 bits are present. On a refusal, calls `cut_constraint` to find the field at fault.
-// For speed, what that returns is made anew, `Ok(..?)`: the compiler then keeps the place apart from the count of bytes.
+// For speed, what that returns is made anew, `Ok(on!(..))`: the compiler then keeps the place apart from the count of bytes.
+#[inline(always)]
 fn whole_constraint(s: &[u8], stop: usize, spot: Spot) -> Judged<Spot>
     requires { Standing s.now stop spot.at spot.n × (73 ≤ stop - spot.at) }
     ensures { Over temporary_constraint s.now stop spot.at spot.n result }
@@ -55,12 +60,12 @@ fn whole_constraint(s: &[u8], stop: usize, spot: Spot) -> Judged<Spot>
     let end = bits::read_window(s, spot.at + END, DTcEndLocation::WIDTH);
     let stretch = crate::constraint_bytes::stretch_bytes(t / 16777216 % 4, t % 16777216, end);
     if stretch == 0 {
-        return Ok(cut_constraint(s, stop, spot)?);
+        return Ok(on!(cut_constraint(s, stop, spot)));
     }
     let uses = bits::read_window(s, spot.at + FRONT, 21);
     let restriction = crate::constraint_bytes::restriction_bytes(t / 67108864, uses);
     if restriction == 0 {
-        return Ok(cut_constraint(s, stop, spot)?);
+        return Ok(on!(cut_constraint(s, stop, spot)));
     }
     let bytes = stretch + restriction + 2;
     Ok(Spot {
@@ -70,12 +75,13 @@ fn whole_constraint(s: &[u8], stop: usize, spot: Spot) -> Judged<Spot>
 }
 
 // Judges a temporary constraint.
+#[inline(always)]
 fn constraint(s: &[u8], stop: usize, spot: Spot) -> Judged<Spot>
     requires { Standing s.now stop spot.at spot.n }
     ensures { Over temporary_constraint s.now stop spot.at spot.n result }
 {
     if stop - spot.at < CONSTRAINT {
-        return Ok(cut_constraint(s, stop, spot)?);
+        return Ok(on!(cut_constraint(s, stop, spot)));
     }
     whole_constraint(s, stop, spot)
 }

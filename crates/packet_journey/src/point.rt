@@ -1,5 +1,6 @@
 // Judges the timing points of a journey's packet, and counts the bytes of their numbers in the sheet.
 // Parameters: `s` is the packet, `stop` the bit where its fields end, `spot` the bit where a part begins and the sheet bytes before it.
+// For speed, what an accepted packet goes through is put in line, and what is judged field by field, which a refused one alone needs, is not.
 ghost use Rattle.std.specs.Prelude.{◌-◌, ◌≤◌};
 ghost use Rattle.format.specs.Format.{times};
 ghost use Rattle.grammar.specs.internal.rows.Rows.{row};
@@ -10,6 +11,7 @@ ghost use Rattle.packet_fields.specs.internal.Judging.{Standing, Over};
 use grammar::journey::layout::{DOORS, LATEST, LEAVING, MARKS, POINT};
 use kinds::UpTo;
 use kinds::journey::{NidTp, QStopSkipPasses};
+use kinds::refusals::Refused;
 use packet_fields::times::times;
 use packet_fields::{Judged, Spot};
 
@@ -34,6 +36,8 @@ fn stopping(s: &[u8], stop: usize, spot: Spot, stop_skip_passes: u32) -> Judged<
 }
 
 // Judges a timing point field by field, and finds the field at fault.
+#[cold]
+#[inline(never)]
 fn cut_point(s: &[u8], stop: usize, spot: Spot) -> Judged<Spot>
     requires { Standing s.now stop spot.at spot.n }
     ensures { Over timing_point s.now stop spot.at spot.n result }
@@ -44,25 +48,26 @@ fn cut_point(s: &[u8], stop: usize, spot: Spot) -> Judged<Spot>
 }
 
 // Fast path: all 129 bits are present. On a refusal, calls `cut_point` to find the field at fault.
-// For speed, what that returns is made anew, `Ok(..?)`: the compiler then keeps the place apart from the count of bytes.
+// For speed, what that returns is made anew, `Ok(on!(..))`: the compiler then keeps the place apart from the count of bytes.
+#[inline(always)]
 fn whole_point(s: &[u8], stop: usize, spot: Spot) -> Judged<Spot>
     requires { Standing s.now stop spot.at spot.n × (129 ≤ stop - spot.at) }
     ensures { Over timing_point s.now stop spot.at spot.n result }
 {
     let latest = crate::point_bytes::latest_bytes(bits::read_window(s, spot.at + LATEST, 32));
     if latest == 0 {
-        return Ok(cut_point(s, stop, spot)?);
+        return Ok(on!(cut_point(s, stop, spot)));
     }
     let t = bits::read_window(s, spot.at + MARKS, 17);
     let marks = crate::point_bytes::marks_bytes(t);
     if marks == 0 {
-        return Ok(cut_point(s, stop, spot)?);
+        return Ok(on!(cut_point(s, stop, spot)));
     }
     let doors = bits::read_window(s, spot.at + DOORS, 20);
     let leaving = bits::read_window(s, spot.at + LEAVING, 28);
     let eight = crate::point_bytes::eight_bytes(t / 8 % 4, doors, leaving);
     if eight == 0 {
-        return Ok(cut_point(s, stop, spot)?);
+        return Ok(on!(cut_point(s, stop, spot)));
     }
     let name = numbers::write::groups(bits::read_window(s, spot.at, NidTp::WIDTH));
     let bytes = name + latest + marks + eight;
@@ -73,12 +78,13 @@ fn whole_point(s: &[u8], stop: usize, spot: Spot) -> Judged<Spot>
 }
 
 // Judges a timing point.
+#[inline(always)]
 fn point(s: &[u8], stop: usize, spot: Spot) -> Judged<Spot>
     requires { Standing s.now stop spot.at spot.n }
     ensures { Over timing_point s.now stop spot.at spot.n result }
 {
     if stop - spot.at < POINT {
-        return Ok(cut_point(s, stop, spot)?);
+        return Ok(on!(cut_point(s, stop, spot)));
     }
     whole_point(s, stop, spot)
 }

@@ -2,6 +2,19 @@
 
 #![tactic(auto)]
 
+// Gives what is judged, or hands a refusal on by its two parts. For speed, in place of `?`: `packet_fields::on` says why.
+// A macro of another crate leaves the check without a name for what is bound, so it stands here too.
+macro_rules! on {
+    ($judged:expr) => {
+        match $judged {
+            Ok(judged) => judged,
+            Err(Refused(refusal, place)) => {
+                return Err(Refused(refusal, place));
+            }
+        }
+    };
+}
+
 ghost use Rattle.std.specs.Prelude.{◌≡◌, ◌≤◌, length};
 ghost use Rattle.format.specs.internal.Places.{Placed};
 ghost use Rattle.grammar.specs.link.Link.{tree_number};
@@ -30,7 +43,7 @@ fn packet_fields(tree: Tree, s: &[u8], stop: usize) -> Judged<usize>
     requires { Placed s.now 24 stop × (8 ≤ length s.now) }
     ensures { said result ≡ fields_verdict tree s.now stop }
 {
-    let end = fields(tree, s, stop)?;
+    let end = on!(fields(tree, s, stop));
     if end.at == stop {
         return Ok(end.n);
     }
@@ -48,8 +61,8 @@ pub fn tree_frame(tree: Tree, s: &[u8]) -> Result<usize, Refused<u32>>
 pub fn judge_packet(tree: Tree, s: &[u8]) -> Result<usize, Refused<u32>>
     ensures { said result ≡ packet_verdict tree s.now }
 {
-    let stop = tree_frame(tree, s)?;
-    let n = packet_fields(tree, s, stop)?;
+    let stop = on!(tree_frame(tree, s));
+    let n = on!(packet_fields(tree, s, stop));
     let one = verdict::frame::first_one(s, stop);
     if one == 8 * s.len() {
         Ok(n)

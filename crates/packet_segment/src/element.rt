@@ -1,4 +1,5 @@
 // Judges the elements of a packet's lists, and counts the bytes that they have in the sheet. Nothing is written.
+// For speed, what an accepted packet goes through is put in line, and what is judged field by field, which a refused one alone needs, is not.
 ghost use Rattle.std.specs.Prelude.{◌≡◌, ◌*◌, ◌-◌, ◌/◌, ◌%◌, ◌≤◌, ◌<◌};
 ghost use Rattle.format.specs.internal.Ways as ways;
 ghost use Rattle.grammar.specs.segment.Segment as segment;
@@ -17,6 +18,8 @@ use packet_fields::{Judged, Spot};
 // ---- the specific entries
 
 // Judges the specific entry at `spot`, field by field.
+#[cold]
+#[inline(never)]
 fn cut_entry(s: &[u8], stop: usize, spot: Spot) -> Judged<Spot>
     requires { Standing s.now stop spot.at spot.n }
     ensures { Over parts.entry s.now stop spot.at spot.n result }
@@ -37,6 +40,7 @@ const LONG_NAMES: u64 = 0x7FC;
 
 // Bytes of an entry's Q_DIFF and class, `name`, in the sheet, or 0 if one is refused.
 // For speed: no branch depends on Q_DIFF, which would mispredict from entry to entry.
+#[inline(always)]
 fn name_bytes(name: u32) -> u32
     requires { name < 64 }
     ensures { result ≡ name_bytes (name / 16) (name % 16) }
@@ -48,6 +52,7 @@ fn name_bytes(name: u32) -> u32
 }
 
 // Fast path: all 13 bits of the entry at `spot` are present. Returns its bytes in the sheet, or `FAULT` plus the bits before the refused field.
+#[inline(always)]
 fn whole_entry(s: &[u8], stop: usize, spot: Spot) -> usize
     requires { Standing s.now stop spot.at spot.n × (13 ≤ stop - spot.at) }
     ensures { ways.Over (judge s.now stop) parts.entry spot.at spot.n (past_entry spot.at spot.n result) × (result < 29) }
@@ -68,6 +73,7 @@ fn whole_entry(s: &[u8], stop: usize, spot: Spot) -> usize
 }
 
 // Fast path: the bits of all `count` entries are present.
+#[inline(always)]
 fn whole_entries(s: &[u8], stop: usize, spot: Spot, count: u32) -> Judged<Spot>
     requires { Standing s.now stop spot.at spot.n × (13 * count ≤ stop - spot.at) }
     ensures { Over (segment.entries count) s.now stop spot.at spot.n result }
@@ -88,6 +94,8 @@ fn whole_entries(s: &[u8], stop: usize, spot: Spot, count: u32) -> Judged<Spot>
 }
 
 // Judges `count` entries field by field.
+#[cold]
+#[inline(never)]
 fn cut_entries(s: &[u8], stop: usize, spot: Spot, count: u32) -> Judged<Spot>
     requires { Standing s.now stop spot.at spot.n }
     ensures { Over (segment.entries count) s.now stop spot.at spot.n result }
@@ -96,12 +104,13 @@ fn cut_entries(s: &[u8], stop: usize, spot: Spot, count: u32) -> Judged<Spot>
 }
 
 // Judges the `count` specific entries of an element. Takes the fast path if the bits of all of them are present.
+#[inline(always)]
 fn entries(s: &[u8], stop: usize, spot: Spot, count: u32) -> Judged<Spot>
     requires { Standing s.now stop spot.at spot.n }
     ensures { Over (segment.entries count) s.now stop spot.at spot.n result }
 {
     if stop - spot.at < ENTRY * count as usize {
-        return Ok(cut_entries(s, stop, spot, count)?);
+        return Ok(on!(cut_entries(s, stop, spot, count)));
     }
     whole_entries(s, stop, spot, count)
 }
@@ -109,6 +118,8 @@ fn entries(s: &[u8], stop: usize, spot: Spot, count: u32) -> Judged<Spot>
 // ---- the speed profile
 
 // Judges V_STATIC, Q_FRONT and N_ITER field by field, and returns the value of N_ITER.
+#[cold]
+#[inline(never)]
 fn cut_profile(s: &[u8], stop: usize, spot: Spot) -> Judged<(u32, Spot)>
     requires { Standing s.now stop spot.at spot.n }
     ensures { Gave profile_head s.now stop spot.at spot.n result }
@@ -119,12 +130,13 @@ fn cut_profile(s: &[u8], stop: usize, spot: Spot) -> Judged<(u32, Spot)>
 }
 
 // Judges V_STATIC, Q_FRONT and N_ITER, and returns the value of N_ITER. Fast path: all 13 bits are present, and only V_STATIC can be refused.
+#[inline(always)]
 fn profile_head(s: &[u8], stop: usize, spot: Spot) -> Judged<(u32, Spot)>
     requires { Standing s.now stop spot.at spot.n }
     ensures { Gave profile_head s.now stop spot.at spot.n result }
 {
     if stop - spot.at < ELEMENT {
-        return Ok(cut_profile(s, stop, spot)?);
+        return Ok(on!(cut_profile(s, stop, spot)));
     }
     let t = bits::read_window(s, spot.at, ELEMENT as u32);
     let speed = fields::size::speed(t / 64);
@@ -141,17 +153,20 @@ fn profile_head(s: &[u8], stop: usize, spot: Spot) -> Judged<(u32, Spot)>
 }
 
 // Judges an element of the speed profile: V_STATIC, Q_FRONT, the count of its entries, and the entries.
+#[inline(always)]
 fn profile(s: &[u8], stop: usize, spot: Spot) -> Judged<Spot>
     requires { Standing s.now stop spot.at spot.n }
     ensures { Over segment.profile s.now stop spot.at spot.n result }
 {
-    let (count, first) = profile_head(s, stop, spot)?;
+    let (count, first) = on!(profile_head(s, stop, spot));
     entries(s, stop, first, count)
 }
 
 // ---- the rated voltage
 
 // Judges M_VOLTAGE and NID_CTRACTION field by field.
+#[cold]
+#[inline(never)]
 fn cut_wire(s: &[u8], stop: usize, spot: Spot) -> Judged<Spot>
     requires { Standing s.now stop spot.at spot.n }
     ensures { Over segment.voltage s.now stop spot.at spot.n result }
@@ -164,12 +179,13 @@ fn cut_wire(s: &[u8], stop: usize, spot: Spot) -> Judged<Spot>
 const VOLTAGE: usize = body::MVoltage::WIDTH as usize;
 
 // Judges M_VOLTAGE and NID_CTRACTION. Fast path: all 14 bits are present, and are read at once.
+#[inline(always)]
 fn wire(s: &[u8], stop: usize, spot: Spot) -> Judged<Spot>
     requires { Standing s.now stop spot.at spot.n }
     ensures { Over segment.voltage s.now stop spot.at spot.n result }
 {
     if stop - spot.at < WIRE {
-        return Ok(cut_wire(s, stop, spot)?);
+        return Ok(on!(cut_wire(s, stop, spot)));
     }
     let t = bits::read_window(s, spot.at, WIRE as u32);
     let volts = fields::size::volts(t / 1024);

@@ -1,5 +1,6 @@
 // The fields of a segment's packet before its lists judged, with the bytes of their sheet counted. Nothing is written.
 // Parameters: `s` is the packet, `stop` the bit where its fields end, `spot` the bit of the part and the sheet bytes before it.
+// For speed, what an accepted packet goes through is put in line, and what is judged field by field, which a refused one alone needs, is not.
 ghost use Rattle.std.specs.Prelude.{◌≡◌, ◌≤◌, length};
 ghost use Rattle.grammar.specs.internal.rows.Rows.{row};
 ghost use Rattle.bits.specs.internal.Windows.{fields_at};
@@ -9,6 +10,7 @@ ghost use Rattle.packet_fields.specs.internal.row.Values.{groups_all, row_bytes}
 ghost use Rattle.packet_segment.specs.internal.head.Head.{body_head, head_part};
 
 use grammar::segment::layout;
+use kinds::refusals::Refused;
 use kinds::{UpTo, body, header};
 use packet_fields::{Judged, Spot};
 
@@ -38,6 +40,8 @@ fn cut_body(s: &[u8], stop: usize, spot: Spot) -> Judged<(u32, Spot)>
 }
 
 // Judges the header and the body's fields before the lists and returns the value of L_SP.
+#[cold]
+#[inline(never)]
 fn cut_head(s: &[u8], stop: usize) -> Judged<(u32, Spot)>
     requires { Standing s.now stop 24 1 }
     ensures { Gave head_part s.now stop 24 1 result }
@@ -52,6 +56,7 @@ fn cut_head(s: &[u8], stop: usize) -> Judged<(u32, Spot)>
 const LONG: usize = layout::ALTITUDE / 8 + 9;
 
 // Bytes of NID_ENGINE to N_Packet_Counter in the sheet, or 0 if the seconds are refused.
+#[inline(always)]
 fn header_bytes(s: &[u8]) -> usize
     requires { 38 ≤ length s.now }
     ensures { result ≡ row_bytes header_most (fields_at s.now 56 header_widths) }
@@ -83,6 +88,7 @@ fn header_bytes(s: &[u8]) -> usize
 }
 
 // Bytes of NID_C, NID_SP and the two versions in the sheet; none of the four can be refused.
+#[inline(always)]
 fn identity_bytes(s: &[u8]) -> usize
     requires { 38 ≤ length s.now }
     ensures { result ≡ groups_all (fields_at s.now 120 identity_widths) }
@@ -99,6 +105,7 @@ fn identity_bytes(s: &[u8]) -> usize
 }
 
 // Bytes of D_EoA_Offset, Q_UTC_Offset and M_SP_Altitude in the sheet, or 0 if Q_UTC_Offset is refused.
+#[inline(always)]
 fn offset_bytes(s: &[u8]) -> usize
     requires { 38 ≤ length s.now }
     ensures { result ≡ row_bytes offset_most (fields_at s.now 202 offset_widths) }
@@ -124,7 +131,8 @@ fn offset_bytes(s: &[u8]) -> usize
 }
 
 // Judges the head, whose bits are all present, and returns the value of L_SP. On a refusal, calls `cut_head` to find the field at fault.
-// For speed, what that returns is made anew, `Ok(..?)`: the compiler then keeps the place apart from the count of bytes.
+// For speed, what that returns is made anew, `Ok(on!(..))`: the compiler then keeps the place apart from the count of bytes.
+#[inline(always)]
 fn whole_head(s: &[u8], stop: usize) -> Judged<(u32, Spot)>
     requires { Standing s.now stop 24 1 × (38 ≤ length s.now) × (253 ≤ stop) }
     ensures { Gave head_part s.now stop 24 1 result }
@@ -135,19 +143,19 @@ fn whole_head(s: &[u8], stop: usize) -> Judged<(u32, Spot)>
         header::NidOperational::WIDTH,
     ));
     if operational == 0 {
-        return Ok(cut_head(s, stop)?);
+        return Ok(on!(cut_head(s, stop)));
     }
     let header = header_bytes(s);
     if header == 0 {
-        return Ok(cut_head(s, stop)?);
+        return Ok(on!(cut_head(s, stop)));
     }
     let lsp = bits::read_window(s, layout::LENGTH, body::LSp::WIDTH);
     if lsp == 0 {
-        return Ok(cut_head(s, stop)?);
+        return Ok(on!(cut_head(s, stop)));
     }
     let offsets = offset_bytes(s);
     if offsets == 0 {
-        return Ok(cut_head(s, stop)?);
+        return Ok(on!(cut_head(s, stop)));
     }
     let identity = identity_bytes(s);
     let length = numbers::write::groups(lsp);
@@ -167,10 +175,10 @@ pub fn head(s: &[u8], stop: usize) -> Judged<(u32, Spot)>
     ensures { Gave head_part s.now stop 24 1 result }
 {
     if s.len() < LONG {
-        return Ok(cut_head(s, stop)?);
+        return Ok(on!(cut_head(s, stop)));
     }
     if stop < layout::PROFILE {
-        return Ok(cut_head(s, stop)?);
+        return Ok(on!(cut_head(s, stop)));
     }
     whole_head(s, stop)
 }

@@ -1,10 +1,9 @@
 -- `packet_fields::plain` meets its contract.
-use Rattle.verdict.proofs.Exits.{exit}
 use Rattle.packet_fields.proofs.Steps.{past, past_off}
 use Rattle.packet_fields.proofs.plain.Goals as goal
 
-pub returns-in_err-next : goal.returns-in_err-next
-returns-in_err-next c = rw (exit c.from_residual.ensures.1) (past_off _ _ c.in_err-next.ensures)
+pub returns-in-Err : goal.returns-in-Err
+returns-in-Err c = past_off _ _ (rw c.in-Err.is at c.field.ensures)
 
 pub returns : goal.returns
-returns c = past _ _ c.in_ok-next.ensures
+returns c = past _ _ (rw c.in-Ok.is at c.field.ensures)

@@ -4,26 +4,24 @@ use native.Mathlib.Omega.{arith}
 use Rattle.grammar.specs.internal.segment.Parts.{start_of}
 use Rattle.grammar.proofs.segment.Parts.{changes_none}
 use Rattle.format.proofs.Ways.{left_none, left_as}
-use Rattle.verdict.proofs.Exits.{exit}
 use Rattle.grammar.proofs.segment.Changes.{location_off, element_off, element_on}
 use Rattle.packet_segment.proofs.changes.Goals as goal
 
-pub returns-in_err-at : goal.returns-in_err-at
-returns-in_err-at c =
+pub returns-in-Err : goal.returns-in-Err
+returns-in-Err c =
     let a = c.args in
-    rw (exit c.from_residual.ensures.1) (location_off (start_of a.part) a.lsp c.loop.last (a.count - c.loop.counter) (omega arith) c.loop.invariant c.in_err-at.ensures)
+    location_off (start_of a.part) a.lsp c.loop.last (a.count - c.loop.counter) (omega arith) c.loop.invariant (rw c.in-Err.is at c.location.ensures)
 
-pub returns-in_err-next : goal.returns-in_err-next
-returns-in_err-next c =
+pub returns-in-Err-element : goal.returns-in-Err-element
+returns-in-Err-element c =
     let a = c.args in
-    rw (exit c.from_residual-in_err-next.ensures.1)
-    (element_off (start_of a.part) a.lsp c.loop.last (a.count - c.loop.counter) (omega arith) c.loop.invariant c.in_ok-at.ensures c.in_err-next.ensures)
+    element_off (start_of a.part) a.lsp c.loop.last (a.count - c.loop.counter) (omega arith) c.loop.invariant (rw c.in-Ok.is at c.location.ensures) (rw c.in-Err-element.is at c.element.ensures)
 
 pub loop-preserved : goal.loop-preserved
 loop-preserved c =
     let a = c.args in
     let e : a.count - c.loop.counter - 1 ≡ a.count - (c.loop.counter + 1) = omega arith in
-    rw (← e) (element_on (start_of a.part) a.lsp c.loop.last (a.count - c.loop.counter) (omega arith) c.loop.invariant c.in_ok-at.ensures c.in_ok-next.ensures)
+    rw (← e) (element_on (start_of a.part) a.lsp c.loop.last (a.count - c.loop.counter) (omega arith) c.loop.invariant (rw c.in-Ok.is at c.location.ensures) (rw c.in-Ok-element.is at c.element.ensures))
 
 pub returns : goal.returns
 returns c =

@@ -1,11 +1,10 @@
 -- `packet_segment::fields` meets its contract.
 use Rattle.grammar.specs.internal.segment.Parts.{three_lists}
 use Rattle.format.proofs.Ways.{part_on, part_off}
-use Rattle.verdict.proofs.Exits.{exit}
 use Rattle.packet_segment.proofs.fields.Goals as goal
 
-pub returns-in_err-lsp : goal.returns-in_err-lsp
-returns-in_err-lsp c = rw (exit c.from_residual.ensures.1) (part_off three_lists c.in_err-lsp.ensures)
+pub returns-in-Err : goal.returns-in-Err
+returns-in-Err c = part_off three_lists (rw c.in-Err.is at c.head.ensures)
 
 pub returns : goal.returns
-returns c = part_on three_lists c.in_ok-lsp.ensures c.lists.ensures
+returns c = part_on three_lists (rw c.in-Ok.is at c.head.ensures) c.lists.ensures
