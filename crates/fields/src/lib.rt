@@ -3,6 +3,7 @@
 #![tactic(auto)]
 
 pub mod lower;
+pub mod numbered;
 pub mod raise;
 pub mod size;
 pub mod tables;

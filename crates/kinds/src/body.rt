@@ -7,6 +7,7 @@ use crate::refusals::Refusal;
 use crate::{Rule, UpTo, up_to};
 
 // NID_C, the number of the country or region.
+#[derive(Drop)]
 pub struct NidC;
 
 impl UpTo for NidC {
@@ -24,6 +25,7 @@ impl UpTo for NidC {
 }
 
 // NID_SP, the number of the segment.
+#[derive(Drop)]
 pub struct NidSp;
 
 impl UpTo for NidSp {
@@ -41,6 +43,7 @@ impl UpTo for NidSp {
 }
 
 // Half of M_SP_Version: the major or the minor version.
+#[derive(Drop)]
 pub struct MSpVersion;
 
 impl UpTo for MSpVersion {
@@ -58,6 +61,7 @@ impl UpTo for MSpVersion {
 }
 
 // L_SP, the length of the segment in cm.
+#[derive(Drop)]
 pub struct LSp;
 
 impl LSp {
@@ -81,6 +85,7 @@ impl LSp {
 }
 
 // D_EoA_Offset, in cm.
+#[derive(Drop)]
 pub struct DEoAOffset;
 
 impl UpTo for DEoAOffset {
@@ -98,6 +103,7 @@ impl UpTo for DEoAOffset {
 }
 
 // Q_UTC_Offset, a number without a unit.
+#[derive(Drop)]
 pub struct QUtcOffset;
 
 impl UpTo for QUtcOffset {
@@ -115,6 +121,7 @@ impl UpTo for QUtcOffset {
 }
 
 // M_SP_Altitude, in cm, with 100,000 added.
+#[derive(Drop)]
 pub struct MSpAltitude;
 
 impl UpTo for MSpAltitude {
@@ -132,6 +139,7 @@ impl UpTo for MSpAltitude {
 }
 
 // V_STATIC, or V_DIFF of a specific entry, in steps of 5 km/h.
+#[derive(Drop)]
 pub struct VStatic;
 
 impl VStatic {
@@ -149,6 +157,7 @@ impl VStatic {
 }
 
 // Q_FRONT of an element: 0 delays its end by the length of the train, 1 does not.
+#[derive(Drop)]
 pub struct QFront;
 
 impl UpTo for QFront {
@@ -166,6 +175,7 @@ impl UpTo for QFront {
 }
 
 // N_ITER, a count of entries, changes, timing points or temporary constraints, up to the limit of its list.
+#[derive(Drop)]
 pub struct NIter;
 
 impl NIter {
@@ -181,6 +191,7 @@ impl NIter {
 }
 
 // Q_DIFF of a specific entry, which says what the class of the entry means.
+#[derive(Drop)]
 pub struct QDiff;
 
 impl UpTo for QDiff {
@@ -198,6 +209,7 @@ impl UpTo for QDiff {
 }
 
 // NC_CDDIFF, the class of an entry with Q_DIFF 0: a place in the table of cant figures, from 0.
+#[derive(Drop)]
 pub struct NcCdDiff;
 
 impl NcCdDiff {
@@ -213,6 +225,7 @@ impl NcCdDiff {
 }
 
 // NC_DIFF, the class of an entry with Q_DIFF 1 or 2: a train category.
+#[derive(Drop)]
 pub struct NcDiff;
 
 impl UpTo for NcDiff {
@@ -230,6 +243,7 @@ impl UpTo for NcDiff {
 }
 
 // D_Location of a change, in cm: above the last location and below L_SP.
+#[derive(Drop)]
 pub struct DLocation;
 
 impl DLocation {
@@ -245,6 +259,7 @@ impl DLocation {
 }
 
 // M_VOLTAGE, a place in the table of volts, from 0.
+#[derive(Drop)]
 pub struct MVoltage;
 
 impl MVoltage {
@@ -261,6 +276,7 @@ impl MVoltage {
 
 // NID_CTRACTION, which is 0 where M_VOLTAGE is 0.
 // It and three of a journey's constraint have a `most` of their own, and no trait: it would ask five members of each for one call in common.
+#[derive(Drop)]
 pub struct NidCTraction;
 
 impl NidCTraction {
@@ -284,6 +300,7 @@ impl NidCTraction {
 }
 
 // M_CURRENT, in steps of 10 A up to `HIGHEST`, or `NO_LIMIT`.
+#[derive(Drop)]
 pub struct MCurrent;
 
 impl MCurrent {

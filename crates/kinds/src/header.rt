@@ -7,6 +7,7 @@ use crate::refusals::Refusal;
 use crate::{Rule, UpTo};
 
 // NID_PACKET_ATO, the packet number.
+#[derive(Drop)]
 pub struct NidPacketAto;
 
 impl NidPacketAto {
@@ -34,6 +35,7 @@ impl NidPacketAto {
 }
 
 // L_PACKET_ATO, the bits of the body, without header and padding.
+#[derive(Drop)]
 pub struct LPacketAto;
 
 impl UpTo for LPacketAto {
@@ -51,6 +53,7 @@ impl UpTo for LPacketAto {
 }
 
 // NID_OPERATIONAL, eight digits of four bits, each 0 to 9 or F.
+#[derive(Drop)]
 pub struct NidOperational;
 
 impl NidOperational {
@@ -66,6 +69,7 @@ impl NidOperational {
 }
 
 // NID_ENGINE, the number of the engine.
+#[derive(Drop)]
 pub struct NidEngine;
 
 impl UpTo for NidEngine {
@@ -83,6 +87,7 @@ impl UpTo for NidEngine {
 }
 
 // T_Timestamp_Date, in days from 1 January 2010.
+#[derive(Drop)]
 pub struct TTimestampDate;
 
 impl UpTo for TTimestampDate {
@@ -100,6 +105,7 @@ impl UpTo for TTimestampDate {
 }
 
 // T_Timestamp_Seconds, in seconds of the day, before 24:00:00.
+#[derive(Drop)]
 pub struct TTimestampSeconds;
 
 impl UpTo for TTimestampSeconds {
@@ -117,6 +123,7 @@ impl UpTo for TTimestampSeconds {
 }
 
 // N_Packet_Counter, the packet counter.
+#[derive(Drop)]
 pub struct NPacketCounter;
 
 impl UpTo for NPacketCounter {

@@ -8,6 +8,7 @@ ghost use Rattle.kinds.specs.journey.Kinds.{most_at, most_where};
 use crate::{Rule, UpTo, up_to};
 
 // Q_JP_Status: 0 invalid, 1 valid, 2 unavailable, 3 update, 4 overwrite.
+#[derive(Drop)]
 pub struct QJpStatus;
 
 impl UpTo for QJpStatus {
@@ -25,6 +26,7 @@ impl UpTo for QJpStatus {
 }
 
 // N_ITER_SP, the count of segments.
+#[derive(Drop)]
 pub struct NIterSp;
 
 impl UpTo for NIterSp {
@@ -42,6 +44,7 @@ impl UpTo for NIterSp {
 }
 
 // Q_SP_DIR: 0 reverse, 1 nominal.
+#[derive(Drop)]
 pub struct QSpDir;
 
 impl UpTo for QSpDir {
@@ -59,6 +62,7 @@ impl UpTo for QSpDir {
 }
 
 // NID_TP, the number of the timing point.
+#[derive(Drop)]
 pub struct NidTp;
 
 impl UpTo for NidTp {
@@ -76,6 +80,7 @@ impl UpTo for NidTp {
 }
 
 // T_Latest_Arrival_Date, in days from 1 January 2010.
+#[derive(Drop)]
 pub struct TLatestArrivalDate;
 
 impl UpTo for TLatestArrivalDate {
@@ -93,6 +98,7 @@ impl UpTo for TLatestArrivalDate {
 }
 
 // T_Latest_Arrival_Seconds, in seconds of the day, up to 24:00:00.
+#[derive(Drop)]
 pub struct TLatestArrivalSeconds;
 
 impl UpTo for TLatestArrivalSeconds {
@@ -110,6 +116,7 @@ impl UpTo for TLatestArrivalSeconds {
 }
 
 // T_Arrival_Window, in seconds.
+#[derive(Drop)]
 pub struct TArrivalWindow;
 
 impl UpTo for TArrivalWindow {
@@ -127,6 +134,7 @@ impl UpTo for TArrivalWindow {
 }
 
 // Q_TP_Alignment: 0 front, 1 middle, 2 rear.
+#[derive(Drop)]
 pub struct QTpAlignment;
 
 impl UpTo for QTpAlignment {
@@ -144,6 +152,7 @@ impl UpTo for QTpAlignment {
 }
 
 // Q_Stop_Skip_Passes: 0 stopping point, 1 skipped stopping point, 2 passing point.
+#[derive(Drop)]
 pub struct QStopSkipPasses;
 
 impl QStopSkipPasses {
@@ -165,6 +174,7 @@ impl UpTo for QStopSkipPasses {
 }
 
 // Q_TP_Information: 0 none, 1 end of journey.
+#[derive(Drop)]
 pub struct QTpInformation;
 
 impl UpTo for QTpInformation {
@@ -182,6 +192,7 @@ impl UpTo for QTpInformation {
 }
 
 // Q_Day_Light_Saving, 0 or 1.
+#[derive(Drop)]
 pub struct QDayLightSaving;
 
 impl UpTo for QDayLightSaving {
@@ -227,6 +238,7 @@ pub trait UnlessPassing {
 }
 
 // Q_Opening_Door_Side: 0 none, 1 right, 2 left, 3 both; 0 at a passing point.
+#[derive(Drop)]
 pub struct QOpeningDoorSide;
 
 impl UnlessPassing for QOpeningDoorSide {
@@ -244,6 +256,7 @@ impl UnlessPassing for QOpeningDoorSide {
 }
 
 // Q_Centralised_Opening, 0 or 1; 0 at a passing point.
+#[derive(Drop)]
 pub struct QCentralisedOpening;
 
 impl UnlessPassing for QCentralisedOpening {
@@ -261,6 +274,7 @@ impl UnlessPassing for QCentralisedOpening {
 }
 
 // Q_Relaxed_Coupler, 0 or 1; 0 at a passing point.
+#[derive(Drop)]
 pub struct QRelaxedCoupler;
 
 impl UnlessPassing for QRelaxedCoupler {
@@ -278,6 +292,7 @@ impl UnlessPassing for QRelaxedCoupler {
 }
 
 // Q_Train_Hold, 0 or 1; 0 at a passing point.
+#[derive(Drop)]
 pub struct QTrainHold;
 
 impl UnlessPassing for QTrainHold {
@@ -295,6 +310,7 @@ impl UnlessPassing for QTrainHold {
 }
 
 // T_Departure_Date, in days from 1 January 2010; 0 at a passing point.
+#[derive(Drop)]
 pub struct TDepartureDate;
 
 impl UnlessPassing for TDepartureDate {
@@ -312,6 +328,7 @@ impl UnlessPassing for TDepartureDate {
 }
 
 // T_Departure_Seconds, in seconds of the day, before 24:00:00; 0 at a passing point.
+#[derive(Drop)]
 pub struct TDepartureSeconds;
 
 impl UnlessPassing for TDepartureSeconds {
@@ -329,6 +346,7 @@ impl UnlessPassing for TDepartureSeconds {
 }
 
 // T_Minimum_Dwell_Time, in seconds; 0 at a passing point.
+#[derive(Drop)]
 pub struct TMinimumDwellTime;
 
 impl UnlessPassing for TMinimumDwellTime {
@@ -346,6 +364,7 @@ impl UnlessPassing for TMinimumDwellTime {
 }
 
 // Q_Automatic_Closing, 0 or 1; 0 at a passing point.
+#[derive(Drop)]
 pub struct QAutomaticClosing;
 
 impl UnlessPassing for QAutomaticClosing {
@@ -365,6 +384,7 @@ impl UnlessPassing for QAutomaticClosing {
 // ---- fields of a temporary constraint
 
 // Q_TC_Type: 0 additional speed restriction, 1 low adhesion, 2 and 3 driving modes.
+#[derive(Drop)]
 pub struct QTcType;
 
 impl QTcType {
@@ -390,6 +410,7 @@ impl UpTo for QTcType {
 }
 
 // Q_TC_Range: 0 has a start, 1 an end, 2 both, 3 neither, for the whole segment.
+#[derive(Drop)]
 pub struct QTcRange;
 
 impl QTcRange {
@@ -415,6 +436,7 @@ impl UpTo for QTcRange {
 }
 
 // D_TC_Start_Location, in cm; 0 where Q_TC_Range has no start.
+#[derive(Drop)]
 pub struct DTcStartLocation;
 
 impl DTcStartLocation {
@@ -441,6 +463,7 @@ impl DTcStartLocation {
 }
 
 // D_TC_End_Location, in cm; 0 where Q_TC_Range has no end.
+#[derive(Drop)]
 pub struct DTcEndLocation;
 
 impl DTcEndLocation {
@@ -472,6 +495,7 @@ impl DTcEndLocation {
 }
 
 // Q_FRONT of a temporary constraint; 0 unless it is a speed restriction.
+#[derive(Drop)]
 pub struct QTcFront;
 
 impl QTcFront {
@@ -498,6 +522,7 @@ impl QTcFront {
 }
 
 // V_Speed_Level of a temporary constraint, in steps of 5 km/h; 0 unless it is a speed restriction.
+#[derive(Drop)]
 pub struct VSpeedLevel;
 
 impl VSpeedLevel {
@@ -518,6 +543,7 @@ impl VSpeedLevel {
 }
 
 // Q_Low_Adhesion_Rate of a temporary constraint; 0 unless it is a low adhesion.
+#[derive(Drop)]
 pub struct QLowAdhesionRate;
 
 impl QLowAdhesionRate {

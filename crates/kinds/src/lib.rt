@@ -5,6 +5,7 @@
 pub mod body;
 pub mod header;
 pub mod journey;
+pub mod numbered;
 pub mod refusals;
 
 ghost use Rattle.std.specs.Prelude.{◌≡◌, ℕ};

@@ -9,7 +9,6 @@ use lib.Dec.{eqb}
 use lib.ListN.{length, drop}
 use Rattle.kinds.specs.declared.Item.{Item}
 use Rattle.format.specs.Format.{Format, Read, accepted, times, values_of}
-use Rattle.format.specs.Grounds.{first}
 use Rattle.format.specs.Media.{packet, sheet}
 use Rattle.grammar.specs.declared.link.Tree.TheVariants.{Journey}
 use Rattle.grammar.specs.internal.link.Trees.{tree_sheet_fields, tree_packet, tree_sheet}

@@ -1,3 +1,4 @@
 pub mod Journeys
+pub mod Lent
 pub mod Travelling
 pub mod Answers

@@ -14,7 +14,7 @@ use Rattle.format.specs.Format.{times}
 use Rattle.grammar.specs.journey.Journey.{temporary_constraint}
 use Rattle.speed_question.specs.Question.{Brought}
 use Rattle.speed_question.specs.declared.run.LastSegment.{LastSegment}
-use Rattle.speed_question.specs.internal.Run.{numbers_as, numbers_in, HeadOf, LastRead}
+use Rattle.speed_question.specs.internal.Run.{numbers_as, numbers_in, ReadsAs, HeadOf, LastRead}
 use Rattle.speed_question.proofs.Runs.{split, start_on}
 use Rattle.legs.specs.Legs.{Constraint, Leg, after_constraints}
 use Rattle.legs.specs.Restricted.{held_restrictions}
@@ -23,22 +23,22 @@ use Rattle.legs.specs.internal.Passing.{passed_over, LegsPassed, over, one}
 use Rattle.legs.proofs.Passing.{legs_passed}
 use Rattle.leg_parts.specs.declared.LegHead.{LegHead}
 use Rattle.leg_parts.specs.internal.Reading.{LegRead, LegsAt}
-use Rattle.restricted.specs.internal.Travelling.{OverRead, LegJudged}
-use Rattle.restricted.specs.internal.Travelled.{ReadsIn, legs_of, Stands}
-use Rattle.restricted.specs.declared.accepted.Journey.{Journey}
+use Rattle.restricted.specs.internal.Travelling.{legs_in, Stands, OverRead, LegJudged}
 use Rattle.restricted.proofs.Journeys.{at_leg, at_next}
 
-module _ (b : Brought) (all : List (List ℕ)) (s : Journey) (before : ℕ) where
+-- count segments of a medium, and the bytes of a journey of a medium
+module _ (b kind : Brought) (count : ℕ) (all : List (List ℕ)) (s : List ℕ) (before : ℕ) where
   abbrev left : ℕ → List (List ℕ)
   left i = drop i all
 
   -- the legs from the number n on
   abbrev legs : ℕ → List Leg
-  legs n = drop n (legs_of s)
+  legs n = drop n (legs_in kind s)
 
   -- i legs of the run are passed, and the next one stands at the place at
   pub record Along (i at : ℕ) : Type 0 where
-    pub stand : LegsAt (ReadsIn s) at (legs (before + i))
+    pub up : i ≤ count
+    pub stand : LegsAt (ReadsAs kind s) at (legs (before + i))
 
   -- the first i legs are allowed
   pub record Judging (i at : ℕ) : Type 0 where
@@ -48,15 +48,15 @@ module _ (b : Brought) (all : List (List ℕ)) (s : Journey) (before : ℕ) wher
   -- low stands for what holds of the first i legs, and the next segment starts at start
   pub record Lowering (t : Train) (x held i start at low : ℕ) : Type 0 where
     pub along : Along i at
-    pub place : i < length all → start + last_start 0 (numbers_in b (left i)) ≡ last_start 0 (numbers_in b all)
+    pub place : i < count → start + last_start 0 (numbers_in b (left i)) ≡ last_start 0 (numbers_in b all)
     pub small : start ≤ i * 16777215
     pub done : (out : ℕ) → LegsPassed t x (numbers_in b (left i)) (legs (before + i)) low out → LegsPassed t x (numbers_in b all) (legs before) held out
 
-  module _ {count first : ℕ} (h : Stands s count before first) where
+  module _ {first : ℕ} (h : Stands kind s count before first) where
     along_first : Along 0 first
     along_first =
         let z : before + 0 ≡ before = omega arith in
-        record { stand = rw z h.legs }
+        record { up = omega arith; stand = rw z h.legs }
 
     pub judging_first : Judging 0 first
     judging_first = let z : before + 0 ≡ before = omega arith in record { along = along_first; same = rw z }
@@ -72,71 +72,75 @@ module _ (b : Brought) (all : List (List ℕ)) (s : Journey) (before : ℕ) wher
         }
 
     -- the leg of a segment is on the journey
-    pub leg_on : (i : ℕ) → i < count → before + i < length (legs_of s)
+    pub leg_on : (i : ℕ) → i < count → before + i < length (legs_in kind s)
     leg_on i m = omega (arith, h.enough)
 
   -- the place, counted from the run's start, is not before the segment that is left
-  pub lowering_before : {t : Train} {x held i start at low : ℕ} {l : LastSegment} → Lowering t x held i start at low → i < length all → LastRead b all l → start ≤ l.start + x
+  pub lowering_before : {t : Train} {x held i start at low : ℕ} {l : LastSegment} → Lowering t x held i start at low → i < count → LastRead b all l → start ≤ l.start + x
   lowering_before g h k = omega (arith, g.place h, k.start_is)
 
-  module _ (i : ℕ) (h : i < length all) (on : before + i < length (legs_of s)) {at : ℕ} {leg : LegHead} (r : LegRead (ReadsIn s) at leg) where
-    along_next : {to : ℕ} → Along i at → Passes (ReadsIn s) (times temporary_constraint leg.count) (after_constraints leg.count) leg.constraints to → Along (i + 1) to
-    along_next g d =
-        let z : before + i + 1 ≡ before + (i + 1) = omega arith in
-        let n = at_next (ReadsIn s) (legs_of s) g.stand on r d in
-        record { stand = rw z at n }
+  module _ (few : count ≡ length all) where
+    module _ (i : ℕ) (h : i < count) (on : before + i < length (legs_in kind s)) {at : ℕ} {leg : LegHead} (r : LegRead (ReadsAs kind s) at leg) where
+      inside : i < length all
+      inside = omega (arith, few, h)
 
-    -- a segment's refusal, and those after it
-    refusal_split : {w : ℕ} → Along i at → LegJudged (ReadsIn s) (numbers_as b (get_or all i [])) leg w
-        → legs_refusal (numbers_in b (left i)) (legs (before + i)) ≡ first_refusal w (legs_refusal (numbers_in b (left (i + 1))) (legs (before + (i + 1))))
-    refusal_split {w} a j =
-        at_leg (ReadsIn s) (legs_of s) a.stand on r λ g l e d c.
-        let z : before + i + 1 ≡ before + (i + 1) = omega arith in
-        let own : leg_refusal (numbers_as b (get_or all i [])) g ≡ w = ap (leg_refusal (numbers_as b (get_or all i []))) d ∙ sym (j.said l c) in
-        ap₂ (λ (m : List (List ℕ)) (k : List Leg). legs_refusal (numbers_in b m) k) (split b all i h) e
-        ∙ ap₂ (λ (n m : ℕ). first_refusal n (legs_refusal (numbers_in b (left (i + 1))) (legs m))) own z
+      along_next : {to : ℕ} → Along i at → Passes (ReadsAs kind s) (times temporary_constraint leg.count) (after_constraints leg.count) leg.constraints to → Along (i + 1) to
+      along_next g d =
+          let z : before + i + 1 ≡ before + (i + 1) = omega arith in
+          let n = at_next (ReadsAs kind s) (legs_in kind s) g.stand on r d in
+          record { up = omega arith; stand = rw z at n }
 
-    pub judging_refused : {w : ℕ} → Judging i at → LegJudged (ReadsIn s) (numbers_as b (get_or all i [])) leg w → (w ≡ 0 → ⊥) → w ≡ legs_refusal (numbers_in b all) (legs before)
-    judging_refused {w} g j n =
-        let more = legs_refusal (numbers_in b (left (i + 1))) (legs (before + (i + 1))) in
-        let own : w ≡ first_refusal w more = rw (ne_eqb w 0 n) in
-        own ∙ sym (refusal_split g.along j) ∙ g.same
+      -- a segment's refusal, and those after it
+      refusal_split : {w : ℕ} → Along i at → LegJudged (ReadsAs kind s) (numbers_as b (get_or all i [])) leg w
+          → legs_refusal (numbers_in b (left i)) (legs (before + i)) ≡ first_refusal w (legs_refusal (numbers_in b (left (i + 1))) (legs (before + (i + 1))))
+      refusal_split {w} a j =
+          at_leg (ReadsAs kind s) (legs_in kind s) a.stand on r λ g l e d c.
+          let z : before + i + 1 ≡ before + (i + 1) = omega arith in
+          let own : leg_refusal (numbers_as b (get_or all i [])) g ≡ w = ap (leg_refusal (numbers_as b (get_or all i []))) d ∙ sym (j.said l c) in
+          ap₂ (λ (m : List (List ℕ)) (k : List Leg). legs_refusal (numbers_in b m) k) (split b all i inside) e
+          ∙ ap₂ (λ (n m : ℕ). first_refusal n (legs_refusal (numbers_in b (left (i + 1))) (legs m))) own z
 
-    pub judging_next : {w to : ℕ} → Judging i at → LegJudged (ReadsIn s) (numbers_as b (get_or all i [])) leg w → w ≡ 0
-        → Passes (ReadsIn s) (times temporary_constraint leg.count) (after_constraints leg.count) leg.constraints to → Judging (i + 1) to
-    judging_next {w} g j n d =
-        let more = legs_refusal (numbers_in b (left (i + 1))) (legs (before + (i + 1))) in
-        let own : more ≡ first_refusal w more = rw (eq-eqb w 0 n) in
-        record { along = along_next g.along d; same = own ∙ sym (refusal_split g.along j) ∙ g.same }
+      pub judging_refused : {w : ℕ} → Judging i at → LegJudged (ReadsAs kind s) (numbers_as b (get_or all i [])) leg w → (w ≡ 0 → ⊥) → w ≡ legs_refusal (numbers_in b all) (legs before)
+      judging_refused {w} g j n =
+          let more = legs_refusal (numbers_in b (left (i + 1))) (legs (before + (i + 1))) in
+          let own : w ≡ first_refusal w more = rw (ne_eqb w 0 n) in
+          own ∙ sym (refusal_split g.along j) ∙ g.same
 
-    pub lowering_next : {t : Train} {x held start low next lsp profile to : ℕ} (y : ℕ) → Lowering t x held i start at low → HeadOf b (get_or all i []) lsp profile
-        → y + start ≡ last_start 0 (numbers_in b all) + x → OverRead (ReadsIn s) leg t lsp y low next
-        → Passes (ReadsIn s) (times temporary_constraint leg.count) (after_constraints leg.count) leg.constraints to → Lowering t x held (i + 1) (start + lsp) to next
-    lowering_next {t} {x} {held} {start} {low} {next} {lsp} y g d e c o = record {
-      along = along_next g.along o;
-      place = λ more. omega (arith, g.place h, start_on b all i h d more);
-      small = omega (arith, g.small, d.small);
-      done = λ out m. g.done out (there out m);
-    }
-      where
-        here : y ≡ last_start 0 (numbers_in b (left i)) + x
-        here = omega (arith, e, g.place h)
+      pub judging_next : {w to : ℕ} → Judging i at → LegJudged (ReadsAs kind s) (numbers_as b (get_or all i [])) leg w → w ≡ 0
+          → Passes (ReadsAs kind s) (times temporary_constraint leg.count) (after_constraints leg.count) leg.constraints to → Judging (i + 1) to
+      judging_next {w} g j n d =
+          let more = legs_refusal (numbers_in b (left (i + 1))) (legs (before + (i + 1))) in
+          let own : more ≡ first_refusal w more = rw (eq-eqb w 0 n) in
+          record { along = along_next g.along d; same = own ∙ sym (refusal_split g.along j) ∙ g.same }
 
-        there : (out : ℕ) → LegsPassed t x (numbers_in b (left (i + 1))) (legs (before + (i + 1))) next out → LegsPassed t x (numbers_in b (left i)) (legs (before + i)) low out
-        there out m =
-            at_leg (ReadsIn s) (legs_of s) g.along.stand on r λ k l f j w.
-            let z : before + (i + 1) ≡ before + i + 1 = omega arith in
-            let whole = split b all i h in
-            let list : l ≡ k.constraints = sym (ap (λ (n : Leg). n.constraints) j) in
-            let own : next ≡ passed_over t (segment_length (numbers_as b (get_or all i []))) (last_start 0 (numbers_in b (get_or all i [] ∷ left (i + 1))) + x) low k.constraints =
-            c.said l w ∙ ap₂ (λ (n : ℕ) (a : List Constraint). passed_over t n y low a) d.length_is list
-            ∙ ap (λ (n : ℕ). passed_over t (segment_length (numbers_as b (get_or all i []))) n low k.constraints) (here ∙ ap (λ (n : List (List ℕ)). last_start 0 (numbers_in b n) + x) whole) in
-            subst₂ (λ (n : List (List ℕ)) (a : List Leg). LegsPassed t x (numbers_in b n) a low out) (sym whole) (sym f)
-            (one own (subst (λ (n : ℕ). LegsPassed t x (numbers_in b (left (i + 1))) (legs n) next out) z m))
+      pub lowering_next : {t : Train} {x held start low next lsp profile to : ℕ} (y : ℕ) → Lowering t x held i start at low → HeadOf b (get_or all i []) lsp profile
+          → y + start ≡ last_start 0 (numbers_in b all) + x → OverRead (ReadsAs kind s) leg t lsp y low next
+          → Passes (ReadsAs kind s) (times temporary_constraint leg.count) (after_constraints leg.count) leg.constraints to → Lowering t x held (i + 1) (start + lsp) to next
+      lowering_next {t} {x} {held} {start} {low} {next} {lsp} y g d e c o = record {
+        along = along_next g.along o;
+        place = λ more. omega (arith, g.place h, start_on b all i inside d (omega (arith, few, more)));
+        small = omega (arith, g.small, d.small);
+        done = λ out m. g.done out (there out m);
+      }
+        where
+          here : y ≡ last_start 0 (numbers_in b (left i)) + x
+          here = omega (arith, e, g.place h)
 
-  pub judging_last : {i at : ℕ} → Judging i at → length all ≤ i → 0 ≡ legs_refusal (numbers_in b all) (legs before)
-  judging_last {i} g e = ap (λ (r : List (List ℕ)). legs_refusal (numbers_in b r) (legs (before + i))) (sym (drop_all i all e)) ∙ g.same
+          there : (out : ℕ) → LegsPassed t x (numbers_in b (left (i + 1))) (legs (before + (i + 1))) next out → LegsPassed t x (numbers_in b (left i)) (legs (before + i)) low out
+          there out m =
+              at_leg (ReadsAs kind s) (legs_in kind s) g.along.stand on r λ k l f j w.
+              let z : before + (i + 1) ≡ before + i + 1 = omega arith in
+              let whole = split b all i inside in
+              let list : l ≡ k.constraints = sym (ap (λ (n : Leg). n.constraints) j) in
+              let own : next ≡ passed_over t (segment_length (numbers_as b (get_or all i []))) (last_start 0 (numbers_in b (get_or all i [] ∷ left (i + 1))) + x) low k.constraints =
+              c.said l w ∙ ap₂ (λ (n : ℕ) (a : List Constraint). passed_over t n y low a) d.length_is list
+              ∙ ap (λ (n : ℕ). passed_over t (segment_length (numbers_as b (get_or all i []))) n low k.constraints) (here ∙ ap (λ (n : List (List ℕ)). last_start 0 (numbers_in b n) + x) whole) in
+              subst₂ (λ (n : List (List ℕ)) (a : List Leg). LegsPassed t x (numbers_in b n) a low out) (sym whole) (sym f)
+              (one own (subst (λ (n : ℕ). LegsPassed t x (numbers_in b (left (i + 1))) (legs n) next out) z m))
 
-  pub lowering_last : {t : Train} {x held i start at low : ℕ} → Lowering t x held i start at low → length all ≤ i → low ≡ lowest held (held_restrictions t x (numbers_in b all) (legs before))
-  lowering_last {t} {x} {i = i} {low = low} g e =
-      legs_passed t x (g.done low (subst (λ (r : List (List ℕ)). LegsPassed t x (numbers_in b r) (legs (before + i)) low low) (sym (drop_all i all e)) over))
+    pub judging_last : {i at : ℕ} → Judging i at → count ≤ i → 0 ≡ legs_refusal (numbers_in b all) (legs before)
+    judging_last {i} g e = ap (λ (r : List (List ℕ)). legs_refusal (numbers_in b r) (legs (before + i))) (sym (drop_all i all (omega (arith, few, e)))) ∙ g.same
+
+    pub lowering_last : {t : Train} {x held i start at low : ℕ} → Lowering t x held i start at low → count ≤ i → low ≡ lowest held (held_restrictions t x (numbers_in b all) (legs before))
+    lowering_last {t} {x} {i = i} {low = low} g e =
+        legs_passed t x (g.done low (subst (λ (r : List (List ℕ)). LegsPassed t x (numbers_in b r) (legs (before + i)) low low) (sym (drop_all i all (omega (arith, few, e)))) over))

@@ -15,6 +15,7 @@ ghost use Rattle.restricted.specs.internal.Travelling.{InsideRead, OverRead};
 ghost use Rattle.restricted.specs.internal.Travelled.{ReadsIn, numbers_of, legs_of};
 
 use crate::accepted::Journey;
+pub use crate::numbered::{all_inside, find, head, legs, next, passed_over};
 use grammar::link::Tree;
 use kinds::refusals::Refused;
 use leg_parts::{ConstraintAt, Identity, LegHead, Legs};

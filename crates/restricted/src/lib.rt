@@ -5,6 +5,7 @@
 
 pub mod accepted;
 pub mod journey;
+pub mod numbered;
 pub mod travelled;
 
 ghost use Rattle.std.specs.Prelude.{◌≡◌, ◌&&◌, ◌+◌, ◌-◌, length, ltb, drop, take};

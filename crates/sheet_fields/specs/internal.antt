@@ -1,2 +1,3 @@
 -- Definitions that contracts of the code use; no promise names them.
 pub mod Judging
+pub mod numbered

@@ -4,6 +4,7 @@
 #![tactic(auto)]
 
 pub mod header;
+pub mod numbered;
 pub mod row;
 
 ghost use Rattle.std.specs.Prelude.{◌≡◌, ◌<◌, ◌==◌, Ok, Err};

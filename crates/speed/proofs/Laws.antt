@@ -6,7 +6,7 @@ use mathlib.Core.Option.{Option, none, some}
 use Prim.Native.Nat.{ℕ, zero, suc, ◌+◌, ◌*◌, ◌/◌, ◌%◌, ◌^◌, ◌≤◌, ◌<◌, min}
 use mir.Val.{bool_byte}
 use native.Mathlib.Omega.{arith}
-use borrow.Author.Tests.{le-leb, lt-ltb, ltb-false, ltb-true}
+use borrow.Author.Tests.{le-leb, lt-leb, lt-ltb, ltb-false, ltb-true}
 use lib.Dec.{eqb, ltb}
 use lib.ListN.{get_or}
 use native.Mathlib.Nat.{pow-le-pow_right, div-eq_of_lt}
@@ -16,7 +16,7 @@ use Rattle.kinds.specs.Tables.{cant_figures, place}
 use Rattle.fields.proofs.Lookup.{place_small}
 use Rattle.fields.specs.internal.lower.Lowered.{value_or, lowered}
 use Rattle.speed.specs.declared.Train.{Train}
-use Rattle.speed.specs.Speed.{found, figure, belongs, memberships, Entry, Element, is_not_above, not_above, greatest_figure, is_of, figure_speeds, cant_speeds, named_speeds, lowest, instead, element_speed, end_before, holds, held_speeds, permitted, in_fives, entry_in_fives, element_in_fives}
+use Rattle.speed.specs.Speed.{found, figure, valid_train, belongs, memberships, Entry, Element, is_not_above, not_above, greatest_figure, is_of, figure_speeds, cant_speeds, named_speeds, lowest, instead, element_speed, end_before, holds, held_speeds, permitted, in_fives, entry_in_fives, element_in_fives}
 
 -- ---- some element holds
 
@@ -142,3 +142,9 @@ figure_place a v e = rw e (go (place 0 cant_figures a) refl)
     go : (o : Option ℕ) → place 0 cant_figures a ≡ o → ltb (value_or 16 o) 16 ≡ found o
     go none p = refl
     go (some i) p = lt-ltb i 16 (omega (arith, place_small 0 cant_figures a i p))
+
+-- ---- which trains are valid
+
+-- a train that is too slow is not
+pub valid_slow : (t : Train) → 1 ≤ t.length → t.length ≤ 150000 → t.maximum < 1 → false ≡ valid_train t
+valid_slow t short long h = rw (le-leb 1 t.length short, le-leb t.length 150000 long, lt-leb 1 t.maximum h)

@@ -38,6 +38,7 @@ fn is_figure(cant: u32) -> bool
 }
 
 // Returns whether the length, the maximum speed and the cant deficiency of `train` are allowed.
+#[tactic(auto, using(crate::proofs::Laws::valid_slow))]
 pub fn valid(train: Train) -> bool
     ensures { result ≡ valid_train train }
 {

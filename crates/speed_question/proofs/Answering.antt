@@ -1,9 +1,12 @@
--- The answer of a question follows from the train and the place; the verdict on a segment, from the verdict on its packet or its sheet.
-use mathlib.Core.Path.{◌≡◌, sym, ap}
+-- The answer of a question follows from the train and the place, or from the refusal of these; the verdict on a segment, from the verdict on its packet or its sheet.
+use mathlib.Core.Path.{◌≡◌, sym, ap, ◌∙◌}
 use mathlib.Core.Bool.{true, false}
 use mathlib.Core.List.{List}
 use Prim.Native.Nat.{ℕ, ◌≤◌, ◌<◌}
-use borrow.Author.Tests.{lt-ltb, le-ltb}
+use native.Mathlib.Omega.{arith}
+use borrow.Author.Tests.{ltb-true, lt-ltb, le-ltb}
+use lib.Dec.{ltb}
+use Rattle.bits.proofs.Tests.{by_cases}
 use Rattle.format.specs.Media.{packet, sheet}
 use Rattle.grammar.specs.segment.Segment.{fields, sheet_fields, wire_changes}
 use Rattle.grammar.specs.declared.link.Tree.TheVariants.{Segment}
@@ -28,6 +31,42 @@ module _ (t : Train) (x lsp v : ℕ) where
 
   pub speed_judged : valid_train t ≡ true → x < lsp → record { refusal = 0; place = 0; speed = v } ≡ judged_speed t x lsp v
   speed_judged e h = rw (e, lt-ltb x lsp h)
+
+-- ---- the answer from the refusal of the train and the place
+
+module _ (t : Train) (x lsp : ℕ) where
+  pub invalid : valid_train t ≡ false → 10 ≡ (judged_speed t x lsp 0).refusal
+  invalid e = rw e
+
+  pub past_end_lem : valid_train t ≡ true → lsp ≤ x → 11 ≡ (judged_speed t x lsp 0).refusal
+  past_end_lem e h = rw (e, le-ltb x lsp h)
+
+  pub in_place : valid_train t ≡ true → x < lsp → 0 ≡ (judged_speed t x lsp 0).refusal
+  in_place e h = rw (e, lt-ltb x lsp h)
+
+  -- an answer is a refusal with speed 0, or no refusal and the speed
+  answer_by : {C : Type 0} (v : ℕ) → ((judged_speed t x lsp 0).refusal ≡ 0 → judged_speed t x lsp v ≡ record { refusal = 0; place = 0; speed = v } → C)
+      → ((r : ℕ) → (judged_speed t x lsp 0).refusal ≡ r → (r ≡ 0 → ⊥) → judged_speed t x lsp v ≡ no_speed r 0 → C) → C
+  answer_by v f g =
+      by_cases (valid_train t)
+      (λ a. by_cases (ltb x lsp) (λ b. f (rw (a, b)) (rw (a, b))) (λ b. g 11 (rw (a, b)) (λ q. omega arith) (rw (a, b))))
+      (λ a. g 10 (rw a) (λ q. omega arith) (rw a))
+
+  module _ {r : ℕ} (e : r ≡ (judged_speed t x lsp 0).refusal) where
+    pub no_speed_lem : (v : ℕ) → (r ≡ 0 → ⊥) → no_speed r 0 ≡ judged_speed t x lsp v
+    no_speed_lem v n = answer_by v (λ a b. absurd (n (e ∙ a))) (λ q a z b. ap (λ (n : ℕ). no_speed n 0) (e ∙ a) ∙ sym b)
+
+    pub some_speed : (v : ℕ) → r ≡ 0 → record { refusal = 0; place = 0; speed = v } ≡ judged_speed t x lsp v
+    some_speed v z = answer_by v (λ a b. sym b) (λ q a n b. absurd (n (sym a ∙ sym e ∙ z)))
+
+    pub in_segment : r ≡ 0 → x < lsp
+    in_segment z = by_cases (ltb x lsp) (λ d. ltb-true x lsp d) (λ d. absurd (late d))
+      where
+        late : ltb x lsp ≡ false → ⊥
+        late d =
+            by_cases (valid_train t)
+            (λ a. let n : (judged_speed t x lsp 0).refusal ≡ 11 = rw (a, d) in omega (arith, e, n))
+            (λ a. let n : (judged_speed t x lsp 0).refusal ≡ 10 = rw a in omega (arith, e, n))
 
 -- ---- the verdict on a segment
 

@@ -1,4 +1,4 @@
--- The segments as they are lent, four of them with a count, and what is answered on them. Laws that the pages name; the code takes its segments as a run.
+-- The segments as they are lent, four of them with a count, and what is answered on them. The forms for a medium that is a number take them so.
 use mathlib.Core.Path.{◌≡◌, refl, sym, ap, ◌∙◌}
 use mathlib.Core.List.{List, []}
 use Prim.Native.Nat.{ℕ, zero, suc, ◌≤◌, ◌<◌}
@@ -9,10 +9,10 @@ use Rattle.kinds.specs.declared.Item.{Item}
 use Rattle.speed.specs.declared.Train.{Train}
 use Rattle.speed.specs.Speed.{limited, segment_length}
 use Rattle.speed.specs.Run.{numbers_of, last_of, speed_in_run}
-use Rattle.speed_question.specs.Question.{Brought, packet, sheet, medium_of, lent, judged_speed, speed_of_run, run_asked}
-use Rattle.speed_question.specs.internal.Run.{brought_of, values_in, numbers_as, numbers_in}
-use Rattle.speed_question.proofs.Asked.{asked_neither, asked_count, none_few, many_few}
-use Rattle.speed_question.proofs.Runs.{run_answer}
+use Rattle.speed_question.specs.Question.{Brought, packet, sheet, medium_of, read_as, lent, judged_run, answer_of_run, judged_speed, speed_of_run, run_asked}
+use Rattle.speed_question.specs.internal.Run.{brought_of, passed, failed, run_judged, values_in, numbers_as, numbers_in, nth}
+use Rattle.speed_question.proofs.Asked.{asked_neither, asked_count, asked_run_lem, none_few, many_few, some_few}
+use Rattle.speed_question.proofs.Runs.{run_passed_lem, run_refusal, run_each, run_accepted, run_answer}
 
 -- ---- the medium
 
@@ -22,7 +22,7 @@ as_packet {medium} e = rw (eq-eqb medium 0 e)
 pub as_sheet : {medium : ℕ} → (medium ≡ 0 → ⊥) → brought_of medium ≡ sheet
 as_sheet {medium} n = rw (ne_eqb medium 0 n)
 
-medium_named : (medium : ℕ) → medium ≤ 1 → medium ≡ medium_of (brought_of medium)
+pub medium_named : (medium : ℕ) → medium ≤ 1 → medium ≡ medium_of (brought_of medium)
 medium_named zero h = refl
 medium_named (suc zero) h = refl
 medium_named (suc (suc n)) h = absurd (omega arith)
@@ -38,17 +38,23 @@ module _ {B : Type 0} (refusal : ℕ → ℕ → B) (value : List (List Item) �
     pub question_none : count < 1 → refusal 16 0 ≡ question
     question_none h = sym (asked ∙ asked_count refusal value medium count all (brought_of medium) (medium_named medium known) (none_few count h))
 
-    pub question_many : 1 ≤ count → 4 < count → refusal 16 0 ≡ question
-    question_many some h = sym (asked ∙ asked_count refusal value medium count all (brought_of medium) (medium_named medium known) (many_few count some h))
+    module _ (some : 1 ≤ count) where
+      pub question_many : 4 < count → refusal 16 0 ≡ question
+      question_many h = sym (asked ∙ asked_count refusal value medium count all (brought_of medium) (medium_named medium known) (many_few count some h))
+
+      module _ (few : count ≤ 4) where
+        judged : question ≡ answer_of_run refusal value (judged_run (read_as (brought_of medium)) all)
+        judged = asked ∙ asked_run_lem refusal value medium count all (brought_of medium) (medium_named medium known) (some_few count some few)
+
+        pub question_refused : {n place : ℕ} → failed n place ≡ run_judged (judged_run (read_as (brought_of medium)) all) → refusal n place ≡ question
+        question_refused e = sym (judged ∙ ap (answer_of_run refusal value) (run_refusal (read_as (brought_of medium)) all e))
+
+        pub question_accepted : passed ≡ run_judged (judged_run (read_as (brought_of medium)) all) → value (values_in (brought_of medium) all) ≡ question
+        question_accepted e =
+            let judge = read_as (brought_of medium) in
+            sym (judged ∙ ap (answer_of_run refusal value) (run_accepted judge all (run_each judge all (run_passed_lem judge (judged_run judge all) e))))
 
 -- ---- the segments lent, one after the other
-
--- the segment with the number i of those lent
-abbrev pub nth : ℕ → List ℕ → List ℕ → List ℕ → List ℕ → List ℕ
-nth zero first second third fourth = first
-nth (suc zero) first second third fourth = second
-nth (suc (suc zero)) first second third fourth = third
-nth (suc (suc (suc i))) first second third fourth = fourth
 
 -- from the third on, the fourth
 pub nth_rest : (a b c d : List ℕ) (i : ℕ) → (i ≡ 0 → ⊥) → (i ≡ 1 → ⊥) → (i ≡ 2 → ⊥) → d ≡ nth i a b c d

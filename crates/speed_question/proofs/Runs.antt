@@ -51,6 +51,10 @@ module _ (judge : List ℕ → Read) where
   run_passed_lem (accepted l) d = refl
   run_passed_lem (refused a p) d = absurd (cc)
 
+  pub run_passes : (o : RunRead) → was_accepted o ≡ true → passed ≡ run_judged o
+  run_passes (accepted l) d = refl
+  run_passes (refused a p) d = absurd (cc)
+
   pub run_refusal : (r : List (List ℕ)) {q place : ℕ} → failed q place ≡ run_judged (judged_run judge r) → judged_run judge r ≡ refused q place
   run_refusal r {q} {place} e = go (judged_run judge r) e
     where
@@ -112,26 +116,32 @@ module _ (b : Brought) (all : List (List ℕ)) where
   nth i = get_or all i []
 
   -- the first i segments are accepted
-  abbrev pub Judging : ℕ → Type 0
-  Judging i = run_judged (judged_run (read_as b) (left i)) ≡ run_judged (judged_run (read_as b) all)
+  pub record Judging (i : ℕ) : Type 0 where
+    pub up : i ≤ length all
+    pub same : run_judged (judged_run (read_as b) (left i)) ≡ run_judged (judged_run (read_as b) all)
 
   -- start and the length of the last of the first i segments together are where the next one starts
   pub record Finding (i start : ℕ) (last : Head) : Type 0 where
+    pub up : i ≤ length all
     pub end : run_end (start + last.lsp) (numbers_in b (left i)) ≡ run_end 0 (numbers_in b all)
     pub small : start + last.lsp ≤ i * 16777215
     pub head : 0 < i → HeadOf b (nth (i - 1)) last.lsp last.profile
 
   -- held stands for what holds in the first i segments, and the next one starts at start
   pub record Passing (t : Train) (x i start held : ℕ) : Type 0 where
+    pub up : i ≤ length all
     pub place : i < length all → start + last_start 0 (numbers_in b (left i)) ≡ last_start 0 (numbers_in b all)
     pub small : start ≤ i * 16777215
     pub done : (out : ℕ) → RunPassed t x (numbers_in b (left i)) held out → RunPassed t x (numbers_in b all) none out
 
+  pub judging_first : Judging 0
+  judging_first = record { up = omega arith; same = refl }
+
   pub finding_first : {last : Head} → last.lsp ≡ 0 → Finding 0 0 last
-  finding_first e = record { end = ap (λ (n : ℕ). run_end n (numbers_in b all)) (omega (arith, e)); small = omega (arith, e); head = λ h. absurd (omega arith) }
+  finding_first e = record { up = omega arith; end = ap (λ (n : ℕ). run_end n (numbers_in b all)) (omega (arith, e)); small = omega (arith, e); head = λ h. absurd (omega arith) }
 
   pub passing_first : {t : Train} {x : ℕ} → Passing t x 0 0 none
-  passing_first = record { place = λ h. omega arith; small = omega arith; done = λ out r. r }
+  passing_first = record { up = omega arith; place = λ h. omega arith; small = omega arith; done = λ out r. r }
 
   -- the place y, counted from the run's start, is not before the segment that is left
   pub passing_before : {t : Train} {x i start held : ℕ} {l : LastSegment} → Passing t x i start held → i < length all → LastRead b all l → start ≤ l.start + x
@@ -147,15 +157,19 @@ module _ (b : Brought) (all : List (List ℕ)) where
 
     pub judging_refused : {n place : ℕ} → Judging i → failed n place ≡ judged_of (read_as b (nth i)) → judged_run (read_as b) all ≡ refused n place
     judging_refused g e =
-        run_refusal (read_as b) all (first_refused (read_as b) (nth i) (left (i + 1)) e ∙ ap (λ (r : List (List ℕ)). run_judged (judged_run (read_as b) r)) (sym split) ∙ g)
+        run_refusal (read_as b) all (first_refused (read_as b) (nth i) (left (i + 1)) e ∙ ap (λ (r : List (List ℕ)). run_judged (judged_run (read_as b) r)) (sym split) ∙ g.same)
 
     pub judging_next : Judging i → passed ≡ judged_of (read_as b (nth i)) → Judging (i + 1)
-    judging_next g e = first_accepted (read_as b) (nth i) (left (i + 1)) e ∙ ap (λ (r : List (List ℕ)). run_judged (judged_run (read_as b) r)) (sym split) ∙ g
+    judging_next g e = record {
+      up = omega arith;
+      same = first_accepted (read_as b) (nth i) (left (i + 1)) e ∙ ap (λ (r : List (List ℕ)). run_judged (judged_run (read_as b) r)) (sym split) ∙ g.same;
+    }
 
     pub finding_next : {start : ℕ} {last next : Head} → Finding i start last → HeadOf b (nth i) next.lsp next.profile → Finding (i + 1) (start + last.lsp) next
     finding_next {start} {last} {next} g d =
         let e : i + 1 - 1 ≡ i = omega arith in
         record {
+          up = omega arith;
           end = ap (λ (n : ℕ). run_end (start + last.lsp + n) (numbers_in b (left (i + 1)))) d.length_is
               ∙ ap (λ (r : List (List ℕ)). run_end (start + last.lsp) (numbers_in b r)) (sym split) ∙ g.end;
           small = omega (arith, g.small, d.small);
@@ -176,6 +190,7 @@ module _ (b : Brought) (all : List (List ℕ)) where
     pub passing_next : {t : Train} {x start held next lsp at : ℕ} (y : ℕ) → Passing t x i start held → HeadOf b (nth i) lsp at → y + start ≡ last_start 0 (numbers_in b all) + x
         → Passed t (numbers_as b (nth i)) y held next → Passing t x (i + 1) (start + lsp) next
     passing_next {t} {x} {start} {held} {next} {lsp} {at} y g d e c = record {
+      up = omega arith;
       place = λ more. omega (arith, g.place h, start_on d more);
       small = omega (arith, g.small, d.small);
       done = λ out r. g.done out (there out r);
@@ -192,7 +207,7 @@ module _ (b : Brought) (all : List (List ℕ)) where
 
   pub judging_last : {i : ℕ} → Judging i → length all ≤ i → all_accepted b all ≡ true
   judging_last {i} g e =
-      run_passed_lem (read_as b) (judged_run (read_as b) all) (ap (λ (r : List (List ℕ)). run_judged (judged_run (read_as b) r)) (sym (drop_all i all e)) ∙ g)
+      run_passed_lem (read_as b) (judged_run (read_as b) all) (ap (λ (r : List (List ℕ)). run_judged (judged_run (read_as b) r)) (sym (drop_all i all e)) ∙ g.same)
 
   pub passing_last : {t : Train} {x i start held : ℕ} → Passing t x i start held → length all ≤ i → instead_from held 0 [] ≡ speed_in_run t x (numbers_in b all)
   passing_last {t} {x} {i} {start} {held} g e = run_passed (g.done held (subst (λ (r : List (List ℕ)). RunPassed t x (numbers_in b r) held held) (sym (drop_all i all e)) over))

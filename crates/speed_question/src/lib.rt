@@ -4,6 +4,7 @@
 #![tactic(auto)]
 
 pub mod medium;
+pub mod numbered;
 pub mod run;
 pub mod travel;
 
@@ -14,6 +15,7 @@ ghost use Rattle.speed_question.specs.internal.Run.{segments_of, speed_said};
 
 use kinds::refusals::Refused;
 use medium::Medium;
+pub use numbered::of_run;
 use run::Run;
 use speed::Train;
 

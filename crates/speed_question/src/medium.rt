@@ -5,8 +5,9 @@ ghost use Rattle.std.specs.Prelude.{◌≡◌, MatchResult};
 ghost use Rattle.speed_element.specs.internal.Passing.{Passed};
 ghost use Rattle.kinds.specs.declared.refusals.Refusal.TheVariants.{UnknownKind};
 ghost use Rattle.speed_question.specs.Question.{packet, sheet, medium_of, Neither, read_as};
-ghost use Rattle.speed_question.specs.internal.Run.{brought_as, said, judged_of, AcceptedAs, numbers_as, HeadOf};
+ghost use Rattle.speed_question.specs.internal.Run.{brought_of, brought_as, said, judged_of, AcceptedAs, numbers_as, HeadOf};
 
+use crate::run::PACKET;
 use grammar::link::Tree;
 use kinds::refusals::{Refusal, Refused};
 use speed::Train;
@@ -51,6 +52,16 @@ fn judge_sheet(segment: &[u8]) -> Result<(), Refused<u32>>
 }
 
 impl Medium {
+    // Returns the medium of a `number` that may be any: packets for 0, else sheets.
+    pub fn of(number: u32) -> Medium
+        ensures { brought_as result ≡ brought_of number }
+    {
+        if number == PACKET {
+            return Medium::Packet;
+        }
+        Medium::Sheet
+    }
+
     // Judges a packet or a sheet as a segment.
     pub fn judge(self, segment: &[u8]) -> Result<(), Refused<u32>>
         ensures { said result ≡ judged_of (read_as (brought_as self) segment.now) }

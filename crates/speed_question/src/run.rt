@@ -4,7 +4,14 @@ ghost use Rattle.std.specs.Prelude.{◌≡◌, true, length};
 ghost use Rattle.speed_question.specs.internal.Run.{brought_as, segments_of, all_accepted, Few};
 
 use crate::medium::Medium;
+pub use crate::numbered::{head_of, judge_run, last_segment, segment, speed_in_run};
 use speed_element::Head;
+
+// `medium` of a run of packets, where it is a number.
+pub const PACKET: u32 = 0;
+
+// `medium` of a run of sheets, where it is a number.
+pub const SHEET: u32 = 1;
 
 // The most segments in a run.
 pub const MOST: u32 = 4;

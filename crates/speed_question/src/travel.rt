@@ -16,7 +16,7 @@ use speed_element::Head;
 
 impl<'a> Run<'a> {
     // Judges `segments`, of which there are 1 to 4, in order. The first refusal counts.
-    #[tactic(auto, using(crate::proofs::Runs::taken_refused, crate::proofs::Runs::taken_next, crate::proofs::Runs::judging_last))]
+    #[tactic(auto, using(crate::proofs::Runs::judging_first, crate::proofs::Runs::taken_refused, crate::proofs::Runs::judging_last))]
     pub fn judged(medium: Medium, segments: &'a [&'a [u8]]) -> Result<Run<'a>, Refused<u32>>
         requires { Few (length segments.now) }
         ensures { MatchResult result (λ r. (r.medium ≡ medium) × (r.segments.now ≡ segments.now)) (λ e. judged_run (read_as (brought_as medium)) (segments_of segments.now) ≡ refused (refusal_number e.0) e.1) }

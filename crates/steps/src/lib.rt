@@ -4,6 +4,7 @@
 #![tactic(auto)]
 
 pub mod looking;
+pub mod numbered;
 pub mod spans;
 
 ghost use Rattle.std.specs.Prelude.{◌≡◌, length, ◌<◌, take};

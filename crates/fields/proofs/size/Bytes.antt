@@ -1,5 +1,5 @@
 -- The bytes of a value in the sheet: 0 exactly where it is refused.
-use Rattle.std.proofs.Common.{◌≡◌, ℕ, zero, suc, ◌+◌, ◌*◌, ◌/◌, ◌<◌, ◌≤◌, true, false, cond, ◌&&◌, eqb, ltb, leb, List, length, get_or, sym, refl, ap, ◌∙◌, arith, le-ltb, lt-ltb, ne_eqb, eqb-true, le-leb, leb-false, leb-true}
+use Rattle.std.proofs.Common.{◌≡◌, ℕ, zero, suc, ◌+◌, ◌*◌, ◌/◌, ◌<◌, ◌≤◌, Bool, true, false, cond, ◌&&◌, eqb, ltb, leb, List, length, get_or, sym, refl, ap, ◌∙◌, arith, lit<, le-ltb, lt-ltb, ne_eqb, eqb-true, le-leb, leb-false, leb-true}
 use mathlib.Core.Bool.{and-false}
 use borrow.Author.Tests.{lt-leb}
 use mir.Val.{bool_byte}
@@ -65,6 +65,12 @@ unfolding groups_in
 speed_bytes v h = eqb-true (cond (ltb v 26) 1 2) (length (groups_in (v * 5))) (each_at 121 (λ u. eqb (cond (ltb u 26) 1 2) (length (groups_in (u * 5)))) refl v h)
 
 -- ---- the class, with no branch on Q_DIFF
+
+-- what the class adds fits
+pub both_small : (a b : Bool) → bool_byte a * bool_byte b < 2
+both_small true true = lit< tt
+both_small true false = lit< tt
+both_small false b = let e : 0 * bool_byte b ≡ 0 = omega arith in omega arith
 
 pub class_in : (q v : ℕ) → v ≤ most_class q → 1 + bool_byte (eqb q 0) * bool_byte (leb 2 v) ≡ bytes_of (value_in_packet (class q) v)
 class_in zero v h =

@@ -1,16 +1,17 @@
 -- An accepted journey and its legs, as the code judges them and passes over them. No promise names it.
-use Rattle.std.specs.Prelude.{◌≡◌, Bool, true, false, Result, Ok, Err, List, ℕ}
+use Rattle.std.specs.Prelude.{◌≡◌, Bool, true, false, Result, Ok, Err, List, ℕ, ◌+◌, ◌≤◌, length, drop}
 use Rattle.kinds.specs.declared.Item.{Item}
 use Rattle.kinds.specs.declared.refusals.Refusal.{Refusal}
 use Rattle.kinds.specs.Refusals.{refusal_number}
 use Rattle.format.specs.Format.{Format, Read, values_of, sheet_numbers}
 use Rattle.speed.specs.declared.Train.{Train}
 use Rattle.speed_question.specs.Question.{Brought}
+use Rattle.speed_question.specs.internal.Run.{ReadsAs}
 use Rattle.legs.specs.Legs.{Constraint, Leg, journey_legs}
 use Rattle.legs.specs.Travelled.{all_inside, leg_refusal}
 use Rattle.legs.specs.internal.Passing.{passed_over}
 use Rattle.leg_parts.specs.declared.LegHead.{LegHead}
-use Rattle.leg_parts.specs.internal.Reading.{leg_with, ConstraintsAt}
+use Rattle.leg_parts.specs.internal.Reading.{leg_with, LegsAt, ConstraintsAt}
 use Rattle.restricted.specs.Question.{journey_as}
 
 -- the journey s is accepted
@@ -32,6 +33,11 @@ journey_numbers b s = sheet_numbers (values_of (journey_as b s))
 -- its legs
 abbrev pub legs_in : Brought → List ℕ → List Leg
 legs_in b s = journey_legs (journey_numbers b s)
+
+-- the legs of a run of count segments stand at a place, after the journey's legs before them
+pub record Stands (b : Brought) (s : List ℕ) (count before place : ℕ) : Type 0 where
+  pub legs : LegsAt (ReadsAs b s) place (drop before (legs_in b s))
+  pub enough : before + count ≤ length (legs_in b s)
 
 -- the refusal of a leg that the code returns: 0 if there is none
 abbrev pub refusal_said : {A : Type 0} → Result A Refusal → ℕ

@@ -1,11 +1,11 @@
 -- A run as the code judges it and passes over it: its medium, the verdict without values, and the head of the last segment. No promise names it.
-use Rattle.std.specs.Prelude.{◌≡◌, Bool, true, false, cond, Result, Ok, Err, List, map, ℕ, ◌≤◌, ◌<◌, eqb}
+use Rattle.std.specs.Prelude.{◌≡◌, Bool, true, false, cond, Result, Ok, Err, List, map, ℕ, zero, suc, ◌≤◌, ◌<◌, eqb}
 use Rattle.std.proofs.Common.{Bor}
 use Rattle.kinds.specs.declared.Item.{Item}
 use Rattle.kinds.specs.declared.refusals.Refused.{Refused}
 use Rattle.kinds.specs.Refusals.{refusal_number}
 use Rattle.format.specs.Format.{Format, Read, values_of, sheet_numbers}
-use Rattle.speed.specs.Run.{last_of, last_start}
+use Rattle.speed.specs.Run.{Each, last_of, last_start}
 use Rattle.speed_element.specs.internal.Reading.{HeadRead}
 use Rattle.speed_packet.specs.internal.Asking as speed_packet
 use Rattle.speed_sheet.specs.internal.Asking as speed_sheet
@@ -90,8 +90,21 @@ HeadOf b s lsp at = HeadRead (ReadsAs b s) (numbers_as b s) lsp at
 abbrev pub Few : ℕ → Type 0
 Few count = (1 ≤ count) × (count ≤ 4)
 
+-- the segment with the number i of those lent
+abbrev pub nth : ℕ → List ℕ → List ℕ → List ℕ → List ℕ → List ℕ
+nth zero first second third fourth = first
+nth (suc zero) first second third fourth = second
+nth (suc (suc zero)) first second third fourth = third
+nth (suc (suc (suc i))) first second third fourth = fourth
+
 -- the last of the segments of a run: its start, and its head
 pub record LastRead (b : Brought) (r : List (List ℕ)) (l : LastSegment) : Type 0 where
   pub start_is : l.start ≡ last_start 0 (numbers_in b r)
   pub small : l.start < 67108864
   pub head : HeadOf b (last_of r) l.head.lsp l.head.profile
+
+-- accepted segments, the last of them, and a place x in it
+pub record RunKnown (b : Brought) (r : List (List ℕ)) (l : LastSegment) (x : ℕ) : Type 0 where
+  pub each : Each (AcceptedAs b) r
+  pub last : LastRead b r l
+  pub inside : x < l.head.lsp

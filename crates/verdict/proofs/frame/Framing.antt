@@ -39,6 +39,16 @@ module _ (n : ℕ) (s : List ℕ) where
       pub frame_length : (length s ≡ 15 + (body_bits s + 7) / 8 → ⊥) → Verdict.refused 3 0 ≡ frame_of n s
       frame_length l = rw (le-ltb (length s) 15 h, eq-eqb (packet_number s) n d, ne_eqb (length s) (15 + (body_bits s + 7) / 8) l)
 
+  -- a refusal of the frame has the place 0
+  pub frame_place : {r place : ℕ} → Verdict.refused r place ≡ frame_of n s → place ≡ 0
+  frame_place {r} {place} e =
+      by_cases (ltb (length s) 15) (λ a. let q : Verdict.refused r place ≡ Verdict.refused 1 0 = rw a at e in cc) λ a.
+      by_cases (eqb (packet_number s) n) (λ b.
+      by_cases (eqb (length s) (15 + (body_bits s + 7) / 8))
+      (λ c. let q : Verdict.refused r place ≡ Verdict.sized (120 + body_bits s) = rw (a, b, c) at e in absurd (let z : ◌≡◌ {A = ℕ} 0 1 = cc in omega arith))
+      (λ c. let q : Verdict.refused r place ≡ Verdict.refused 3 0 = rw (a, b, c) at e in cc))
+      (λ b. let q : Verdict.refused r place ≡ Verdict.refused 2 0 = rw (a, b) at e in cc)
+
   -- what is known of a packet whose frame is whole
   pub record Whole (stop : ℕ) : Type 0 where
     pub ends : stop ≡ 120 + body_bits s

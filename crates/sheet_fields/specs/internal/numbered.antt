@@ -1,0 +1,2 @@
+-- Definitions that contracts of `numbered` use; no promise names them.
+pub mod Judging
