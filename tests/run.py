@@ -7,7 +7,7 @@ import sys
 
 import documents
 import pages
-from sources import CRATES, OF_FUNCTION, ROOT, declares, edits, functions, modules, of_function, public_functions, quoted, replacements, sources
+from sources import CRATES, OF_FUNCTION, ROOT, by_traits, declares, edits, functions, modules, of_function, public_functions, quoted, replacements, sources
 
 SECONDS = 120
 SENTENCE = 300
@@ -56,6 +56,10 @@ def contracts():
                     yield f"{path.relative_to(ROOT)}:{line}: {name} has no ensures"
                 if public and 'extern "C"' in head and "requires" in head:
                     yield f"{path.relative_to(ROOT)}:{line}: {name} has a requires"
+            for line, name, head, before in by_traits(path):
+                # a trait's function has its clause there, and of std's traits the type says what it gives
+                if "ensures" not in head and "for " not in before.splitlines()[0] or re.match(r"impl.*\b(Try)?From<", before) and "_gives = " not in before:
+                    yield f"{path.relative_to(ROOT)}:{line}: {name} has no ensures"
 
 
 def headed():

@@ -52,6 +52,23 @@ def functions(path):
         yield i + 1, bool(m.group(2)), (owner if m.group(1) else "") + m.group(4), "\n".join(head)
 
 
+def by_traits(path):
+    """Each public function by a trait, that is of a public trait and of a type's impl of one: its first line's number, its name after the trait's or
+    the type's, its head up to the body or the semicolon, and what stands in the block before it. The traits of a file that are private are left out."""
+    lines = path.read_text().splitlines()
+    private = re.findall(r"^trait (\w+)", path.read_text(), re.M)
+    owner, began = "", 0
+    for i, line in enumerate(lines):
+        block = re.match(r"^(?:pub trait (\w+)|impl(?:<[^>]*>)? (\w+)(?:<.*>)? for (\w+))", line)
+        if block or line == "}":
+            is_public = block and block.group(2) not in private
+            owner, began = (block.group(1) or block.group(3)) if is_public else "", i
+        m = FUNCTION.match(line)
+        if m and owner:
+            end = next(j for j in range(i, len(lines)) if lines[j].endswith(";") or lines[j].endswith("{") and indent(lines[j]) == indent(line))
+            yield i + 1, f"{owner}::{m.group(4)}", "\n".join(lines[i:end + 1]), "\n".join(lines[began:i])
+
+
 def public_functions(crate):
     """The public functions of a crate, by their paths in it: `write::put` of `src/write.rt`, `Lows::with` of a type of `src/lib.rt`."""
     for path in sources(crate, "src", ".rt"):
@@ -60,6 +77,8 @@ def public_functions(crate):
         for _, public, name, _ in functions(path):
             if public:
                 yield module + name
+        for _, name, _, _ in by_traits(path):
+            yield module + name
 
 
 def first_sentence(path):
