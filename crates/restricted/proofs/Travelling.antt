@@ -52,7 +52,8 @@ module _ (b kind : Brought) (count : ℕ) (all : List (List ℕ)) (s : List ℕ)
     pub small : start ≤ i * 16777215
     pub done : (out : ℕ) → LegsPassed t x (numbers_in b (left i)) (legs (before + i)) low out → LegsPassed t x (numbers_in b all) (legs before) held out
 
-  module _ {first : ℕ} (h : Stands kind s count before first) where
+  -- the legs of n segments stand at first
+  module _ {n first : ℕ} (h : Stands kind s n before first) where
     along_first : Along 0 first
     along_first =
         let z : before + 0 ≡ before = omega arith in
@@ -68,16 +69,26 @@ module _ (b kind : Brought) (count : ℕ) (all : List (List ℕ)) (s : List ℕ)
           along = along_first;
           place = λ m. omega arith;
           small = omega arith;
-          done = λ out r. subst (λ (n : ℕ). LegsPassed t x (numbers_in b all) (legs n) held out) z r;
+          done = λ out r. subst (λ (m : ℕ). LegsPassed t x (numbers_in b all) (legs m) held out) z r;
         }
 
     -- the leg of a segment is on the journey
-    pub leg_on : (i : ℕ) → i < count → before + i < length (legs_in kind s)
+    pub leg_on : (i : ℕ) → i < n → before + i < length (legs_in kind s)
     leg_on i m = omega (arith, h.enough)
 
   -- the place, counted from the run's start, is not before the segment that is left
   pub lowering_before : {t : Train} {x held i start at low : ℕ} {l : LastSegment} → Lowering t x held i start at low → i < count → LastRead b all l → start ≤ l.start + x
   lowering_before g h k = omega (arith, g.place h, k.start_is)
+
+  -- where no segment is left, and i may be above their count, no leg is refused
+  pub judging_past : {i : ℕ} → legs_refusal (numbers_in b (left i)) (legs (before + i)) ≡ legs_refusal (numbers_in b all) (legs before) → length all ≤ i → 0 ≡ legs_refusal (numbers_in b all) (legs before)
+  judging_past {i} g e = ap (λ (r : List (List ℕ)). legs_refusal (numbers_in b r) (legs (before + i))) (sym (drop_all i all e)) ∙ g
+
+  -- where no segment is left, and i may be above their count, low is the lowest speed of the constraints, held among them
+  pub lowering_past : {t : Train} {x held i low : ℕ} → ((out : ℕ) → LegsPassed t x (numbers_in b (left i)) (legs (before + i)) low out → LegsPassed t x (numbers_in b all) (legs before) held out) → length all ≤ i
+      → low ≡ lowest held (held_restrictions t x (numbers_in b all) (legs before))
+  lowering_past {t} {x} {i = i} {low = low} g e =
+      legs_passed t x (g low (subst (λ (r : List (List ℕ)). LegsPassed t x (numbers_in b r) (legs (before + i)) low low) (sym (drop_all i all e)) over))
 
   module _ (few : count ≡ length all) where
     module _ (i : ℕ) (h : i < count) (on : before + i < length (legs_in kind s)) {at : ℕ} {leg : LegHead} (r : LegRead (ReadsAs kind s) at leg) where
@@ -139,8 +150,7 @@ module _ (b kind : Brought) (count : ℕ) (all : List (List ℕ)) (s : List ℕ)
               (one own (subst (λ (n : ℕ). LegsPassed t x (numbers_in b (left (i + 1))) (legs n) next out) z m))
 
     pub judging_last : {i at : ℕ} → Judging i at → count ≤ i → 0 ≡ legs_refusal (numbers_in b all) (legs before)
-    judging_last {i} g e = ap (λ (r : List (List ℕ)). legs_refusal (numbers_in b r) (legs (before + i))) (sym (drop_all i all (omega (arith, few, e)))) ∙ g.same
+    judging_last {i} g e = judging_past {i = i} g.same (omega (arith, few, e))
 
     pub lowering_last : {t : Train} {x held i start at low : ℕ} → Lowering t x held i start at low → count ≤ i → low ≡ lowest held (held_restrictions t x (numbers_in b all) (legs before))
-    lowering_last {t} {x} {i = i} {low = low} g e =
-        legs_passed t x (g.done low (subst (λ (r : List (List ℕ)). LegsPassed t x (numbers_in b r) (legs (before + i)) low low) (sym (drop_all i all (omega (arith, few, e)))) over))
+    lowering_last g e = lowering_past g.done (omega (arith, few, e))
