@@ -80,11 +80,11 @@ module _ (b kind : Brought) (count : ℕ) (all : List (List ℕ)) (s : List ℕ)
   pub lowering_before : {t : Train} {x held i start at low : ℕ} {l : LastSegment} → Lowering t x held i start at low → i < count → LastRead b all l → start ≤ l.start + x
   lowering_before g h k = omega (arith, g.place h, k.start_is)
 
-  -- where no segment is left, and i may be above their count, no leg is refused
+  -- from the count of the segments on, where none is left: no leg is refused
   pub judging_past : {i : ℕ} → legs_refusal (numbers_in b (left i)) (legs (before + i)) ≡ legs_refusal (numbers_in b all) (legs before) → length all ≤ i → 0 ≡ legs_refusal (numbers_in b all) (legs before)
   judging_past {i} g e = ap (λ (r : List (List ℕ)). legs_refusal (numbers_in b r) (legs (before + i))) (sym (drop_all i all e)) ∙ g
 
-  -- where no segment is left, and i may be above their count, low is the lowest speed of the constraints, held among them
+  -- from the count of the segments on, where none is left: low is the lowest of held and the restrictions that hold
   pub lowering_past : {t : Train} {x held i low : ℕ} → ((out : ℕ) → LegsPassed t x (numbers_in b (left i)) (legs (before + i)) low out → LegsPassed t x (numbers_in b all) (legs before) held out) → length all ≤ i
       → low ≡ lowest held (held_restrictions t x (numbers_in b all) (legs before))
   lowering_past {t} {x} {i = i} {low = low} g e =
@@ -150,7 +150,7 @@ module _ (b kind : Brought) (count : ℕ) (all : List (List ℕ)) (s : List ℕ)
               (one own (subst (λ (n : ℕ). LegsPassed t x (numbers_in b (left (i + 1))) (legs n) next out) z m))
 
     pub judging_last : {i at : ℕ} → Judging i at → count ≤ i → 0 ≡ legs_refusal (numbers_in b all) (legs before)
-    judging_last {i} g e = judging_past {i = i} g.same (omega (arith, few, e))
+    judging_last g e = judging_past g.same (omega (arith, few, e))
 
     pub lowering_last : {t : Train} {x held i start at low : ℕ} → Lowering t x held i start at low → count ≤ i → low ≡ lowest held (held_restrictions t x (numbers_in b all) (legs before))
     lowering_last g e = lowering_past g.done (omega (arith, few, e))

@@ -205,18 +205,18 @@ module _ (b : Brought) (all : List (List ℕ)) where
         there : (out : ℕ) → RunPassed t x (numbers_in b (left (i + 1))) next out → RunPassed t x (numbers_in b (left i)) held out
         there out r = rw split (one from_here r)
 
-  -- where no segment is left, and i may be above their count, the run is accepted
+  -- from the count of the segments on, where none is left: the run is accepted
   pub judging_past : {i : ℕ} → run_judged (judged_run (read_as b) (left i)) ≡ run_judged (judged_run (read_as b) all) → length all ≤ i → all_accepted b all ≡ true
   judging_past {i} g e =
       run_passed_lem (read_as b) (judged_run (read_as b) all) (ap (λ (r : List (List ℕ)). run_judged (judged_run (read_as b) r)) (sym (drop_all i all e)) ∙ g)
 
-  -- where no segment is left, and i may be above their count, held is the speed in the run
+  -- from the count of the segments on, where none is left: held is the speed in the run
   pub passing_past : {t : Train} {x i held : ℕ} → ((out : ℕ) → RunPassed t x (numbers_in b (left i)) held out → RunPassed t x (numbers_in b all) none out) → length all ≤ i
       → instead_from held 0 [] ≡ speed_in_run t x (numbers_in b all)
   passing_past {t} {x} {i} {held} g e = run_passed (g held (subst (λ (r : List (List ℕ)). RunPassed t x (numbers_in b r) held held) (sym (drop_all i all e)) over))
 
   pub judging_last : {i : ℕ} → Judging i → length all ≤ i → all_accepted b all ≡ true
-  judging_last {i} g e = judging_past {i = i} g.same e
+  judging_last g e = judging_past g.same e
 
   pub passing_last : {t : Train} {x i start held : ℕ} → Passing t x i start held → length all ≤ i → instead_from held 0 [] ≡ speed_in_run t x (numbers_in b all)
   passing_last g e = passing_past g.done e
